@@ -1,0 +1,230 @@
+-- Document 01, 'What the work covers' and 'Numbers given back': the four jobs, what each leaves in output and table, and the
+-- program's line.
+use Prim.Native.Nat.{ℕ, zero, suc, _+_, _-_, _*_, _/_, _%_}
+use mathlib.Core.Bool.{Bool, true, false, not, _&&_, _||_}
+use mathlib.Core.List.{List, [], _∷_, _++_}
+use lib.Dec.{eqb, ltb, leb}
+use lib.ListN.{length, drop, replicate}
+use Rattle.model.specs.Choice.{if_then_else_}
+use Rattle.model.specs.Limits.{mostEntries, mostBudget, mostImage, lastPhase, wordsPerUnit, programBudget}
+use Rattle.model.specs.Refusals.{Refusal, unowned, smallTable, noPhase, tooLong, codeOf}
+use Rattle.model.specs.Objects.{Stx, size}
+use Rattle.model.specs.Trees.{Tree, var, app, fun, datum, lst, stx, Trees, tnil, tcons, loadSize}
+use Rattle.model.specs.Reading.{Read, got, fault, Head, Image, readSyntax, readTreeImage, readImage}
+use Rattle.model.specs.Writing.{syntaxBytes, treeImageBytes}
+use Rattle.model.specs.Steps.{State, Out, ok, no, Step, _>>=_, _>>_, done, charge, resolveAt, identifier}
+use Rattle.model.specs.Evaluating.{evaluate}
+use Rattle.model.specs.Parsing.{parse}
+use Rattle.model.specs.Expanding.{expand, coreOnly}
+
+-- ---- how a job ends, each after so many units
+
+pub data Ending : Type 0 where
+  refused : Refusal → ℕ → Ending
+  -- resolve: the name
+  named : ℕ → ℕ → Ending
+  -- the others: the written image
+  written : List ℕ → ℕ → Ending
+
+-- ---- what comes back: each answer has code, units, name and length
+
+pub record Answer : Type 0 where
+  pub code : ℕ
+  pub units : ℕ
+  pub name : ℕ
+  pub len : ℕ
+
+unfoldable pub answerOf : Ending → Answer
+unfolding codeOf
+answerOf (refused r u) = record { code = codeOf r; units = u; name = 0; len = 0 }
+answerOf (named n u) = record { code = 0; units = u; name = n; len = 0 }
+answerOf (written b u) = record { code = 0; units = u; name = 0; len = length b }
+
+-- every refusal leaves the output untouched; success writes from its start and touches no byte after the image
+unfoldable pub outputAfter : Ending → List ℕ → List ℕ
+outputAfter (refused r u) output = output
+outputAfter (named n u) output = output
+outputAfter (written b u) output = b ++ drop (length b) output
+
+-- the first 16 times budget words are zero and the rest untouched
+unfoldable pub cleared : ℕ → List ℕ → List ℕ
+unfolding wordsPerUnit
+cleared budget table = replicate (wordsPerUnit * budget) 0 ++ drop (wordsPerUnit * budget) table
+
+-- a job's answer, and output and table after it
+pub record Result : Type 0 where
+  pub answer : Answer
+  pub output : List ℕ
+  pub table : List ℕ
+
+-- ---- code 5 comes before all else and leaves the table untouched; after all else the table is cleared
+
+unfoldable pub budgetFits : ℕ → ℕ → Bool
+unfolding mostBudget wordsPerUnit
+budgetFits budget words = leb budget mostBudget && leb (wordsPerUnit * budget) words
+
+unfoldable pub lent : ℕ → List ℕ → List ℕ → Ending → Result
+unfolding budgetFits answerOf outputAfter cleared
+lent budget table output e =
+    if budgetFits budget (length table)
+    then record { answer = answerOf e; output = outputAfter e output; table = cleared budget table }
+    else record { answer = answerOf (refused smallTable 0); output = output; table = table }
+
+-- ---- then the phase argument, then the image, its faults with no units charged
+
+unfoldable pub atPhase : ℕ → Ending → Ending
+unfolding lastPhase
+atPhase ph e = if leb ph lastPhase then e else refused noPhase 0
+
+unfoldable pub withImage : {R : Type 0} → Read (Image R) → (Image R → Ending) → Ending
+withImage (got i s) f = f i
+withImage (fault r) f = refused r 0
+
+unfoldable pub start : ℕ → {R : Type 0} → Image R → State
+start budget i = record { left = budget; names = i .head .names; scopes = i .head .scopes; binds = i .binds }
+
+-- the work's result and last state, or its refusal with the units charged before it
+unfoldable pub worked : {A : Type 0} → ℕ → Out A → (A → State → Ending) → Ending
+worked budget (ok a s) f = f a s
+worked budget (no r left) f = refused r (budget - left)
+
+-- ---- and last the result's length, for an output of `room` bytes
+
+unfoldable pub fitted : ℕ → List ℕ → ℕ → Ending
+unfolding mostImage
+fitted room b u = if leb (length b) room && leb (length b) mostImage then written b u else refused tooLong u
+
+-- the words read, the counts of names and scopes reached
+unfoldable pub reached : Head → State → Head
+reached h s = record { words = h .words; names = s .names; scopes = s .scopes }
+
+-- ---- the work of each job: the charge for loading, then its rules
+
+unfoldable pub resolveRoot : ℕ → Stx → Step ℕ
+unfolding charge size identifier resolveAt
+resolveRoot ph x = do
+  charge (size x)
+  identifier x (λ c n. resolveAt ph c n)
+
+unfoldable pub expandRoot : ℕ → Stx → Step Stx
+unfolding charge size expand mostEntries
+expandRoot ph x = do
+  charge (size x)
+  expand mostEntries ph coreOnly 0 x
+
+unfoldable pub parseRoot : Stx → Step Tree
+unfolding charge size parse mostEntries
+parseRoot x = do
+  charge (size x)
+  parse mostEntries 0 x
+
+unfoldable pub evaluateRoot : Tree → Step Tree
+unfolding charge loadSize evaluate mostEntries
+evaluateRoot t = do
+  charge (loadSize t)
+  evaluate mostEntries t
+
+-- ---- code 3: every variable, outside syntax values, has an enclosing function of its name; `around` has the names of those
+
+unfoldable pub isAmong : ℕ → List ℕ → Bool
+isAmong n [] = false
+isAmong n (m ∷ l) = eqb n m || isAmong n l
+
+unfoldable mutual
+  unfolding isAmong
+
+  pub closed : List ℕ → Tree → Bool
+  closed around (var n) = isAmong n around
+  closed around (app h l) = closed around h && closedAll around l
+  closed around (fun n b) = closed (n ∷ around) b
+  closed around (datum a) = true
+  closed around (lst l) = closedAll around l
+  closed around (stx s) = true
+
+  pub closedAll : List ℕ → Trees → Bool
+  closedAll around tnil = true
+  closedAll around (tcons t l) = closed around t && closedAll around l
+
+-- ---- how each job ends, of the image's bytes, the phase, the budget and the output's length
+
+unfoldable pub resolveEnding : List ℕ → ℕ → ℕ → Ending
+unfolding atPhase withImage readImage readSyntax worked start resolveRoot
+resolveEnding image ph budget =
+    atPhase ph (withImage (readImage readSyntax image) (λ i.
+    worked budget (resolveRoot ph (i .root) (start budget i)) (λ n s. named n (budget - s .left))))
+
+unfoldable pub expandEnding : List ℕ → ℕ → ℕ → ℕ → Ending
+unfolding atPhase withImage readImage readSyntax worked start expandRoot fitted syntaxBytes reached
+expandEnding image ph budget room =
+    atPhase ph (withImage (readImage readSyntax image) (λ i.
+    worked budget (expandRoot ph (i .root) (start budget i)) (λ r s.
+    fitted room (syntaxBytes (reached (i .head) s) (s .binds) r) (budget - s .left))))
+
+unfoldable pub parseEnding : List ℕ → ℕ → ℕ → Ending
+unfolding withImage readImage readSyntax worked start parseRoot fitted treeImageBytes reached
+parseEnding image budget room =
+    withImage (readImage readSyntax image) (λ i.
+    worked budget (parseRoot (i .root) (start budget i)) (λ r s.
+    fitted room (treeImageBytes (reached (i .head) s) r) (budget - s .left)))
+
+unfoldable pub evaluateEnding : List ℕ → ℕ → ℕ → Ending
+unfolding withImage readImage readTreeImage worked start evaluateRoot fitted treeImageBytes reached closed
+evaluateEnding image budget room =
+    withImage (readImage readTreeImage image) (λ i.
+    if closed [] (i .root)
+    then worked budget (evaluateRoot (i .root) (start budget i)) (λ r s.
+    fitted room (treeImageBytes (reached (i .head) s) r) (budget - s .left))
+    else refused unowned 0)
+
+-- ---- the four jobs, of what is lent: image, phase, budget, the table's contents and the output's contents
+
+-- resolve writes nothing
+unfoldable pub resolveJob : List ℕ → ℕ → ℕ → List ℕ → Result
+unfolding lent resolveEnding
+resolveJob image ph budget table = lent budget table [] (resolveEnding image ph budget)
+
+unfoldable pub expandJob : List ℕ → ℕ → ℕ → List ℕ → List ℕ → Result
+unfolding lent expandEnding
+expandJob image ph budget table output = lent budget table output (expandEnding image ph budget (length output))
+
+unfoldable pub parseJob : List ℕ → ℕ → List ℕ → List ℕ → Result
+unfolding lent parseEnding
+parseJob image budget table output = lent budget table output (parseEnding image budget (length output))
+
+unfoldable pub evaluateJob : List ℕ → ℕ → List ℕ → List ℕ → Result
+unfolding lent evaluateEnding
+evaluateJob image budget table output = lent budget table output (evaluateEnding image budget (length output))
+
+-- ---- the program: expands at phase 0, parses, and prints one line
+
+pub record Line : Type 0 where
+  pub code : ℕ
+  pub units : ℕ
+
+unfoldable pub lineOf : ℕ → Ending → Line
+unfolding codeOf
+lineOf before (refused r u) = record { code = codeOf r; units = before + u }
+lineOf before (named n u) = record { code = 0; units = before + u }
+lineOf before (written b u) = record { code = 0; units = before + u }
+
+-- if expanding is refused, the line shows its code and units only
+unfoldable pub thenParsed : Ending → Line
+unfolding lineOf parseEnding programBudget mostImage
+thenParsed (refused r u) = lineOf 0 (refused r u)
+thenParsed (named n u) = lineOf 0 (named n u)
+thenParsed (written b u) = lineOf u (parseEnding b programBudget mostImage)
+
+unfoldable pub program : List ℕ → Line
+unfolding thenParsed expandEnding programBudget mostImage
+program image = thenParsed (expandEnding image 0 programBudget mostImage)
+
+-- the digits of n, at most k
+unfoldable pub digits : ℕ → ℕ → List ℕ → List ℕ
+digits zero n after = after
+digits (suc k) n after = if ltb n 10 then (48 + n) ∷ after else digits k (n / 10) ((48 + n % 10) ∷ after)
+
+-- the word `code`, the code, the word `units`, the units, single spaces between
+unfoldable pub lineBytes : Line → List ℕ
+unfolding digits
+lineBytes l =
+    99 ∷ 111 ∷ 100 ∷ 101 ∷ 32 ∷ digits 10 (l .code) (32 ∷ 117 ∷ 110 ∷ 105 ∷ 116 ∷ 115 ∷ 32 ∷ digits 10 (l .units) (10 ∷ []))

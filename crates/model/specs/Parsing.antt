@@ -1,0 +1,77 @@
+-- Document 01, 'Parsing and evaluating': parsing an expanded object.
+use Prim.Native.Nat.{ℕ, zero, suc}
+use mathlib.Core.Option.{Option, none, some}
+use Rattle.model.specs.Refusals.{noRule, tooManyEntries}
+use Rattle.model.specs.Objects.{Atom, symbol, number, point, prim, rung, Sets, Stx, atom, list, Stxs, nil, cons, size}
+use Rattle.model.specs.Trees.{Tree, var, app, fun, datum, lst, stx, Trees, tnil, tcons, strip}
+use Rattle.model.specs.Steps.{Step, _>>=_, _>>_, done, refuse, unless, charge, resolveAt, parts1, parts2, identifier}
+
+-- the core forms are names 0 to 3; any other name heads none
+pub data Form : Type 0 where
+  lambda letSyntax quote syntax : Form
+
+unfoldable pub formOf : ℕ → Option Form
+formOf zero = some lambda
+formOf (suc zero) = some letSyntax
+formOf (suc (suc zero)) = some quote
+formOf (suc (suc (suc zero))) = some syntax
+formOf (suc (suc (suc (suc n)))) = none
+
+-- the form that head h makes
+unfoldable pub headForm : ℕ → Stx → Step (Option Form)
+unfolding resolveAt formOf
+headForm ph (atom c (symbol x)) = do
+  n ← resolveAt ph c x
+  done (formOf n)
+headForm ph (atom c (number x)) = done none
+headForm ph (atom c (point x)) = done none
+headForm ph (atom c (prim x)) = done none
+headForm ph (atom c (rung x)) = done none
+headForm ph (list c l) = done none
+
+unfoldable pub parseAll : (Stx → Step Tree) → Stxs → Step Trees
+parseAll self nil = done tnil
+parseAll self (cons s l) = do
+  t ← self s
+  r ← parseAll self l
+  done (tcons t r)
+
+-- the list of head h and tail l, whose head makes the form
+unfoldable pub parseForm : (Stx → Step Tree) → ℕ → Option Form → Stx → Stxs → Step Tree
+unfolding parts1 parts2 identifier resolveAt charge size strip parseAll
+parseForm self ph (some lambda) h l = parts2 l (λ i body. identifier i (λ c x. do
+  n ← resolveAt ph c x
+  b ← self body
+  done (fun n b)))
+parseForm self ph (some letSyntax) h l = refuse noRule
+parseForm self ph (some quote) h l = parts1 l (λ s. do
+  charge (size s)
+  done (strip s))
+parseForm self ph (some syntax) h l = parts1 l (λ s. done (stx s))
+parseForm self ph none h l = do
+  f ← self h
+  r ← parseAll self l
+  done (app f r)
+
+-- one entry. A tree is never nested deeper than the object that it is parsed from, so nothing is tested for 17.
+unfoldable pub parseEntry : (Stx → Step Tree) → ℕ → Stx → Step Tree
+unfolding resolveAt headForm parseForm
+parseEntry self ph (atom c (symbol x)) = do
+  n ← resolveAt ph c x
+  done (var n)
+parseEntry self ph (atom c (number x)) = done (datum (number x))
+parseEntry self ph (atom c (point x)) = done (datum (point x))
+parseEntry self ph (atom c (prim x)) = done (datum (prim x))
+parseEntry self ph (atom c (rung x)) = done (datum (rung x))
+parseEntry self ph (list c nil) = refuse noRule
+parseEntry self ph (list c (cons h l)) = do
+  f ← headForm ph h
+  parseForm self ph f h l
+
+-- parse at a phase with d entries to spare
+unfoldable pub parse : ℕ → ℕ → Stx → Step Tree
+unfolding charge parseEntry
+parse zero ph s = refuse tooManyEntries
+parse (suc d) ph s = do
+  charge 1
+  parseEntry (λ x. parse d ph x) ph s

@@ -1,0 +1,79 @@
+-- Document 01, 'Things and their numbers' and 'The image': scope sets and their order.
+-- A set is a number: scope k, counted from 1, is a member where the binary digit of weight 2 ^ (k - 1) is 1. The empty set is 0.
+use Prim.Native.Nat.{ℕ, zero, suc, _/_, _%_, _^_}
+use mathlib.Core.Bool.{Bool, true, false}
+use mathlib.Core.List.{List, [], _∷_}
+use lib.Dec.{eqb, ltb}
+use lib.Bits.{bitAnd, bitOr, bitXor}
+use Rattle.model.specs.Limits.{mostScopes}
+
+abbrev pub Scopes : Type 0
+Scopes = ℕ
+
+-- the digit of weight 2 ^ k
+unfoldable pub digit : ℕ → Scopes → Bool
+digit zero m = eqb (m % 2) 1
+digit (suc k) m = digit k (m / 2)
+
+-- scope k is a member
+unfoldable pub has : ℕ → Scopes → Bool
+unfolding digit
+has zero m = false
+has (suc k) m = digit k m
+
+-- the set with scope k alone
+unfoldable pub only : ℕ → Scopes
+only zero = 0
+only (suc k) = 2 ^ k
+
+unfoldable pub add : ℕ → Scopes → Scopes
+unfolding only
+add k m = bitOr (only k) m
+
+-- taken out where it is there, else put in
+unfoldable pub flip : ℕ → Scopes → Scopes
+unfolding only
+flip k m = bitXor (only k) m
+
+-- m without the members of p
+unfoldable pub prune : Scopes → Scopes → Scopes
+prune p m = bitXor m (bitAnd p m)
+
+-- every member of a is one of b
+unfoldable pub within : Scopes → Scopes → Bool
+within a b = eqb (bitAnd a b) a
+
+-- ---- a set as the ascending list of its members
+
+unfoldable pub keep : Bool → ℕ → List ℕ → List ℕ
+keep true n l = n ∷ l
+keep false n l = l
+
+-- the members among the c scopes from n on; m is the set divided by 2 ^ (n - 1)
+unfoldable pub membersFrom : ℕ → ℕ → Scopes → List ℕ
+unfolding keep
+membersFrom zero n m = []
+membersFrom (suc c) n m = keep (eqb (m % 2) 1) n (membersFrom c (suc n) (m / 2))
+
+unfoldable pub members : Scopes → List ℕ
+unfolding membersFrom mostScopes
+members m = membersFrom mostScopes 1 m
+
+-- ---- the order of sets: that of these lists, a proper prefix first
+
+-- less in what is compared first, or equal there and less in the rest
+unfoldable pub lessThen : Bool → Bool → Bool → Bool
+lessThen true e r = true
+lessThen false true r = r
+lessThen false false r = false
+
+unfoldable pub listBefore : List ℕ → List ℕ → Bool
+unfolding lessThen
+listBefore [] [] = false
+listBefore [] (y ∷ ys) = true
+listBefore (x ∷ xs) [] = false
+listBefore (x ∷ xs) (y ∷ ys) = lessThen (ltb x y) (eqb x y) (listBefore xs ys)
+
+unfoldable pub setBefore : Scopes → Scopes → Bool
+unfolding listBefore members
+setBefore a b = listBefore (members a) (members b)

@@ -1,0 +1,159 @@
+-- Document 01, 'Expanding', its first paragraph, for expand, parse and evaluate alike: a job's state, what is charged, tested and
+-- made, and fresh names and scopes.
+use Prim.Native.Nat.{ℕ, zero, suc, _+_, _-_}
+use mathlib.Core.Bool.{Bool, true, false}
+use mathlib.Core.List.{List, [], _∷_}
+use lib.Dec.{eqb, ltb, leb}
+use lib.ListN.{length}
+use Rattle.model.specs.Choice.{if_then_else_}
+use Rattle.model.specs.Limits.{mostNames, mostScopes, mostBindings, mostNesting}
+use Rattle.model.specs.Refusals.{Refusal, ambiguous, noRule, noNameLeft, noScopeLeft, noBindingLeft, boundAlready, tooDeep, overBudget}
+use Rattle.model.specs.Scopes.{Scopes, add, flip, prune}
+use Rattle.model.specs.Objects.{Sets, setAt, changeAt, Atom, symbol, Stx, atom, list, Stxs, nil, cons, size, nesting, addScope, flipScope, pruneScopes}
+use Rattle.model.specs.Trees.{Tree, tnesting}
+use Rattle.model.specs.Resolving.{Bind, bound, insert, Found, means, several, resolve}
+
+-- units not yet charged; names and scopes reached: the next name is `names`, the next scope is `scopes + 1`; the bindings,
+-- ascending
+pub record State : Type 0 where
+  pub left : ℕ
+  pub names : ℕ
+  pub scopes : ℕ
+  pub binds : List Bind
+
+-- a value and the new state, or a refusal and the units not charged
+pub data Out (A : Type 0) : Type 0 where
+  ok : A → State → Out A
+  no : Refusal → ℕ → Out A
+
+abbrev pub Step : Type 0 → Type 0
+Step A = State → Out A
+
+abbrev pub after : {A B : Type 0} → Out A → (A → Step B) → Out B
+after (ok a s) f = f a s
+after (no c u) f = no c u
+
+infixl 10 _>>=_
+infixl 10 _>>_
+abbrev pub _>>=_ : {A B : Type 0} → Step A → (A → Step B) → Step B
+_>>=_ m f = λ s. after (m s) f
+
+abbrev pub _>>_ : {A B : Type 0} → Step A → Step B → Step B
+_>>_ m n = λ s. after (m s) (λ a. n)
+
+abbrev pub done : {A : Type 0} → A → Step A
+done a = λ s. ok a s
+
+abbrev pub refuse : {A : Type 0} → Refusal → Step A
+refuse c = λ s. no c (s .left)
+
+-- refusal c unless the test holds
+abbrev pub unless : Refusal → Bool → Step (Unit {0})
+unless c true = done tt
+unless c false = refuse c
+
+-- ---- units
+
+unfoldable pub charge : ℕ → Step (Unit {0})
+charge n = λ s.
+    if leb n (s .left)
+    then ok tt (record { left = s .left - n; names = s .names; scopes = s .scopes; binds = s .binds })
+    else no overBudget (s .left)
+
+-- ---- what is made is tested
+
+unfoldable pub made : Stx → Step Stx
+unfolding nesting mostNesting
+made x = do
+  unless tooDeep (leb (nesting x) mostNesting)
+  done x
+
+unfoldable pub madeTree : Tree → Step Tree
+unfolding tnesting mostNesting
+madeTree t = do
+  unless tooDeep (leb (tnesting t) mostNesting)
+  done t
+
+-- ---- scopes of a piece at a phase. A change of sets changes no nesting, so it needs no test.
+
+unfoldable pub addTo : ℕ → ℕ → Stx → Step Stx
+unfolding charge size addScope
+addTo k ph x = do
+  charge (size x)
+  done (addScope k ph x)
+
+unfoldable pub flipIn : ℕ → ℕ → Stx → Step Stx
+unfolding charge size flipScope
+flipIn k ph x = do
+  charge (size x)
+  done (flipScope k ph x)
+
+unfoldable pub pruneFrom : Scopes → ℕ → Stx → Step Stx
+unfolding charge size pruneScopes
+pruneFrom p ph x = do
+  charge (size x)
+  done (pruneScopes p ph x)
+
+-- ---- the next name and the next scope
+
+unfoldable pub freshName : Step ℕ
+unfolding mostNames
+freshName = λ s.
+    if ltb (s .names) mostNames
+    then ok (s .names) (record { left = s .left; names = s .names + 1; scopes = s .scopes; binds = s .binds })
+    else no noNameLeft (s .left)
+
+unfoldable pub freshScope : Step ℕ
+unfolding mostScopes
+freshScope = λ s.
+    if ltb (s .scopes) mostScopes
+    then ok (s .scopes + 1) (record { left = s .left; names = s .names; scopes = s .scopes + 1; binds = s .binds })
+    else no noScopeLeft (s .left)
+
+-- ---- bindings
+
+unfoldable pub bind : Bind → Step (Unit {0})
+unfolding mostBindings bound insert
+bind b = λ s.
+    if ltb (length (s .binds)) mostBindings
+    then (if bound b (s .binds)
+    then no boundAlready (s .left)
+    else ok tt (record { left = s .left; names = s .names; scopes = s .scopes; binds = insert b (s .binds) }))
+    else no noBindingLeft (s .left)
+
+unfoldable pub nameOf : Found → Step ℕ
+nameOf (means n) = done n
+nameOf several = refuse ambiguous
+
+-- the name of the identifier with symbol x and sets c
+unfoldable pub resolveAt : ℕ → Sets → ℕ → Step ℕ
+unfolding nameOf resolve setAt
+resolveAt ph c x = λ s. nameOf (resolve x (setAt ph c) (s .binds)) s
+
+-- ---- shapes: refusal 8 unless the list has exactly so many parts, or the object is an identifier
+
+unfoldable pub parts1 : {A : Type 0} → Stxs → (Stx → Step A) → Step A
+parts1 nil f = refuse noRule
+parts1 (cons a nil) f = f a
+parts1 (cons a (cons b l)) f = refuse noRule
+
+unfoldable pub parts2 : {A : Type 0} → Stxs → (Stx → Stx → Step A) → Step A
+parts2 nil f = refuse noRule
+parts2 (cons a nil) f = refuse noRule
+parts2 (cons a (cons b nil)) f = f a b
+parts2 (cons a (cons b (cons c l))) f = refuse noRule
+
+unfoldable pub parts3 : {A : Type 0} → Stxs → (Stx → Stx → Stx → Step A) → Step A
+parts3 nil f = refuse noRule
+parts3 (cons a nil) f = refuse noRule
+parts3 (cons a (cons b nil)) f = refuse noRule
+parts3 (cons a (cons b (cons c nil))) f = f a b c
+parts3 (cons a (cons b (cons c (cons d l)))) f = refuse noRule
+
+unfoldable pub identifier : {A : Type 0} → Stx → (Sets → ℕ → Step A) → Step A
+identifier (atom c (symbol x)) f = f c x
+identifier (atom c (Atom.number x)) f = refuse noRule
+identifier (atom c (Atom.point x)) f = refuse noRule
+identifier (atom c (Atom.prim x)) f = refuse noRule
+identifier (atom c (Atom.rung x)) f = refuse noRule
+identifier (list c l) f = refuse noRule

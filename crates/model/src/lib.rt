@@ -1,0 +1,1 @@
+// This crate is its definitions: document 01 as functions that compute, in specs/.

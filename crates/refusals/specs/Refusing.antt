@@ -1,0 +1,26 @@
+-- The code's refusals as document 01's.
+use Rattle.model.specs.Refusals as m
+use Rattle.refusals.specs.declared.Refusal.{Refusal}
+use Rattle.refusals.specs.declared.Refusal.the-variants.{Layout, OverLimit, Unowned, WrongKind, SmallTable, Ambiguous, NoMeaning, NoRule, NoSyntax, NotApplicable, WrongArgument, NoPhase, NoNameLeft, NoScopeLeft, NoBindingLeft, BoundAlready, TooDeep, TooManyEntries, OverBudget, TooLong}
+
+abbrev pub refusalOf : Refusal → m.Refusal
+refusalOf Layout = m.layout
+refusalOf OverLimit = m.overLimit
+refusalOf Unowned = m.unowned
+refusalOf WrongKind = m.wrongKind
+refusalOf SmallTable = m.smallTable
+refusalOf Ambiguous = m.ambiguous
+refusalOf NoMeaning = m.noMeaning
+refusalOf NoRule = m.noRule
+refusalOf NoSyntax = m.noSyntax
+refusalOf NotApplicable = m.notApplicable
+refusalOf WrongArgument = m.wrongArgument
+refusalOf NoPhase = m.noPhase
+refusalOf NoNameLeft = m.noNameLeft
+refusalOf NoScopeLeft = m.noScopeLeft
+refusalOf NoBindingLeft = m.noBindingLeft
+refusalOf BoundAlready = m.boundAlready
+refusalOf TooDeep = m.tooDeep
+refusalOf TooManyEntries = m.tooManyEntries
+refusalOf OverBudget = m.overBudget
+refusalOf TooLong = m.tooLong
