@@ -1,0 +1,51 @@
+/* The limits and codes of document 01, each with its number. */
+#ifndef LIMITS_H
+#define LIMITS_H
+
+enum {
+    MOST_SCOPES = 64,
+    MOST_NAMES = 512, /* core names and words counted */
+    MOST_BINDINGS = 128,
+    MOST_NESTING = 64,
+    MOST_ENTRIES = 128,
+    MOST_BUDGET = 4096,
+    LONGEST_WORD = 32,
+    LONGEST_IMAGE = 65536,
+    LARGEST_POINT = 1023,
+    LARGEST_PRIMITIVE = 6,
+    LARGEST_RUNG_WORD = 15,
+    LAST_PHASE = 2,
+    PHASES = 3,
+    TABLE_WORDS_PER_UNIT = 16,
+    /* Sizes are kept up to here: a larger charge is refused whatever it is. */
+    SIZE_CAP = MOST_BUDGET + 1
+};
+
+/* The names of the four core forms. Words are numbered from CORE_NAMES. */
+enum { LAMBDA = 0, LET_SYNTAX = 1, QUOTE = 2, SYNTAX = 3, CORE_NAMES = 4 };
+
+typedef enum {
+    SUCCESS = 0,
+    BAD_LAYOUT = 1,
+    OVER_LIMIT = 2,
+    FREE_VARIABLE = 3,
+    WRONG_KIND = 4,
+    BAD_BUDGET = 5,
+    AMBIGUOUS = 6,
+    NO_MEANING = 7,
+    NO_RULE = 8,
+    NO_SYNTAX_OBJECT = 9,
+    NOT_APPLICABLE = 10,
+    WRONG_ARGUMENT = 11,
+    PHASE_OVER = 12,
+    NO_NAME_ROOM = 13,
+    NO_SCOPE_ROOM = 14,
+    NO_BINDING_ROOM = 15,
+    BOUND_ALREADY = 16,
+    TOO_NESTED = 17,
+    TOO_MANY_ENTRIES = 18,
+    CHARGE_TOO_LARGE = 19,
+    TOO_LONG = 20
+} Code;
+
+#endif

@@ -1,0 +1,86 @@
+#include "stream.h"
+
+/* Numbers of the stream need not be in the shortest form, but they have at
+   most five bytes and are at most 4,294,967,295. */
+static Met read_stream_number(FILE *stream, uint32_t *number)
+{
+    uint32_t value = 0;
+    for (int group = 0; group < 5; group++) {
+        int byte = getc(stream);
+        if (byte == EOF)
+            return group == 0 ? THE_END : CUT;
+        if (group == 4 && byte > 15)
+            return CUT;
+        value |= (uint32_t)(byte & 127) << (7 * group);
+        if (byte < 128) {
+            *number = value;
+            return A_CALL;
+        }
+    }
+    return CUT;
+}
+
+Met read_call(FILE *stream, Call *call, uint8_t *image)
+{
+    uint32_t job, length;
+    Met met = read_stream_number(stream, &job);
+    if (met != A_CALL)
+        return met;
+    if (job > JOB_EVALUATE)
+        return CUT;
+    call->job = (Job)job;
+    if (read_stream_number(stream, &call->phase) != A_CALL ||
+        read_stream_number(stream, &call->budget) != A_CALL ||
+        read_stream_number(stream, &call->table_words) != A_CALL ||
+        call->table_words > LARGEST_STREAM_SIZE ||
+        read_stream_number(stream, &call->output_length) != A_CALL ||
+        call->output_length > LARGEST_STREAM_SIZE ||
+        read_stream_number(stream, &length) != A_CALL || length > LARGEST_STREAM_SIZE)
+        return CUT;
+    if (fread(image, 1, length, stream) != length)
+        return CUT;
+    call->image = image;
+    call->image_length = length;
+    return A_CALL;
+}
+
+static void write_stream_number(FILE *stream, uint32_t number)
+{
+    while (number > 127) {
+        putc((int)(128 | (number & 127)), stream);
+        number >>= 7;
+    }
+    putc((int)number, stream);
+}
+
+void write_call(FILE *stream, const Call *call)
+{
+    write_stream_number(stream, call->job);
+    write_stream_number(stream, call->phase);
+    write_stream_number(stream, call->budget);
+    write_stream_number(stream, call->table_words);
+    write_stream_number(stream, call->output_length);
+    write_stream_number(stream, (uint32_t)call->image_length);
+    fwrite(call->image, 1, call->image_length, stream);
+}
+
+/* What a right implementation does to the table: nothing after code 5, and
+   nothing to see with a budget of 0; else its first words are cleared. */
+static const char *table_column(const Call *call, const Answer *answer)
+{
+    return answer->code == BAD_BUDGET || call->budget == 0 ? "kept" : "clear";
+}
+
+void write_answer_line(FILE *stream, const Call *call, const Answer *answer)
+{
+    static const char digits[] = "0123456789abcdef";
+    fprintf(stream, "%u %u %u %u %s ", (unsigned)answer->code, (unsigned)answer->units,
+            (unsigned)answer->name, (unsigned)answer->length, table_column(call, answer));
+    if (answer->length == 0)
+        putc('-', stream);
+    for (uint32_t i = 0; i < answer->length; i++) {
+        putc(digits[answer->output[i] >> 4], stream);
+        putc(digits[answer->output[i] & 15], stream);
+    }
+    putc('\n', stream);
+}
