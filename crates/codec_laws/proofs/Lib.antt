@@ -1,0 +1,4 @@
+pub mod NumberTrip
+pub mod SetTrip
+pub mod ImageTrip
+pub mod ImageBack
