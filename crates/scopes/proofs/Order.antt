@@ -1,0 +1,150 @@
+-- The order of sets, read off two sets from their low digits up.
+use mathlib.Core.Path.{_≡_, refl, sym, ap, ap₂, _∙_, subst}
+use mathlib.Core.Bool.{Bool, true, false, not}
+use mathlib.Core.List.{List, [], _∷_}
+use Prim.Native.Nat.{ℕ, zero, suc, _+_, _*_, _/_, _%_, _^_, _≤_, _<_}
+use native.Mathlib.Nat.{pow-suc, mod-lt}
+use native.Mathlib.Omega.{arith}
+use lib.Dec.{eqb, ltb, lit<}
+use borrow.Author.Tests.{eqb-true, eqb-false, eq-eqb, ne-eqb, lt-ltb, le-ltb}
+use Rattle.model.specs.Limits.{mostScopes}
+use Rattle.model.specs.Scopes.{keep, membersFrom, members, lessThen, listBefore, setBefore}
+
+digit-one : (m : ℕ) → eqb (m % 2) 1 ≡ false → m % 2 ≡ 0
+digit-one m e = let h : m % 2 ≡ 1 → ⊥ = eqb-false (m % 2) 1 e in bit (m % 2) (mod-lt m (lit< tt)) h
+  where
+    bit : (x : ℕ) → x < 2 → (x ≡ 1 → ⊥) → x ≡ 0
+    bit zero s h = refl
+    bit (suc zero) s h = absurd (h refl)
+    bit (suc (suc x)) s h = omega arith
+
+list-self : (l : List ℕ) → listBefore l l ≡ false
+unfolding listBefore lessThen
+list-self [] = refl
+list-self (x ∷ l) = rw (le-ltb x x (omega arith), eq-eqb x x refl) (list-self l)
+
+half-less : (c m : ℕ) → m < 2 ^ suc c → m / 2 < 2 ^ c
+half-less c m s = let e : 2 ^ suc c ≡ 2 ^ c * 2 = pow-suc 2 c in omega arith
+
+-- ---- the members from n on
+
+no-members : (c n : ℕ) → membersFrom c n 0 ≡ []
+unfolding membersFrom keep
+no-members zero n = refl
+no-members (suc c) n = no-members c (suc n)
+
+-- the first of a list that is not empty is n or larger
+record First (n : ℕ) (l : List ℕ) : Type 0 where
+  first : ℕ
+  rest : List ℕ
+  is : l ≡ first ∷ rest
+  from : n ≤ first
+
+first-member : (c n m : ℕ) → 0 < m → m < 2 ^ c → First n (membersFrom c n m)
+unfolding membersFrom keep
+first-member zero n m h s = absurd (let e : 2 ^ 0 ≡ 1 = refl in omega (arith, e))
+first-member (suc c) n m h s = go (eqb (m % 2) 1) refl (λ p. first-member c (suc n) (m / 2) p (half-less c m s))
+  where
+    further : First (suc n) (membersFrom c (suc n) (m / 2)) → First n (membersFrom c (suc n) (m / 2))
+    further f = record { first = f .first; rest = f .rest; is = f .is; from = omega (arith, f .from) }
+
+    go : (t : Bool) → eqb (m % 2) 1 ≡ t → (0 < m / 2 → First (suc n) (membersFrom c (suc n) (m / 2)))
+        → First n (keep t n (membersFrom c (suc n) (m / 2)))
+    go true e below = record { first = n; rest = membersFrom c (suc n) (m / 2); is = refl; from = omega arith }
+    go false e below = further (below (let z : m % 2 ≡ 0 = digit-one m e in omega arith))
+
+-- ---- two sets
+
+abbrev beforeFrom : ℕ → ℕ → ℕ → ℕ → Bool
+beforeFrom c n a b = listBefore (membersFrom c n a) (membersFrom c n b)
+
+both-keep : (t : Bool) (n : ℕ) (k l : List ℕ) → listBefore (keep t n k) (keep t n l) ≡ listBefore k l
+unfolding keep listBefore lessThen
+both-keep true n k l = rw (le-ltb n n (omega arith), eq-eqb n n refl)
+both-keep false n k l = refl
+
+alike : (c n a b : ℕ) → a % 2 ≡ b % 2 → beforeFrom (suc c) n a b ≡ beforeFrom c (suc n) (a / 2) (b / 2)
+unfolding membersFrom
+alike c n a b e =
+    let k : List ℕ = membersFrom c (suc n) (a / 2) in
+    let l : List ℕ = membersFrom c (suc n) (b / 2) in
+    ap (λ (d : ℕ). listBefore (keep (eqb d 1) n k) (keep (eqb (b % 2) 1) n l)) e ∙ both-keep (eqb (b % 2) 1) n k l
+
+-- n is in a alone: it comes before what b still has
+ahead : (c n a b : ℕ) → a % 2 ≡ 1 → b % 2 ≡ 0 → b < 2 ^ suc c → 0 < b → beforeFrom (suc c) n a b ≡ true
+unfolding membersFrom keep listBefore lessThen
+ahead c n a b p q s h =
+    let f : First (suc n) (membersFrom c (suc n) (b / 2)) = first-member c (suc n) (b / 2) (omega arith) (half-less c b s) in
+    rw (p, q, f .is, lt-ltb n (f .first) (omega (arith, f .from)))
+
+longer : (c n a : ℕ) → a % 2 ≡ 1 → beforeFrom (suc c) n a 0 ≡ false
+unfolding membersFrom keep listBefore
+longer c n a p = rw (p, no-members c (suc n))
+
+behind : (c n a b : ℕ) → a % 2 ≡ 0 → b % 2 ≡ 1 → a < 2 ^ suc c → 0 < a → beforeFrom (suc c) n a b ≡ false
+unfolding membersFrom keep listBefore lessThen
+behind c n a b p q s h =
+    let f : First (suc n) (membersFrom c (suc n) (a / 2)) = first-member c (suc n) (a / 2) (omega arith) (half-less c a s) in
+    rw (p, q, f .is, le-ltb (f .first) n (omega (arith, f .from)), ne-eqb (f .first) n (λ e. omega (arith, f .from)))
+
+prefix : (c n b : ℕ) → b % 2 ≡ 1 → beforeFrom (suc c) n 0 b ≡ true
+unfolding membersFrom keep listBefore
+prefix c n b q = rw (q, no-members c (suc n))
+
+-- ---- what a walk over the low digits knows: x and y are left of a and b, and decide
+
+pub record Alike (a b x y : ℕ) : Type 0 where
+  pub count : ℕ
+  pub from : ℕ
+  pub left : x < 2 ^ count
+  pub right : y < 2 ^ count
+  pub decides : listBefore (membersFrom count from x) (membersFrom count from y) ≡ setBefore a b
+
+pub start : (a b : ℕ) → a < 2 ^ 64 → b < 2 ^ 64 → Alike a b a b
+unfolding setBefore members mostScopes
+start a b h k = record { count = 64; from = 1; left = h; right = k; decides = refl }
+
+-- a law of x and y that differ, so that there is a digit to look at
+differing : {a b x y : ℕ} (P : Bool → Type 0) → Alike a b x y → (x ≡ y → ⊥)
+    → ((c n : ℕ) → x < 2 ^ suc c → y < 2 ^ suc c → P (beforeFrom (suc c) n x y)) → P (setBefore a b)
+differing {a} {b} {x} {y} P w d f = subst P (w .decides) (go (w .count) (w .left) (w .right))
+  where
+    go : (c : ℕ) → x < 2 ^ c → y < 2 ^ c → P (beforeFrom c (w .from) x y)
+    go zero h k = absurd (let e : 2 ^ 0 ≡ 1 = refl in d (omega (arith, e)))
+    go (suc c) h k = f c (w .from) h k
+
+pub onward : {a b x y : ℕ} → Alike a b x y → (x ≡ y → ⊥) → x % 2 ≡ y % 2 → Alike a b (x / 2) (y / 2)
+onward {a} {b} {x} {y} w d e = go (w .count) (w .left) (w .right) (w .decides)
+  where
+    go : (c : ℕ) → x < 2 ^ c → y < 2 ^ c → beforeFrom c (w .from) x y ≡ setBefore a b → Alike a b (x / 2) (y / 2)
+    go zero h k q = absurd (let z : 2 ^ 0 ≡ 1 = refl in d (omega (arith, z)))
+    go (suc c) h k q = record {
+      count = c;
+      from = suc (w .from);
+      left = half-less c x h;
+      right = half-less c y k;
+      decides = sym (alike c (w .from) x y e) ∙ q;
+    }
+
+pub settled : {a b x y : ℕ} → Alike a b x y → x ≡ y → setBefore a b ≡ false
+settled {y = y} w e =
+    sym (w .decides) ∙ ap (λ (z : ℕ). listBefore (membersFrom (w .count) (w .from) z) (membersFrom (w .count) (w .from) y)) e
+    ∙ list-self (membersFrom (w .count) (w .from) y)
+
+-- the lowest digit in which they differ is x's: x is first unless y has no more
+pub mine : {a b x y : ℕ} → Alike a b x y → (x ≡ y → ⊥) → (x % 2 ≡ y % 2 → ⊥) → x % 2 ≡ 1 → setBefore a b ≡ not (eqb y 0)
+mine {x = x} {y} w d u p =
+    differing (λ (r : Bool). r ≡ not (eqb y 0)) w d (λ c n h k. go c n k (eqb y 0) refl)
+  where
+    go : (c n : ℕ) → y < 2 ^ suc c → (t : Bool) → eqb y 0 ≡ t → beforeFrom (suc c) n x y ≡ not t
+    go c n k true e = ap (beforeFrom (suc c) n x) (eqb-true y 0 e) ∙ longer c n x p
+    go c n k false e = ahead c n x y p (omega arith) k (let z : y ≡ 0 → ⊥ = eqb-false y 0 e in omega arith)
+
+-- it is y's: x is first only where it has no more
+pub other : {a b x y : ℕ} → Alike a b x y → (x ≡ y → ⊥) → (x % 2 ≡ y % 2 → ⊥) → (x % 2 ≡ 1 → ⊥) → setBefore a b ≡ eqb x 0
+other {x = x} {y} w d u p =
+    differing (λ (r : Bool). r ≡ eqb x 0) w d (λ c n h k. go c n h (eqb x 0) refl)
+  where
+    go : (c n : ℕ) → x < 2 ^ suc c → (t : Bool) → eqb x 0 ≡ t → beforeFrom (suc c) n x y ≡ t
+    go c n h true e = ap (λ (z : ℕ). beforeFrom (suc c) n z y) (eqb-true x 0 e) ∙ prefix c n y (omega arith)
+    go c n h false e = behind c n x y (omega arith) (omega arith) h (let z : x ≡ 0 → ⊥ = eqb-false x 0 e in omega arith)
