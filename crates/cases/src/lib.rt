@@ -1,0 +1,1 @@
+// This crate is the list of proved cases, in proofs/.
