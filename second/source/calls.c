@@ -1,0 +1,192 @@
+/* calls: a stream of calls made up by chance from a seed.
+
+       calls --seed S --count N [--small]
+
+   Each image is first answered with all the budget there is. The calls then
+   hand out budgets, tables and outputs around what it needed. --small keeps
+   images under 60 bytes and budgets to 200 at most. */
+#include <stdlib.h>
+#include <string.h>
+
+#include "chance.h"
+#include "drafts.h"
+#include "stream.h"
+
+static bool small;
+static Memory *memory;
+static uint64_t wanted;
+
+static uint32_t choose_phase(void)
+{
+    if (percent(80))
+        return 0;
+    return percent(95) ? below(3) : between(3, 5);
+}
+
+static uint32_t choose_budget(uint32_t need)
+{
+    uint32_t choice = below(100);
+    if (choice < 45)
+        return need + below(20);
+    if (choice < 58)
+        return need;
+    if (choice < 64 && need > 0)
+        return need - 1;
+    if (choice < 85)
+        return below(need + 1);
+    if (choice < 95)
+        return small ? 200 : MOST_BUDGET;
+    if (choice < 97)
+        return MOST_BUDGET - below(2) + below(3);
+    if (choice < 98)
+        return percent(50) ? (uint32_t)next_chance() : 4096 + below(300);
+    return below(40);
+}
+
+static uint32_t choose_table(uint32_t budget)
+{
+    if (budget > MOST_BUDGET)
+        return below(LARGEST_STREAM_SIZE + 1);
+    uint32_t need = TABLE_WORDS_PER_UNIT * budget;
+    uint32_t choice = below(100);
+    if (choice < 90)
+        return need;
+    if (choice < 94)
+        return need + between(1, 40);
+    if (choice < 96 && need > 0)
+        return need - 1;
+    if (choice < 97)
+        return 0;
+    if (choice < 98)
+        return below(need + 1);
+    return need + below(LARGEST_STREAM_SIZE - need + 1);
+}
+
+static uint32_t choose_output(uint32_t need)
+{
+    uint32_t choice = below(100);
+    if (choice < 50)
+        return need;
+    if (choice < 60)
+        return need + between(1, 30);
+    if (choice < 68 && need > 0)
+        return need - 1;
+    if (choice < 74)
+        return below(need + 1);
+    if (choice < 97)
+        return LONGEST_IMAGE;
+    return LONGEST_IMAGE + below(3) - 1;
+}
+
+/* Emits a call of the job on the image, with sizes around its need. */
+static void emit(Job job, const Draft *draft, Answer *answer)
+{
+    Call call = {.job = job,
+                 .phase = job == JOB_PARSE || job == JOB_EVALUATE ? below(5) : choose_phase(),
+                 .budget = MOST_BUDGET,
+                 .table_words = TABLE_WORDS_PER_UNIT * MOST_BUDGET,
+                 .output_length = LONGEST_IMAGE,
+                 .image = draft->bytes,
+                 .image_length = draft->length};
+    answer_call(memory, &call, answer);
+    if (wanted == 0)
+        return;
+    call.budget = choose_budget(answer->units);
+    call.table_words = choose_table(call.budget);
+    call.output_length = choose_output(answer->length);
+    if (small && (draft->length >= 60 || answer->length > 200 ||
+                  (call.budget > 200 && percent(95)) || call.budget > 5000))
+        return;
+    write_call(stdout, &call);
+    wanted--;
+}
+
+static Job choose_job(uint32_t kind)
+{
+    if (percent(2))
+        return (Job)below(4);
+    if (kind == TREE_IMAGE)
+        return JOB_EVALUATE;
+    uint32_t choice = below(10);
+    return choice < 6 ? JOB_EXPAND : choice < 9 ? JOB_PARSE : JOB_RESOLVE;
+}
+
+static void make_draft(Draft *draft, Job *job)
+{
+    uint32_t choice = below(100);
+    if (choice < 45) {
+        draft_program(memory, draft);
+        *job = percent(95) ? JOB_EXPAND : choose_job(draft->kind);
+    } else if (choice < 57) {
+        draft_identifier(memory, draft);
+        *job = percent(95) ? JOB_RESOLVE : choose_job(draft->kind);
+    } else if (choice < 69) {
+        draft_object(memory, draft);
+        *job = percent(90) ? JOB_PARSE : choose_job(draft->kind);
+    } else {
+        draft_tree(memory, draft);
+        *job = choose_job(draft->kind);
+    }
+}
+
+/* The written image of an answer becomes the next draft. */
+static bool take_result(Draft *draft, const Answer *answer, uint32_t kind)
+{
+    if (answer->code != SUCCESS || answer->length == 0)
+        return false;
+    draft->kind = kind;
+    draft->length = answer->length;
+    memcpy(draft->bytes, answer->output, answer->length);
+    return true;
+}
+
+int main(int count, char **arguments)
+{
+    static Draft draft, other;
+    static Answer answer;
+    uint64_t seed = 1;
+    wanted = 1000;
+    for (int i = 1; i < count; i++) {
+        if (strcmp(arguments[i], "--seed") == 0 && i + 1 < count) {
+            seed = strtoull(arguments[++i], NULL, 10);
+        } else if (strcmp(arguments[i], "--count") == 0 && i + 1 < count) {
+            wanted = strtoull(arguments[++i], NULL, 10);
+        } else if (strcmp(arguments[i], "--small") == 0) {
+            small = true;
+        } else {
+            fprintf(stderr, "calls --seed S --count N [--small]\n");
+            return 2;
+        }
+    }
+    memory = new_memory();
+    start_chance(seed);
+    draft_tree(memory, &other);
+    while (wanted > 0) {
+        Job job;
+        make_draft(&draft, &job);
+        if (percent(15)) {
+            damage_draft(&draft, &other);
+            emit(job, &draft, &answer);
+        } else {
+            emit(job, &draft, &answer);
+            if (percent(15)) /* the same image with other sizes */
+                emit(job, &draft, &answer);
+            if (job == JOB_EXPAND && percent(35) && take_result(&draft, &answer, SYNTAX_IMAGE)) {
+                if (percent(10)) /* expanded again */
+                    emit(JOB_EXPAND, &draft, &answer);
+                if (take_result(&draft, &answer, SYNTAX_IMAGE))
+                    emit(JOB_PARSE, &draft, &answer);
+            } else if (job == JOB_PARSE && percent(50) &&
+                       take_result(&draft, &answer, TREE_IMAGE)) {
+                emit(JOB_EVALUATE, &draft, &answer);
+            } else if (job == JOB_EVALUATE && percent(5) &&
+                       take_result(&draft, &answer, TREE_IMAGE)) {
+                emit(JOB_EVALUATE, &draft, &answer);
+            }
+        }
+        if (percent(30))
+            other = draft;
+    }
+    free_memory(memory);
+    return fflush(stdout) == 0 ? 0 : 1;
+}

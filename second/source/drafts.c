@@ -1,0 +1,1106 @@
+/* Drafts of syntax: programs with macros, loose objects, identifiers.
+
+   Programs are first made without scopes, as a person would write them. Some
+   then get scopes and bindings of their own, ambiguous ones among them. */
+#include "drafts.h"
+
+#include <string.h>
+
+#include "chance.h"
+
+static Memory *memory;
+static Image image;
+
+/* ---- small makers ---- */
+
+static const ScopeSet bare[PHASES] = {NO_SCOPES, NO_SCOPES, NO_SCOPES};
+
+static const Object *atom(ObjectTag tag, uint32_t content)
+{
+    return make_atom_object(memory, (Atom){tag, content}, bare);
+}
+
+static const Object *symbol(uint32_t number)
+{
+    return atom(SYMBOL, number);
+}
+
+static const Object *primitive(uint32_t number)
+{
+    return atom(PRIMITIVE, number);
+}
+
+static const Object *list_of(uint32_t count, const Object *const *given)
+{
+    const Object **parts = take_object_parts(memory, count);
+    for (uint32_t i = 0; i < count; i++)
+        parts[i] = given[i];
+    return make_list_object(memory, count, parts, bare);
+}
+
+static const Object *list1(const Object *a)
+{
+    return list_of(1, (const Object *[]){a});
+}
+
+static const Object *list2(const Object *a, const Object *b)
+{
+    return list_of(2, (const Object *[]){a, b});
+}
+
+static const Object *list3(const Object *a, const Object *b, const Object *c)
+{
+    return list_of(3, (const Object *[]){a, b, c});
+}
+
+static const Object *list4(const Object *a, const Object *b, const Object *c, const Object *d)
+{
+    return list_of(4, (const Object *[]){a, b, c, d});
+}
+
+static const Object *lambda(uint32_t word, const Object *body)
+{
+    return list3(symbol(LAMBDA), symbol(word), body);
+}
+
+static const Object *let_syntax(uint32_t word, const Object *value, const Object *body)
+{
+    return list4(symbol(LET_SYNTAX), symbol(word), value, body);
+}
+
+static const Object *quote(const Object *object)
+{
+    return list2(symbol(QUOTE), object);
+}
+
+static const Object *syntax(const Object *object)
+{
+    return list2(symbol(SYNTAX), object);
+}
+
+/* ---- words ---- */
+
+static const char *const pool[] = {
+    "x",  "y", "z", "m",     "n",    "k",       "t",      "run", "stop", "motor-1", "fan",
+    "on", "!", "~", "a0123456789-0123456789-01234567", "q{1}", "over", "lambdas", "quot",
+};
+
+static bool has_word(const char *text)
+{
+    for (uint32_t i = 0; i < image.word_count; i++)
+        if (image.words[i].length == strlen(text) &&
+            memcmp(image.words[i].bytes, text, strlen(text)) == 0)
+            return true;
+    return false;
+}
+
+static uint32_t word_symbol(const char *text, size_t length)
+{
+    static const char *const core[] = {"lambda", "let-syntax", "quote", "syntax"};
+    for (uint32_t i = 0; i < CORE_NAMES; i++)
+        if (strlen(core[i]) == length && memcmp(core[i], text, length) == 0)
+            return i;
+    for (uint32_t i = 0; i < image.word_count; i++)
+        if (image.words[i].length == length && memcmp(image.words[i].bytes, text, length) == 0)
+            return CORE_NAMES + i;
+    image.words[image.word_count] = (Word){(const uint8_t *)text, (uint32_t)length};
+    return CORE_NAMES + image.word_count++;
+}
+
+static void choose_words(uint32_t count)
+{
+    const uint32_t many = sizeof pool / sizeof pool[0];
+    for (uint32_t i = 0; i < count; i++) {
+        const char *text = pool[percent(80) ? below(6) : below(many)];
+        if (!has_word(text))
+            word_symbol(text, strlen(text));
+    }
+}
+
+static uint32_t any_word(void)
+{
+    if (image.word_count == 0 || percent(2))
+        return below(CORE_NAMES);
+    return CORE_NAMES + below(image.word_count);
+}
+
+/* ---- notation, for the programs written by hand ---- */
+
+/* A hole of a template stands for an argument of the macro use. */
+static const uint32_t FIRST_HOLE = 4000000000U;
+
+static bool is_hole(const Object *object)
+{
+    return object->tag == NUMBER && object->content - FIRST_HOLE < 10;
+}
+
+static const Object *hole(uint32_t argument)
+{
+    return atom(NUMBER, FIRST_HOLE + argument);
+}
+
+/* x 9 @12 #0 '0 _1 (a b): as the edge cases are written, and _1 for a hole. */
+static const Object *read_notation(const char **text)
+{
+    while (**text == ' ')
+        (*text)++;
+    if (**text == '(') {
+        const Object *parts[32];
+        uint32_t count = 0;
+        (*text)++;
+        for (;;) {
+            while (**text == ' ')
+                (*text)++;
+            if (**text == ')') {
+                (*text)++;
+                return list_of(count, parts);
+            }
+            parts[count++] = read_notation(text);
+        }
+    }
+    const char *start = *text;
+    while (**text != ' ' && **text != '(' && **text != ')' && **text != 0)
+        (*text)++;
+    const char *digits = *start >= '0' && *start <= '9' ? start : start + 1;
+    uint32_t number = 0;
+    for (const char *digit = digits; digit < *text; digit++)
+        number = number * 10 + (uint32_t)(*digit - '0');
+    switch (*start) {
+    case '@':
+        return atom(POINT, number);
+    case '#':
+        return atom(PRIMITIVE, number);
+    case '\'':
+        return atom(RUNG_WORD, number);
+    case '_':
+        return hole(number);
+    default:
+        if (digits == start)
+            return atom(NUMBER, number);
+        return symbol(word_symbol(start, (size_t)(*text - start)));
+    }
+}
+
+static const Object *notation(const char *text)
+{
+    return read_notation(&text);
+}
+
+/* ---- templates ---- */
+
+static bool has_hole(const Object *object)
+{
+    if (is_hole(object))
+        return true;
+    for (uint32_t i = 0; i < object->count; i++)
+        if (has_hole(object->parts[i]))
+            return true;
+    return false;
+}
+
+/* The text that takes an argument out of the form: (first (rest (stx-e form))). */
+static const Object *argument_code(uint32_t form, uint32_t argument)
+{
+    const Object *code = list2(primitive(0), symbol(form));
+    for (uint32_t i = 0; i < argument; i++)
+        code = list2(primitive(3), code);
+    return list2(primitive(2), code);
+}
+
+/* The text that builds a template from the form at the phase above. */
+static const Object *template_code(const Object *template, uint32_t form)
+{
+    if (!has_hole(template))
+        return syntax(template);
+    if (is_hole(template))
+        return argument_code(form, template->content - FIRST_HOLE);
+    const Object *code = quote(list_of(0, NULL));
+    for (uint32_t i = template->count; i > 0; i--)
+        code = list3(primitive(4), template_code(template->parts[i - 1], form), code);
+    const Object *sets_of = percent(60) ? symbol(form) : syntax(symbol(any_word()));
+    return list3(primitive(1), code, sets_of);
+}
+
+/* ---- loose objects ---- */
+
+static const Object *any_atom(void)
+{
+    switch (below(10)) {
+    case 0:
+    case 1:
+        return atom(NUMBER, percent(80) ? below(4) : (uint32_t)next_chance());
+    case 2:
+        return atom(NUMBER, percent(50) ? 127 + below(3) : 0xffffffff - below(2));
+    case 3:
+    case 4:
+        return atom(POINT, percent(80) ? below(30) : below(LARGEST_POINT + 1));
+    case 5:
+        return atom(PRIMITIVE, below(LARGEST_PRIMITIVE + 1));
+    case 6:
+        return atom(RUNG_WORD, percent(80) ? below(6) : below(LARGEST_RUNG_WORD + 1));
+    default:
+        return symbol(percent(15) ? below(CORE_NAMES) : any_word());
+    }
+}
+
+static const Object *any_object(int depth)
+{
+    if (depth <= 0 || percent(45))
+        return any_atom();
+    const Object *parts[4];
+    uint32_t count = below(5);
+    for (uint32_t i = 0; i < count; i++)
+        parts[i] = any_object(depth - 1);
+    return list_of(count, parts);
+}
+
+/* ---- programs ---- */
+
+/* The words that mean something where a piece of program is made. */
+typedef struct Known Known;
+struct Known {
+    uint32_t word;
+    bool is_macro;
+    const Known *outer;
+};
+
+static uint32_t holes_allowed;
+
+static const Object *program(int depth, const Known *known);
+
+static const Known *some_known(const Known *known, bool is_macro)
+{
+    const Known *chosen = NULL;
+    uint32_t met = 0;
+    for (; known != NULL; known = known->outer)
+        if (known->is_macro == is_macro && below(++met) == 0)
+            chosen = known;
+    return chosen;
+}
+
+static const Object *leaf(const Known *known)
+{
+    if (holes_allowed > 0 && percent(40))
+        return hole(between(1, holes_allowed));
+    const Known *variable = some_known(known, false);
+    if (variable != NULL && percent(75))
+        return symbol(variable->word);
+    if (percent(8))
+        return symbol(any_word());
+    if (percent(85))
+        return atom(percent(50) ? NUMBER : POINT, below(20));
+    return any_atom();
+}
+
+static const Object *template_of(int depth, const Known *known, uint32_t holes)
+{
+    uint32_t before = holes_allowed;
+    holes_allowed = holes;
+    const Object *template = program(depth, known);
+    holes_allowed = before;
+    return template;
+}
+
+static const Object *without_holes(int depth, const Known *known)
+{
+    return template_of(depth, known, 0);
+}
+
+static const Object *loop_code(void)
+{
+    return notation(percent(70) ? "((lambda f (f f)) (lambda f (f f)))"
+                                : "((lambda f ((f f) 1)) (lambda f (f f)))");
+}
+
+/* The right-hand side of a macro. Templates are made with the words known
+   where the macro is used; the code itself knows nothing but core forms. */
+static const Object *right_hand_side(int depth, const Known *known)
+{
+    uint32_t form = any_word();
+    switch (below(20)) {
+    case 0:
+    case 1:
+    case 2:
+    case 3:
+    case 4:
+        return lambda(form, syntax(without_holes(depth - 1, known)));
+    case 5:
+        return lambda(form, argument_code(form, between(0, 2)));
+    case 6:
+    case 7:
+    case 8:
+    case 9:
+    case 10:
+        return lambda(form, template_code(template_of(depth - 1, known, 2), form));
+    case 11:
+        return lambda(form, symbol(form));
+    case 12:
+        return any_atom();
+    case 13:
+    case 14: { /* a macro at the phase above makes the code */
+        uint32_t inner = any_word();
+        const Object *code = syntax(without_holes(depth - 2, known));
+        return let_syntax(inner, lambda(any_word(), syntax(code)),
+                          lambda(form, list1(symbol(inner))));
+    }
+    case 15: /* the use decides by an atom */
+        return lambda(form, list4(primitive(6),
+                                  list3(primitive(5), list2(primitive(0), argument_code(form, 1)),
+                                        any_atom()),
+                                  template_code(template_of(depth - 2, known, 2), form),
+                                  syntax(without_holes(depth - 2, known))));
+    case 16:
+        return lambda(form, any_atom());
+    case 17: /* a use that goes round until scopes run out, or stops */
+        return lambda(form, list3(primitive(1), list2(primitive(0), symbol(form)),
+                                  percent(50) ? symbol(form) : syntax(any_atom())));
+    case 18:
+        return percent(30) ? loop_code() : lambda(form, program(depth - 2, NULL));
+    default:
+        return without_holes(depth - 1, NULL);
+    }
+}
+
+static const Object *macro_use(int depth, const Known *known, uint32_t word)
+{
+    const Object *parts[4] = {symbol(word)};
+    uint32_t count = 1 + between(percent(80) ? 2 : 0, 3);
+    if (percent(20))
+        count = 1;
+    for (uint32_t i = 1; i < count; i++)
+        parts[i] = program(depth - 2, known);
+    return list_of(count, parts);
+}
+
+static const Object *odd_form(int depth, const Known *known)
+{
+    switch (below(8)) {
+    case 0:
+        return list_of(0, NULL);
+    case 1:
+        return symbol(below(CORE_NAMES));
+    case 2:
+        return list2(symbol(LAMBDA), symbol(any_word()));
+    case 3:
+        return list3(symbol(LAMBDA), list1(symbol(any_word())), program(depth - 1, known));
+    case 4:
+        return list3(symbol(LET_SYNTAX), symbol(any_word()), program(depth - 1, known));
+    case 5:
+        return percent(50) ? list1(symbol(QUOTE)) : list1(symbol(SYNTAX));
+    case 6:
+        return list3(symbol(percent(50) ? QUOTE : SYNTAX), any_atom(), any_atom());
+    default:
+        return any_object(2);
+    }
+}
+
+static const Object *program(int depth, const Known *known)
+{
+    if (depth <= 0)
+        return leaf(known);
+    const Known *macro = some_known(known, true);
+    if (macro != NULL && percent(40))
+        return macro_use(depth, known, macro->word);
+    uint32_t choice = below(100);
+    if (choice < 22) {
+        Known variable = {.word = percent(6) ? below(CORE_NAMES) : any_word(), .outer = known};
+        return lambda(variable.word, program(depth - 1, &variable));
+    }
+    if (choice < 52) {
+        Known defined = {.word = percent(6) ? below(CORE_NAMES) : any_word(),
+                         .is_macro = true,
+                         .outer = known};
+        const Object *value = right_hand_side(depth, known);
+        return let_syntax(defined.word, value, program(depth - 1, &defined));
+    }
+    if (choice < 70) {
+        const Object *parts[3];
+        uint32_t count = between(1, 3);
+        for (uint32_t i = 0; i < count; i++)
+            parts[i] = program(depth - 1 - (int)below(2), known);
+        return list_of(count, parts);
+    }
+    if (choice < 80)
+        return list3(atom(RUNG_WORD, below(6)), program(depth - 2, known),
+                     program(depth - 2, known));
+    if (choice < 86)
+        return syntax(percent(50) ? any_object(2) : program(depth - 2, known));
+    if (choice < 90)
+        return quote(any_object(2));
+    if (choice < 93)
+        return odd_form(depth, known);
+    return leaf(known);
+}
+
+/* ---- programs of the panel ---- */
+
+typedef struct {
+    const char *template; /* of the macro m, with holes for its arguments */
+    const char *use;
+} PanelProgram;
+
+static const PanelProgram panel[] = {
+    /* start-stop: the output holds itself until stop */
+    {"('3 _3 ('0 ('2 _2) ('1 _1 _3)))", "(m @10 @11 @20)"},
+    {"('3 _3 ('0 ('2 _2) ('1 _1 _3)))", "(lambda start (lambda stop (m start stop @20)))"},
+    /* interlock: one output only while the other is off */
+    {"('5 ('3 _1 ('0 _2 ('2 _3))) ('3 _3 ('0 _2 ('2 _1))))", "(m @1 @2 @3)"},
+    {"('5 ('3 _1 ('2 _2)) ('3 _2 ('2 _1)))", "(lambda left (lambda right (m left right)))"},
+    /* fan with overrun: the fan's own word run must not take the user's */
+    {"((lambda run ('3 _1 ('1 run ('4 _2 run)))) _3)", "(lambda run (m @4 @5 run))"},
+    {"((lambda run ('3 _1 ('1 run _2))) _1)", "(lambda run (m run run))"},
+    /* a hidden word and the user's word of the same spelling */
+    {"((lambda t ('1 t _1)) _2)", "(lambda t (m t @2))"},
+    {"((lambda t ('1 t _1)) _2)", "((lambda t (m t (m t t))) @3)"},
+    {"(lambda x (_1 x))", "(lambda x (m x))"},
+    {"(lambda x (lambda x _1))", "(lambda x (m x))"},
+    {"(lambda _1 (_1 _2))", "(m x x)"},
+    {"(lambda _1 x)", "(lambda x (m x))"},
+    {"(lambda _1 _2)", "(m lambda lambda)"},
+    {"((lambda lambda lambda) _1)", "(lambda lambda (m lambda))"},
+    /* macros that make macros */
+    {"(let-syntax n (lambda g (syntax _1)) (n))", "(lambda x (m x))"},
+    {"(let-syntax n (lambda g (syntax (lambda x _1))) (n))", "(lambda x (m x))"},
+    {"(let-syntax _1 (lambda g (syntax _2)) (_1))", "(lambda x (m n x))"},
+    {"(let-syntax _1 (lambda g (syntax @7)) _2)", "(m n (n))"},
+    {"(let-syntax n (lambda g (syntax (quote g))) (_1 (n)))", "(lambda x (m x))"},
+    {"(let-syntax m (lambda z (#2 (#3 (#0 z)))) (m _1))", "(lambda z (m z))"},
+    {"(let-syntax x (let-syntax y (lambda a (syntax (lambda b (syntax _1)))) (y)) (x))",
+     "(lambda x (m x))"},
+    {"(let-syntax n (let-syntax n (lambda n (syntax (syntax (lambda n n)))) (lambda n (n))) (n))",
+     "(m x)"},
+    {"(syntax _1)", "(lambda x (m x))"},
+    {"(quote _1)", "(lambda x (m x))"},
+    {"(_1 (syntax x) (quote x) x)", "(lambda x (m x))"},
+    {"(lambda x (syntax _1))", "(lambda x (m (x x)))"},
+};
+
+static const char *const whole_programs[] = {
+    "(lambda x x)",
+    "x",
+    "()",
+    "(x)",
+    "(lambda lambda lambda)",
+    "(lambda lambda (lambda lambda lambda))",
+    "(let-syntax m (lambda z (syntax x)) (lambda x (m)))",
+    "(lambda x (let-syntax m (lambda z (syntax x)) (lambda x (m))))",
+    "(lambda x (let-syntax m (lambda z (#2 (#3 (#0 z)))) (lambda x (m x))))",
+    "(let-syntax m (lambda z (let-syntax n (lambda g (syntax (syntax 1))) (n))) (m))",
+    "(let-syntax m (let-syntax n (let-syntax o 1 o) n) m)",
+    "(let-syntax m (lambda z z) (m))",
+    "(let-syntax m #0 (m))",
+    "(let-syntax m (lambda z 1) (m))",
+    "(let-syntax m 5 (m))",
+    "(let-syntax m #4 (m))",
+    "(let-syntax m (lambda z (#2 z)) (m))",
+    "(let-syntax m ((lambda f (f f)) (lambda f (f f))) 1)",
+    "(let-syntax m (lambda z ((lambda f (f f)) (lambda f (f f)))) (m))",
+    "(let-syntax m (lambda z (syntax (lambda x (syntax x)))) (lambda x ((m) (syntax x))))",
+    "(let-syntax m ((lambda s (lambda z s)) (syntax (lambda x x))) (m 1))",
+    "(let-syntax syntax (lambda z (#2 (#3 (#0 z)))) (lambda x (syntax x)))",
+    "(let-syntax quote (lambda z (syntax 7)) (quote x))",
+    "(let-syntax lambda (lambda z (#2 (#3 (#3 (#0 z))))) (lambda x 3))",
+};
+
+static const Object *panel_program(void)
+{
+    if (percent(30))
+        return notation(whole_programs[below(sizeof whole_programs / sizeof whole_programs[0])]);
+    const PanelProgram *chosen = &panel[below(sizeof panel / sizeof panel[0])];
+    const Object *template = notation(chosen->template);
+    uint32_t macro = word_symbol("m", 1);
+    uint32_t form = percent(70) ? word_symbol("form", 4) : any_word();
+    const Object *use = notation(chosen->use);
+    if (percent(25))
+        use = list2(use, notation(chosen->use));
+    return let_syntax(macro, lambda(form, template_code(template, form)), use);
+}
+
+/* Some word stands in for another, so that words meet that were kept apart. */
+static const Object *rename_word(const Object *object, uint32_t from, uint32_t to)
+{
+    if (object->tag == SYMBOL)
+        return object->content == from ? symbol(to) : object;
+    if (object->tag != LIST)
+        return object;
+    const Object **parts = take_object_parts(memory, object->count);
+    for (uint32_t i = 0; i < object->count; i++)
+        parts[i] = rename_word(object->parts[i], from, to);
+    return make_list_object(memory, object->count, parts, bare);
+}
+
+/* ---- scopes and bindings of the image's own ---- */
+
+static ScopeSet any_set(void)
+{
+    ScopeSet set = NO_SCOPES;
+    if (image.scopes == 0)
+        return set;
+    for (uint32_t i = below(4); i > 0; i--)
+        set |= only_scope(percent(90) ? between(1, image.scopes < 4 ? image.scopes : 4)
+                                      : between(1, image.scopes));
+    return set;
+}
+
+static const Object *sprinkle(const Object *object, uint32_t of_hundred)
+{
+    ScopeSet sets[PHASES] = {object->sets[0], object->sets[1], object->sets[2]};
+    for (int phase = 0; phase < PHASES; phase++)
+        if (percent(of_hundred))
+            sets[phase] |= any_set();
+    if (object->tag != LIST)
+        return make_atom_object(memory, (Atom){object->tag, object->content}, sets);
+    const Object **parts = take_object_parts(memory, object->count);
+    for (uint32_t i = 0; i < object->count; i++)
+        parts[i] = sprinkle(object->parts[i], of_hundred);
+    return make_list_object(memory, object->count, parts, sets);
+}
+
+static void add_binding(Binding binding)
+{
+    uint32_t place = image.binding_count;
+    if (place == MOST_BINDINGS)
+        return;
+    while (place > 0 && compare_bindings(&image.bindings[place - 1], &binding) >= 0)
+        place--;
+    if (place < image.binding_count && compare_bindings(&image.bindings[place], &binding) == 0)
+        return;
+    for (uint32_t i = image.binding_count; i > place; i--)
+        image.bindings[i] = image.bindings[i - 1];
+    image.bindings[place] = binding;
+    image.binding_count++;
+}
+
+static void add_bindings(uint32_t count, uint32_t favoured)
+{
+    for (uint32_t i = 0; i < count; i++) {
+        uint32_t bound = percent(60) ? favoured : percent(20) ? below(CORE_NAMES) : any_word();
+        uint32_t target = percent(35) ? below(CORE_NAMES) : below(image.names);
+        add_binding((Binding){.symbol = bound, .target = target, .set = any_set()});
+    }
+}
+
+/* Two bindings of a word that contain each other nowhere; a third may settle it. */
+static void tangle(uint32_t word)
+{
+    if (image.scopes < 3)
+        image.scopes = 3;
+    ScopeSet one = only_scope(1), two = only_scope(2), three = only_scope(3);
+    add_binding((Binding){.symbol = word, .target = below(image.names), .set = one});
+    add_binding((Binding){.symbol = word, .target = below(image.names), .set = two});
+    if (percent(40))
+        add_binding((Binding){.symbol = word, .target = below(image.names), .set = one | two});
+    if (percent(30))
+        add_binding((Binding){.symbol = word, .target = below(image.names), .set = one | three});
+}
+
+/* Many bindings of a word that is seldom used, to be short of room. */
+static void fill_bindings(uint32_t count)
+{
+    if (image.scopes < 30)
+        image.scopes = 30;
+    uint32_t word = any_word();
+    for (uint32_t low = 1; low < 30 && image.binding_count < count; low++)
+        for (uint32_t high = low + 1; high <= 30 && image.binding_count < count; high++)
+            add_binding((Binding){.symbol = word,
+                                  .target = word,
+                                  .set = only_scope(low) | only_scope(high)});
+}
+
+static void start_image(uint32_t kind, uint32_t words)
+{
+    clear_memory(memory);
+    image.kind = kind;
+    image.word_count = 0;
+    image.names = CORE_NAMES;
+    image.scopes = 0;
+    image.binding_count = 0;
+    image.object = NULL;
+    image.tree = NULL;
+    holes_allowed = 0;
+    choose_words(words);
+}
+
+/* Counts of names and scopes, now and then near their limits. */
+static void choose_counts(void)
+{
+    image.names = CORE_NAMES + image.word_count;
+    if (percent(15))
+        image.names += between(1, 3);
+    if (percent(4))
+        image.names = MOST_NAMES - below(4);
+    if (percent(30))
+        image.scopes = between(1, 4);
+    if (percent(5))
+        image.scopes = MOST_SCOPES - below(6);
+}
+
+static void finish(Draft *draft)
+{
+    draft->kind = image.kind;
+    if (!write_image(&image, draft->bytes, DRAFT_ROOM, &draft->length))
+        draft->length = 0;
+}
+
+static const Object *wrap(const Object *object, uint32_t times)
+{
+    for (uint32_t i = 0; i < times; i++) {
+        if (percent(70))
+            object = list1(object);
+        else if (percent(70))
+            object = list2(atom(NUMBER, 1), object);
+        else
+            object = list2(object, atom(POINT, 1));
+    }
+    return object;
+}
+
+/* Programs whose nesting or entries come near their limits. */
+static const Object *deep_program(void)
+{
+    uint32_t inner = between(1, 62), outer = between(0, 62);
+    uint32_t macro = word_symbol("m", 1), form = word_symbol("z", 1);
+    if (percent(70))
+        outer = 66 - inner - below(6) + below(3);
+    if (outer > 60)
+        outer = 60;
+    switch (below(4)) {
+    case 0:
+        return let_syntax(macro, lambda(form, syntax(wrap(atom(NUMBER, 1), inner))),
+                          wrap(list1(symbol(macro)), outer));
+    case 1:
+        return let_syntax(macro,
+                          lambda(form, wrap(symbol(form), inner)),
+                          list2(symbol(macro), wrap(atom(NUMBER, 1), outer)));
+    case 2:
+        return wrap(let_syntax(macro, lambda(form, wrap(symbol(form), inner)), loop_code()),
+                    outer);
+    default:
+        return wrap(let_syntax(macro, loop_code(), atom(NUMBER, 1)), outer);
+    }
+}
+
+void draft_program(Memory *given, Draft *draft)
+{
+    memory = given;
+    start_image(SYNTAX_IMAGE, between(1, 4));
+    const Object *root;
+    if (percent(30))
+        root = panel_program();
+    else if (percent(3))
+        root = deep_program();
+    else
+        root = program((int)between(1, 6), NULL);
+    if (image.word_count > 1 && percent(15))
+        root = rename_word(root, any_word(), any_word());
+    choose_counts();
+    if (percent(35))
+        root = sprinkle(root, 10);
+    if (percent(30))
+        add_bindings(between(1, 4), any_word());
+    if (percent(6)) {
+        tangle(any_word());
+        root = sprinkle(root, 40);
+    }
+    if (percent(1))
+        fill_bindings(between(MOST_BINDINGS - 3, MOST_BINDINGS));
+    image.object = root;
+    finish(draft);
+}
+
+void draft_identifier(Memory *given, Draft *draft)
+{
+    memory = given;
+    start_image(SYNTAX_IMAGE, between(0, 2));
+    choose_counts();
+    if (image.scopes == 0)
+        image.scopes = between(1, 5);
+    uint32_t word = any_word();
+    const Object *root = percent(92) ? symbol(word) : any_object(1);
+    for (uint32_t times = between(1, 3); times > 0; times--)
+        root = sprinkle(root, 85);
+    if (percent(30))
+        tangle(word);
+    add_bindings(between(0, 7), word);
+    image.object = root;
+    if (percent(1))
+        fill_bindings(MOST_BINDINGS);
+    finish(draft);
+}
+
+void draft_object(Memory *given, Draft *draft)
+{
+    memory = given;
+    start_image(SYNTAX_IMAGE, between(0, 3));
+    const Object *root = percent(50) ? any_object(3) : program((int)between(1, 4), NULL);
+    if (percent(2))
+        root = wrap(root, between(50, 63));
+    if (percent(25))
+        root = lambda(any_word(), root);
+    if (percent(15))
+        root = list2(root, quote(any_object(3)));
+    choose_counts();
+    if (percent(40))
+        root = sprinkle(root, 20);
+    add_bindings(below(4), any_word());
+    if (percent(15)) {
+        tangle(any_word());
+        root = sprinkle(root, 50);
+    }
+    image.object = root;
+    finish(draft);
+}
+
+/* ---- trees ---- */
+
+typedef struct Bound Bound;
+struct Bound {
+    uint32_t name;
+    const Bound *outer;
+};
+
+/* What a tree should evaluate to. */
+typedef enum { ANY_VALUE, A_NUMBER, AN_ATOM, A_LIST, SYNTAXES, A_SYNTAX, A_FUNCTION } Wanted;
+
+static const Tree *tree(int depth, const Bound *bound, Wanted wanted);
+
+static const Tree *tree_atom(ObjectTag tag, uint32_t content)
+{
+    return make_atom(memory, (Atom){tag, content});
+}
+
+static const Tree *tree_list(uint32_t count, const Tree *const *given, bool is_value)
+{
+    const Tree **parts = take_tree_parts(memory, count);
+    for (uint32_t i = 0; i < count; i++)
+        parts[i] = given[i];
+    return is_value ? make_list_value(memory, count, parts)
+                    : make_application(memory, count, parts);
+}
+
+static const Tree *apply1(const Tree *head, const Tree *a)
+{
+    return tree_list(2, (const Tree *[]){head, a}, false);
+}
+
+static const Tree *apply2(const Tree *head, const Tree *a, const Tree *b)
+{
+    return tree_list(3, (const Tree *[]){head, a, b}, false);
+}
+
+static const Tree *apply3(const Tree *head, const Tree *a, const Tree *b, const Tree *c)
+{
+    return tree_list(4, (const Tree *[]){head, a, b, c}, false);
+}
+
+static const Tree *tree_primitive(uint32_t number)
+{
+    return tree_atom(PRIMITIVE, number);
+}
+
+static const Tree *any_syntax(void)
+{
+    return make_syntax_value(memory, sprinkle(any_object(2), 30));
+}
+
+static uint32_t any_function_name(void)
+{
+    uint32_t names = image.names < 8 ? image.names : 8;
+    return percent(95) ? below(names) : below(image.names);
+}
+
+static const Tree *any_variable(const Bound *bound)
+{
+    uint32_t met = 0, chosen = any_function_name();
+    for (; bound != NULL; bound = bound->outer)
+        if (below(++met) == 0)
+            chosen = bound->name;
+    return make_variable(memory, chosen);
+}
+
+static const Tree *value(int depth, const Bound *bound, Wanted wanted)
+{
+    const Tree *parts[4];
+    uint32_t count;
+    switch (wanted) {
+    case A_NUMBER:
+        return tree_atom(NUMBER, below(3));
+    case AN_ATOM: {
+        const Object *chosen = any_atom();
+        return tree_atom(chosen->tag, chosen->content);
+    }
+    case A_LIST:
+        count = below(4);
+        for (uint32_t i = 0; i < count; i++)
+            parts[i] = value(depth - 1, bound,
+                             depth > 0 ? (Wanted[]){AN_ATOM, A_LIST, A_SYNTAX, A_FUNCTION}[below(4)]
+                                       : AN_ATOM);
+        return tree_list(count, parts, true);
+    case SYNTAXES:
+        count = below(4);
+        for (uint32_t i = 0; i < count; i++)
+            parts[i] = any_syntax();
+        return tree_list(count, parts, true);
+    case A_SYNTAX:
+        return any_syntax();
+    case A_FUNCTION: {
+        Bound inner = {.name = any_function_name(), .outer = bound};
+        return make_function(memory, inner.name, tree(depth - 1, &inner, ANY_VALUE));
+    }
+    default:
+        return value(depth, bound,
+                     (Wanted[]){AN_ATOM, AN_ATOM, A_LIST, A_SYNTAX, A_FUNCTION}[below(5)]);
+    }
+}
+
+/* A tree that most often evaluates to what is wanted. */
+static const Tree *tree(int depth, const Bound *bound, Wanted wanted)
+{
+    if (percent(4))
+        wanted = ANY_VALUE;
+    if (bound != NULL && percent(25))
+        return any_variable(bound);
+    if (percent(1))
+        return any_variable(bound);
+    if (depth <= 0)
+        return value(depth, bound, wanted);
+    if (percent(3)) { /* wrong counts, and heads that cannot be applied */
+        const Tree *parts[5];
+        uint32_t count = between(1, 5);
+        for (uint32_t i = 0; i < count; i++)
+            parts[i] = tree(depth - 1, bound, ANY_VALUE);
+        if (percent(60))
+            parts[0] = tree_primitive(below(LARGEST_PRIMITIVE + 1));
+        return tree_list(count, parts, false);
+    }
+    switch (below(12)) {
+    case 0:
+    case 1: { /* a function applied */
+        Bound inner = {.name = any_function_name(), .outer = bound};
+        const Tree *function =
+            make_function(memory, inner.name, tree(depth - 1, &inner, wanted));
+        return apply1(function, tree(depth - 1, bound, ANY_VALUE));
+    }
+    case 2:
+        return apply3(tree_primitive(6), tree(depth - 2, bound, A_NUMBER),
+                      tree(depth - 1, bound, wanted), tree(depth - 1, bound, wanted));
+    case 3:
+        return apply1(tree_primitive(2), tree(depth - 1, bound, A_LIST));
+    default:
+        break;
+    }
+    switch (wanted) {
+    case A_NUMBER:
+    case AN_ATOM:
+        if (percent(50))
+            return apply2(tree_primitive(5), tree(depth - 1, bound, AN_ATOM),
+                          tree(depth - 1, bound, AN_ATOM));
+        return value(depth, bound, wanted);
+    case A_LIST:
+        if (percent(25))
+            return apply1(tree_primitive(3), tree(depth - 1, bound, A_LIST));
+        if (percent(60))
+            return apply2(tree_primitive(4), tree(depth - 1, bound, ANY_VALUE),
+                          tree(depth - 1, bound, A_LIST));
+        return value(depth, bound, A_LIST);
+    case SYNTAXES:
+        if (percent(40))
+            return apply1(tree_primitive(0), tree(depth - 1, bound, A_SYNTAX));
+        if (percent(60))
+            return apply2(tree_primitive(4), tree(depth - 1, bound, A_SYNTAX),
+                          tree(depth - 1, bound, SYNTAXES));
+        return value(depth, bound, SYNTAXES);
+    case A_SYNTAX:
+        if (percent(70))
+            return apply2(tree_primitive(1),
+                          tree(depth - 1, bound, percent(50) ? AN_ATOM : SYNTAXES),
+                          tree(depth - 2, bound, A_SYNTAX));
+        return value(depth, bound, A_SYNTAX);
+    case A_FUNCTION:
+        return value(depth, bound, A_FUNCTION);
+    default:
+        return tree(depth, bound,
+                    (Wanted[]){AN_ATOM, A_LIST, A_LIST, SYNTAXES, A_SYNTAX, A_SYNTAX,
+                               A_FUNCTION}[below(7)]);
+    }
+}
+
+/* [n (link $n (link $n <>))]: what goes in comes out twice. */
+static const Tree *doubler(uint32_t name)
+{
+    const Tree *variable = make_variable(memory, name);
+    const Tree *empty = tree_list(0, NULL, true);
+    return make_function(memory, name,
+                         apply2(tree_primitive(4), variable,
+                                apply2(tree_primitive(4), variable, empty)));
+}
+
+static const Tree *deep_value(const Tree *inner, uint32_t times)
+{
+    for (uint32_t i = 0; i < times; i++)
+        inner = tree_list(1, &inner, true);
+    return inner;
+}
+
+/* Applications of the identity around a tree: an entry is in progress for each. */
+static const Tree *deep_application(const Tree *inner, uint32_t times)
+{
+    for (uint32_t i = 0; i < times; i++)
+        inner = percent(80) ? apply1(make_function(memory, 1, make_variable(memory, 1)), inner)
+                            : apply2(tree_primitive(4), inner, tree_list(0, NULL, true));
+    return inner;
+}
+
+/* Values that double, values nested deep, entries that pile up. */
+static const Tree *hard_tree(void)
+{
+    const Tree *x = make_variable(memory, 2), *f = make_variable(memory, 3);
+    switch (below(7)) {
+    case 0: { /* doubled over and over */
+        const Tree *result = value(1, NULL, ANY_VALUE);
+        for (uint32_t i = between(1, 20); i > 0; i--)
+            result = apply1(doubler(2), result);
+        return result;
+    }
+    case 1: { /* a function that doubles many times, applied to a doubler */
+        const Tree *body = x;
+        for (uint32_t i = between(1, 30); i > 0; i--)
+            body = apply1(f, body);
+        return apply1(apply1(make_function(memory, 3, make_function(memory, 2, body)),
+                             doubler(0)),
+                      value(1, NULL, ANY_VALUE));
+    }
+    case 2: { /* link makes a value deeper */
+        const Tree *result = deep_value(value(0, NULL, ANY_VALUE), between(55, 62));
+        uint32_t times = between(1, 63);
+        for (uint32_t i = times > 10 ? times % 8 : times; i > 0; i--)
+            result = apply2(tree_primitive(4), result, tree_list(0, NULL, true));
+        return result;
+    }
+    case 3: { /* substitution makes a tree deeper */
+        uint32_t inner = between(2, 60), outer = 66 - inner - below(6);
+        const Tree *body = deep_application(x, outer > 60 ? 60 : outer);
+        return apply1(make_function(memory, 2, body), deep_value(tree_atom(NUMBER, 1), inner));
+    }
+    case 4: { /* round and round */
+        const Tree *twice = make_function(memory, 3, apply1(f, f));
+        return deep_application(apply1(twice, twice), below(50));
+    }
+    case 5: { /* entries near their limit */
+        uint32_t outer = between(30, 61), inner = 128 - outer - below(8) + below(4);
+        if (inner > 60)
+            inner = 60;
+        const Tree *body = deep_application(x, inner);
+        return deep_application(apply1(make_function(memory, 2, body), tree_atom(NUMBER, 1)),
+                                outer);
+    }
+    default: { /* round and round, growing */
+        const Tree *grow =
+            make_function(memory, 3,
+                          make_function(memory, 2,
+                                        apply1(apply1(f, f), apply1(doubler(1), x))));
+        return apply1(apply1(grow, grow), value(0, NULL, ANY_VALUE));
+    }
+    }
+}
+
+void draft_tree(Memory *given, Draft *draft)
+{
+    memory = given;
+    start_image(TREE_IMAGE, between(0, 3));
+    choose_counts();
+    image.tree = percent(8) ? hard_tree() : tree((int)between(1, 6), NULL, ANY_VALUE);
+    finish(draft);
+}
+
+/* ---- damage ---- */
+
+static void insert_bytes(Draft *draft, size_t place, const uint8_t *bytes, size_t count)
+{
+    if (draft->length + count > DRAFT_ROOM)
+        return;
+    memmove(draft->bytes + place + count, draft->bytes + place, draft->length - place);
+    memmove(draft->bytes + place, bytes, count);
+    draft->length += count;
+}
+
+static void remove_bytes(Draft *draft, size_t place, size_t count)
+{
+    memmove(draft->bytes + place, draft->bytes + place + count, draft->length - place - count);
+    draft->length -= count;
+}
+
+static size_t any_place(const Draft *draft)
+{
+    return percent(30) ? below((uint32_t)(draft->length < 12 ? draft->length : 12))
+                       : below((uint32_t)draft->length);
+}
+
+/* Numbers that are hard to read: longer than needed, or over the limit. */
+static void lengthen_number(Draft *draft, size_t place)
+{
+    static const uint8_t hard[][6] = {
+        {1, 0x00},
+        {1, 0x01},
+        {2, 0x80, 0x00},
+        {2, 0x80, 0x01},
+        {3, 0x80, 0x80, 0x00},
+        {4, 0x80, 0x80, 0x80, 0x00},
+        {4, 0x80, 0x80, 0x80, 0x0f},
+        {4, 0x80, 0x80, 0x80, 0x10},
+        {4, 0xff, 0xff, 0xff, 0x0f},
+        {4, 0xff, 0xff, 0xff, 0x8f},
+        {5, 0xff, 0xff, 0xff, 0x8f, 0x00},
+    };
+    const uint8_t *chosen = hard[below(sizeof hard / sizeof hard[0])];
+    draft->bytes[place] |= 128;
+    insert_bytes(draft, place + 1, chosen + 1, chosen[0]);
+}
+
+void damage_draft(Draft *draft, const Draft *other)
+{
+    for (uint32_t times = percent(70) ? 1 : between(1, 4); times > 0; times--) {
+        if (draft->length == 0)
+            return;
+        size_t place = any_place(draft);
+        size_t left = draft->length - place;
+        uint32_t run = 1 + below((uint32_t)(left < 12 ? left : 12));
+        static const uint8_t telling[] = {0, 1, 2, 3, 4, 5, 6, 7, 15, 16, 31, 32, 33, 35,
+                                          39, 40, 48, 64, 65, 126, 127, 128, 255};
+        switch (below(9)) {
+        case 0:
+        case 1:
+            draft->bytes[place] ^= (uint8_t)(1u << below(8));
+            break;
+        case 2:
+            draft->length = place;
+            break;
+        case 3: /* spliced with another image */
+            if (other->length > 0) {
+                size_t from = below((uint32_t)other->length);
+                size_t count = other->length - from;
+                draft->length = place;
+                insert_bytes(draft, place, other->bytes + from, count);
+            }
+            break;
+        case 4: { /* a section doubled */
+            uint8_t copy[16];
+            memcpy(copy, draft->bytes + place, run);
+            insert_bytes(draft, place, copy, run);
+            break;
+        }
+        case 5:
+            remove_bytes(draft, place, run);
+            break;
+        case 6:
+            lengthen_number(draft, place);
+            break;
+        case 7:
+            draft->bytes[place] = telling[below(sizeof telling)];
+            break;
+        default:
+            draft->bytes[place] = (uint8_t)(draft->bytes[place] + (percent(50) ? 1 : 255));
+            break;
+        }
+    }
+}
