@@ -1,0 +1,84 @@
+-- How nodes, sets, bodies and cells lie in the words of the table.
+use mathlib.Core.Path.{_≡_}
+use mathlib.Core.List.{List, [], _∷_}
+use Prim.Native.Nat.{ℕ, _+_, _*_, _/_, _%_, _<_}
+use lib.ListN.{getD}
+use lib.Seq.{sets}
+use Rattle.scopes.specs.declared.ScopeSet.{ScopeSet}
+use Rattle.table.specs.Tags.{functionTag}
+use Rattle.table.specs.declared.Node.{Node}
+use Rattle.table.specs.declared.Sets.{Sets}
+use Rattle.table.specs.declared.Object.{Object}
+use Rattle.table.specs.declared.Body.{Body}
+use Rattle.table.specs.declared.Cell.{Cell}
+
+-- ---- a scope set: its low word, then its high word
+
+unfoldable pub join : ℕ → ℕ → ℕ
+join low high = high * 4294967296 + low
+
+unfoldable pub getSet : List ℕ → ℕ → ScopeSet
+unfolding join
+getSet l i = record { bits = join (getD l i 0) (getD l (i + 1) 0) }
+
+unfoldable pub setWords : ScopeSet → List ℕ
+setWords s = s .bits % 4294967296 ∷ s .bits / 4294967296 ∷ []
+
+unfoldable pub putSet : List ℕ → ℕ → ScopeSet → List ℕ
+unfolding setWords
+putSet l i s = sets l i (setWords s)
+
+-- ---- a node
+
+unfoldable pub getNode : List ℕ → ℕ → Node
+getNode l i = record { tag = getD l i 0; content = getD l (i + 1) 0 }
+
+unfoldable pub nodeWords : Node → List ℕ
+nodeWords n = n .tag ∷ n .content ∷ []
+
+unfoldable pub putNode : List ℕ → ℕ → Node → List ℕ
+unfolding nodeWords
+putNode l i n = sets l i (nodeWords n)
+
+-- ---- a syntax object: its node, then the sets of phases 0, 1 and 2
+
+unfoldable pub getSets : List ℕ → ℕ → Sets
+unfolding getSet
+getSets l i = record { at0 = getSet l (i + 2); at1 = getSet l (i + 4); at2 = getSet l (i + 6) }
+
+unfoldable pub putSets : List ℕ → ℕ → Sets → List ℕ
+unfolding putSet
+putSets l i c = putSet (putSet (putSet l (i + 2) (c .at0)) (i + 4) (c .at1)) (i + 6) (c .at2)
+
+unfoldable pub putObject : List ℕ → ℕ → Object → List ℕ
+unfolding putNode putSets
+putObject l i o = putSets (putNode l i (o .node)) i (o .sets)
+
+-- ---- a function: its node, then its body
+
+unfoldable pub getBody : List ℕ → ℕ → Body
+getBody l i = record { at = getD l (i + 2) 0; size = getD l (i + 3) 0; nesting = getD l (i + 4) 0 }
+
+unfoldable pub functionWords : ℕ → Body → List ℕ
+functionWords n b = functionTag ∷ n ∷ b .at ∷ b .size ∷ b .nesting ∷ []
+
+unfoldable pub putFunction : List ℕ → ℕ → ℕ → Body → List ℕ
+unfolding functionWords
+putFunction l i n b = sets l i (functionWords n b)
+
+-- ---- a cell
+
+unfoldable pub getCell : List ℕ → ℕ → Cell
+getCell l i = record { head = getD l i 0; tail = getD l (i + 1) 0; weight = getD l (i + 2) 0; size = getD l (i + 3) 0; nesting = getD l (i + 4) 0 }
+
+unfoldable pub cellWords : Cell → List ℕ
+cellWords c = c .head ∷ c .tail ∷ c .weight ∷ c .size ∷ c .nesting ∷ []
+
+unfoldable pub putCell : List ℕ → ℕ → Cell → List ℕ
+unfolding cellWords
+putCell l i c = sets l i (cellWords c)
+
+-- ---- the two tables agree below n
+
+unfoldable pub Same : ℕ → List ℕ → List ℕ → Type 0
+Same n l l′ = (k : ℕ) → k < n → getD l′ k 0 ≡ getD l k 0
