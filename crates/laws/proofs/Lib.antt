@@ -2,7 +2,9 @@ pub mod Tests
 pub mod ScopeSets
 pub mod ResolveRule
 pub mod Stable
+pub mod ResolveExactly
 pub mod Order
 pub mod Members
 pub mod Store
 pub mod StepLaws
+pub mod Units
