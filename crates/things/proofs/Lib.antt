@@ -1,0 +1,5 @@
+pub mod Weighing
+pub mod Frame
+pub mod ByTag
+pub mod Measuring
+pub mod Making

@@ -1,0 +1,4 @@
+pub mod Weights
+pub mod Rep
+pub mod Measuring
+pub mod Making
