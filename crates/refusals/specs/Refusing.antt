@@ -1,4 +1,4 @@
--- The code's refusals as document 01's.
+-- The code's refusals as document 01's, and back.
 use Rattle.model.specs.Refusals as m
 use Rattle.refusals.specs.declared.Refusal.{Refusal}
 use Rattle.refusals.specs.declared.Refusal.the-variants.{Layout, OverLimit, Unowned, WrongKind, SmallTable, Ambiguous, NoMeaning, NoRule, NoSyntax, NotApplicable, WrongArgument, NoPhase, NoNameLeft, NoScopeLeft, NoBindingLeft, BoundAlready, TooDeep, TooManyEntries, OverBudget, TooLong}
@@ -24,3 +24,25 @@ refusalOf TooDeep = m.tooDeep
 refusalOf TooManyEntries = m.tooManyEntries
 refusalOf OverBudget = m.overBudget
 refusalOf TooLong = m.tooLong
+
+abbrev pub caseOf : m.Refusal → Refusal
+caseOf m.layout = Layout
+caseOf m.overLimit = OverLimit
+caseOf m.unowned = Unowned
+caseOf m.wrongKind = WrongKind
+caseOf m.smallTable = SmallTable
+caseOf m.ambiguous = Ambiguous
+caseOf m.noMeaning = NoMeaning
+caseOf m.noRule = NoRule
+caseOf m.noSyntax = NoSyntax
+caseOf m.notApplicable = NotApplicable
+caseOf m.wrongArgument = WrongArgument
+caseOf m.noPhase = NoPhase
+caseOf m.noNameLeft = NoNameLeft
+caseOf m.noScopeLeft = NoScopeLeft
+caseOf m.noBindingLeft = NoBindingLeft
+caseOf m.boundAlready = BoundAlready
+caseOf m.tooDeep = TooDeep
+caseOf m.tooManyEntries = TooManyEntries
+caseOf m.overBudget = OverBudget
+caseOf m.tooLong = TooLong

@@ -1,0 +1,4 @@
+pub mod Tails
+pub mod Answering
+pub mod Reading
+pub mod Writing
