@@ -14,7 +14,7 @@ use Rattle.refusals.proofs.Cases.{refusal-back, case-back}
 use Rattle.numbers.specs.declared.Cursor.{Cursor}
 use Rattle.numbers.specs.declared.Number.{Number}
 use Rattle.numbers.specs.declared.Number.the-variants as number
-use Rattle.numbers.specs.Answers.{answerAt}
+use Rattle.numbers.specs.Answers.{answerAt, numberAt}
 use Rattle.numbers.proofs.Tails.{Behind, Tail, tail-got, tail-fault, num-tail, up-to-tail, below-tail}
 
 -- the two ways of an answer are told apart, and give back what they hold
