@@ -3,3 +3,4 @@ pub mod Frame
 pub mod ByTag
 pub mod Measuring
 pub mod Making
+pub mod Unique
