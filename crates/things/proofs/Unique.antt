@@ -4,7 +4,6 @@ use mathlib.Core.List.{List}
 use mathlib.Core.Option.{Option, some}
 use Prim.Native.Nat.{ℕ, zero, suc, _+_, _≤_}
 use native.Mathlib.Omega.{arith}
-use Rattle.model.specs.Objects as m
 use Rattle.model.specs.Objects.{Atom, symbol, number, point, prim, rung, tagOf, contentOf, Stxs, nil, cons, atom, list}
 use Rattle.model.specs.Trees.{Tree, Trees, var, app, fun, datum, lst, stx, tnil, tcons, fromStxs, toStxs, asStx}
 use Rattle.table.specs.Tags.{listTag, atomValueTag}
@@ -46,7 +45,6 @@ pub one-list : (ps qs : Stxs) → fromStxs ps ≡ fromStxs qs → ps ≡ qs
 one-list ps qs e = let z : some ps ≡ some qs = sym (back-from ps) ∙ ap toStxs e ∙ back-from qs in cc
 
 -- ---- things and chains
-
 
 mutual
   pub one : {l : List ℕ} {m n i : ℕ} {t u : Tree} → Rep l m i t → Rep l n i u → t ≡ u

@@ -1,0 +1,48 @@
+-- The code's state as the rules' state, and what the code's charges do to it.
+use mathlib.Core.List.{List}
+use mathlib.Core.Bool.{Bool, true, false}
+use Prim.Native.Nat.{ℕ, _+_, _-_, _*_, _≤_}
+use lib.ListN.{length}
+use lib.Dec.{eqb, ltb}
+use Rattle.model.specs.Choice.{if_then_else_}
+use Rattle.model.specs.Resolving.{Bind}
+use Rattle.model.specs.Steps as m
+use Rattle.refusals.specs.declared.Refusal.{Refusal}
+use Rattle.refusals.specs.declared.Refusal.the-variants.{TooManyEntries, OverBudget}
+use Rattle.steps.specs.declared.State.{State}
+use Rattle.steps.specs.declared.Stop.{Stop}
+use Rattle.steps.specs.declared.Charged.{Charged}
+use Rattle.steps.specs.declared.Charged.the-variants.{Paid, Refused}
+
+-- what the first n places of the store stand for. Evaluate and parse take any; expand takes what its store's contents are.
+abbrev pub Store : Type 0
+Store = ℕ → List Bind
+
+abbrev pub stateOf : State → Store → m.State
+stateOf s b = record { left = s .units; names = s .names .0; scopes = s .scopes .0; binds = b (s .bindings) }
+
+abbrev pub stopOf : Refusal → State → Stop
+stopOf r s = record { refusal = r; units = s .units }
+
+abbrev pub paid : ℕ → State → State
+paid n s = record { top = s .top; units = s .units - n; names = s .names; scopes = s .scopes; bindings = s .bindings }
+
+abbrev pub raisedTo : ℕ → State → State
+raisedTo n s = record { top = n; units = s .units; names = s .names; scopes = s .scopes; bindings = s .bindings }
+
+unfoldable pub chargeOf : ℕ → State → Charged
+chargeOf n s = if ltb (s .units) n then Refused (stopOf OverBudget s) else Paid (paid n s)
+
+-- with so many entries to spare
+unfoldable pub enterOf : ℕ → State → Charged
+unfolding chargeOf
+enterOf left s = if eqb left 0 then Refused (stopOf TooManyEntries s) else chargeOf 1 s
+
+-- the words that the state may still come to use end here: what is left pays 16 words a unit
+abbrev pub end : State → ℕ
+end s = s .top + 16 * s .units
+
+pub record Room (l : List ℕ) (s : State) : Type 0 where
+  pub fits : end s ≤ length l
+  pub small : length l ≤ 65536
+  pub low : 1 ≤ s .top

@@ -1,0 +1,87 @@
+// Document 01, 'Expanding', its first paragraph: the state that expand, parse and evaluate hand on, what is charged, and when an entry
+// starts.
+use refusals::Refusal;
+use scopes::Name;
+use scopes::Scope;
+ghost use mathlib.Core.Path.{_≡_};
+ghost use Rattle.steps.specs.States.{raisedTo, chargeOf, enterOf};
+
+pub struct State {
+    // The first free word of the table.
+    pub top: u32,
+    // Units not yet charged.
+    pub units: u32,
+    // The next name.
+    pub names: Name,
+    // The last scope taken.
+    pub scopes: Scope,
+    // How many bindings the store has.
+    pub bindings: u32,
+}
+
+// A refusal, and the units not charged.
+pub struct Stop {
+    pub refusal: Refusal,
+    pub units: u32,
+}
+
+// Where the result lies, and the state after it.
+pub struct Out {
+    pub at: u32,
+    pub state: State,
+}
+
+pub enum Answer {
+    Done(Out),
+    Refused(Stop),
+}
+
+pub enum Charged {
+    Paid(State),
+    Refused(Stop),
+}
+
+impl State {
+    // Entries in progress.
+    pub const MOST_ENTRIES: u32 = 128;
+
+    // Nesting of what is made.
+    pub const MOST_NESTING: u32 = 64;
+
+    // The same with another first free word.
+    pub fn raised(self, top: u32) -> State
+        ensures { λ r. ⌜ r ≡ raisedTo top self ⌝ }
+    {
+        let mut s = self;
+        s.top = top;
+        s
+    }
+
+    pub fn charge(self, n: u32) -> Charged
+        ensures { λ r. ⌜ r ≡ chargeOf n self ⌝ }
+    {
+        let units = self.units;
+        if units < n {
+            return Charged::Refused(Stop {
+                refusal: Refusal::OverBudget,
+                units,
+            });
+        }
+        let mut s = self;
+        s.units = units - n;
+        Charged::Paid(s)
+    }
+
+    // Starts an entry with so many entries to spare.
+    pub fn enter(self, left: u32) -> Charged
+        ensures { λ r. ⌜ r ≡ enterOf left self ⌝ }
+    {
+        if left == 0 {
+            return Charged::Refused(Stop {
+                refusal: Refusal::TooManyEntries,
+                units: self.units,
+            });
+        }
+        self.charge(1)
+    }
+}
