@@ -22,7 +22,7 @@ use Rattle.model.specs.Expanding.{expand, coreOnly}
 use Rattle.model.specs.Jobs.{closed, start, expandRoot, parseRoot}
 use Rattle.laws.proofs.Members.{SetsIn}
 use Rattle.laws.proofs.Tests.{leb-le}
-use Rattle.codec_laws.proofs.SetTrip.{next-got, need-got}
+use Rattle.codec_laws.proofs.Sequence.{next-got, need-got}
 use Rattle.codec_laws.proofs.NumberTrip.{got-value, fault≢got}
 use Rattle.laws.proofs.Order.{Ascending, Sorted, sorted-keys}
 use Rattle.laws.proofs.StepLaws.{both-ok, spend, charge-ok, charge-is}

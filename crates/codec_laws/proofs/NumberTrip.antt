@@ -1,4 +1,4 @@
--- Reading back what was written, and writing again what was read: numbers and sets.
+-- Numbers: what is written is read back, and what is read is written again the same.
 use mathlib.Core.Path.{_≡_, refl, sym, ap, ap₂, _∙_, subst}
 use mathlib.Core.Logic.{_≢_}
 use Prim.Native.Nat.{ℕ, zero, suc, _+_, _-_, _*_, _/_, _%_, _^_, _≤_, _<_, zero-le, suc-le-suc}
@@ -11,6 +11,7 @@ use Rattle.model.specs.Choice.{if_then_else_}
 use Rattle.model.specs.Refusals.{Refusal, layout, overLimit}
 use Rattle.model.specs.Reading.{Read, got, fault, Reader, next, need, give, fail, byte, groups, num}
 use Rattle.model.specs.Writing.{groupsOf, numBytes}
+use Rattle.codec_laws.specs.WellFormed.{Bytes}
 use Rattle.laws.proofs.Tests.{leb-true, leb-false, ltb-true, ltb-false, eqb-false, leb-le, leb-gt, ltb-lt, ltb-ge, eqb-ne}
 
 read-small : (k w n m : ℕ) (rest : List ℕ) → ltb m 128 ≡ true → eqb m 0 ≡ false
@@ -70,10 +71,6 @@ num-back n rest h = go (ltb n 128) refl
         ∙ ap (λ (x : ℕ). got x rest) (omega (arith, div-add-mod' n 128)))
 
 -- ---- what is read is written back the same
-
-abbrev pub Bytes : List ℕ → Type 0
-Bytes [] = Unit {0}
-Bytes (b ∷ s) = (b < 256) × Bytes s
 
 pub fault≢got : {A : Type 0} (c : Refusal) (a : A) (s : List ℕ) → fault c ≡ got a s → ⊥
 fault≢got c a s e = subst code e tt

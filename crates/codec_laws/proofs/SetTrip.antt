@@ -1,4 +1,4 @@
--- A set is its ascending list of members: reading and writing sets.
+-- Sets: what is read is written again the same, and what is written is read back.
 use mathlib.Core.Path.{_≡_, refl, sym, ap, ap₂, _∙_, subst}
 use mathlib.Core.Logic.{_≢_, _⊎_, inl, inr}
 use Prim.Native.Nat.{ℕ, zero, suc, _+_, _-_, _*_, _/_, _%_, _^_, _≤_, _<_, zero-le, suc-le-suc}
@@ -18,7 +18,9 @@ use Rattle.model.specs.Scopes.{Scopes, digit, has, only, add, keep, membersFrom
 use Rattle.model.specs.Reading.{Read, got, fault, Reader, next, need, num, readMembers, readSet}
 use Rattle.model.specs.Writing.{numBytes, numsBytes, listBytes, setBytes}
 use Rattle.laws.proofs.Tests.{leb-true, leb-false, ltb-true, ltb-false, eqb-false, leb-le, leb-gt, ltb-lt, ltb-ge, eqb-ne}
-use Rattle.codec_laws.proofs.NumberTrip.{Bytes, num-back, num-same, fault≢got, got-value, got-rest}
+use Rattle.codec_laws.specs.WellFormed.{Bytes}
+use Rattle.codec_laws.proofs.NumberTrip.{num-back, num-same, got-value, got-rest}
+use Rattle.codec_laws.proofs.Sequence.{next-got, need-got, and-both, bytes-rest}
 use Rattle.laws.proofs.ScopeSets.{digit-zero, has-add, has-none, set-ext, digits-ext, eqb-true, eqb-eq}
 use Rattle.laws.proofs.Members.{Asc, member, asc-ext, Small, asc-of, addAll, set-of-members, members-of-set}
 
@@ -38,23 +40,6 @@ addAll-small p n [] m a h = h
 addAll-small p n (k ∷ l) m a h = addAll-small k n l (add k m) (a .2) (add-small k n m (a .1) h)
 
 -- ---- reading and writing
-
-pub next-got : {A B : Type 0} (r : Read A) (f : A → Reader B) (v : B) (rest : List ℕ) → next r f ≡ got v rest
-    → (a : A) × (t : List ℕ) × (r ≡ got a t) × (f a t ≡ got v rest)
-next-got (got a t) f v rest e = (a, t, refl, e)
-next-got (fault c) f v rest e = absurd (fault≢got c v rest e)
-
-pub need-got : (c : Refusal) (b : Bool) (v : Unit {0}) (s rest : List ℕ) → need c b s ≡ got v rest → (b ≡ true) × (s ≡ rest)
-need-got c true v s rest e = (refl, got-rest tt v s rest e)
-need-got c false v s rest e = absurd (fault≢got c v rest e)
-
-and-both : (x y : Bool) → (x && y) ≡ true → (x ≡ true) × (y ≡ true)
-and-both true y e = (refl, e)
-and-both false y e = absurd (false≢true e)
-
-pub bytes-rest : (s t : List ℕ) → Bytes (s ++ t) → Bytes t
-bytes-rest [] t h = h
-bytes-rest (b ∷ s) t h = bytes-rest s t (h .1)
 
 raise : (p n o : ℕ) (l : List ℕ) → n ≤ o → Asc p n l → Asc p o l
 raise p n o [] h a = tt
