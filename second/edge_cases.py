@@ -1,0 +1,958 @@
+"""Edge cases of document 01, worked out by hand.
+
+Each case is a reason, a call and the answer that document 01 asks for. The
+notation is the one of image.py. `steps` walks through the charges of a call
+one after another: with a budget just short of a charge the answer is code 19
+with the units charged before it, and with the whole budget the call ends.
+"""
+from image import (call, head, number, scope_set, sets, syntax_image, tree_image)
+
+CASES = []  # (reason, call bytes, job, code, units, name, output or None, table)
+UNKNOWN = object()  # an output or name that the case does not settle
+
+
+def case(reason, job, image, code=0, units=UNKNOWN, name=0, result=None, phase=0, budget=1024,
+         table=None, output=65536):
+    """result is the written image, needed when code is 0 and the job writes."""
+    column = "kept" if code == 5 or budget == 0 else "clear"
+    CASES.append((reason, call(job, image, phase, budget, table, output), job, code, units, name,
+                  result, column))
+
+
+def steps(reason, job, image, charges, code=0, result=None, phase=0, name=0):
+    """Every charge refused once, then the end of the call at its exact budget."""
+    spent = 0
+    for index, charge in enumerate(charges):
+        if charge > 0:
+            case(f"{reason}: charge {index + 1} of {len(charges)} is refused", job, image, 19,
+                 spent, phase=phase, budget=spent + charge - 1)
+        spent += charge
+    case(f"{reason}: {spent} units", job, image, code, spent, name, result, phase, budget=spent)
+
+
+# ==== the samples of document 01 ====
+
+XY = dict(words=["x", "y"], made=3, scopes=2)
+
+
+def sample(number_, reason, *given, **named):
+    case(f"sample {number_}: {reason}", *given, **named)
+
+
+sample(1, "no candidate", "resolve", syntax_image("x", **XY), 0, 1, 4)
+sample(2, "the larger set wins", "resolve",
+       syntax_image("x{1,2}", bindings=[("x", [], 6), ("x", [1], 7)], **XY), 0, 1, 7)
+sample(3, "neither contains the other", "resolve",
+       syntax_image("x{1,2}", bindings=[("x", [1], 6), ("x", [2], 7)], **XY), 6, 1)
+sample(4, "one contains both", "resolve",
+       syntax_image("x{1,2}", bindings=[("x", [1], 6), ("x", [2], 7), ("x", [1, 2], 8)], **XY),
+       0, 1, 8)
+sample(5, "the only binding is no candidate", "resolve",
+       syntax_image("x{2}", bindings=[("x", [1], 6)], **XY), 0, 1, 4)
+SIX = syntax_image("x{|1,2}", bindings=[("x", [1], 6)], **XY)
+sample(6, "phase 0", "resolve", SIX, 0, 1, 4, phase=0)
+sample(6, "phase 1", "resolve", SIX, 0, 1, 6, phase=1)
+
+IDENTITY = syntax_image("(lambda x x)")
+assert IDENTITY == bytes.fromhex("010101780000000500000003000000000000000000040000000004")
+IDENTITY_EXPANDED = syntax_image("(lambda x{1} x{1})", made=1, scopes=1, bindings=[("x", [1], 5)])
+IDENTITY_PARSED = tree_image("[5 $5]", words=["x"], made=1, scopes=1)
+sample(7, "expanded", "expand", IDENTITY, 0, 8, result=IDENTITY_EXPANDED)
+sample(7, "parsed", "parse", IDENTITY_EXPANDED, 0, 6, result=IDENTITY_PARSED)
+sample(8, "no meaning", "expand", syntax_image("x"), 7, 2)
+sample(9, "the empty list", "expand", syntax_image("()"), 8, 2)
+LAMBDAS = syntax_image("(lambda lambda{1} lambda{1})", made=1, scopes=1,
+                       bindings=[("lambda", [1], 4)])
+sample(10, "expanded", "expand", syntax_image("(lambda lambda lambda)"), 0, 8, result=LAMBDAS)
+sample(10, "parsed", "parse", LAMBDAS, 0, 6, result=tree_image("[4 $4]", made=1, scopes=1))
+sample(11, "the x of the template is not the x of the use", "expand",
+       syntax_image("(let-syntax m (lambda z (syntax x)) (lambda x (m)))"), 7, 47)
+# Scopes: 1 of the outer x, 2 of m, 3 of z (phase 1), 4 of the inner x, 5 use, 6 introduction.
+TWELVE = dict(words=["x", "m", "z"], made=4, scopes=6)
+TWELVE_EXPANDED = syntax_image(
+    "(lambda x{1} (lambda{1,2} x{1,2,4} x{1}){1,2}){}",
+    bindings=[("x", [1], 7), ("m", [1, 2], 8), ("z", [3], 9), ("x", [1, 2, 4], 10)], **TWELVE)
+sample(12, "expanded", "expand",
+       syntax_image("(lambda x (let-syntax m (lambda z (syntax x)) (lambda x (m))))",
+                    words=["x", "m", "z"]),
+       0, 66, result=TWELVE_EXPANDED)
+sample(12, "parsed", "parse", TWELVE_EXPANDED, 0, 7 + 3, result=tree_image("[7 [10 $7]]", **TWELVE))
+THIRTEEN = tree_image("([4 $4] 9)", made=1)
+sample(13, "nine", "evaluate", THIRTEEN, 0, 9, result=tree_image("9", made=1), budget=9)
+sample(13, "one unit short", "evaluate", THIRTEEN, 19, 8, budget=8)
+
+
+def nested(times, inner="1", opening="(", closing=")"):
+    return opening * times + inner + closing * times
+
+
+sample(14, "64 scopes are read", "resolve", syntax_image("x", scopes=64), 0, 1, 4)
+sample(14, "65 scopes are not", "resolve", syntax_image("x", scopes=65), 2, 0)
+sample(14, "nesting 64 is read", "resolve", syntax_image(nested(63)), 8, 64)
+sample(14, "nesting 65 is not", "resolve", syntax_image(nested(64)), 2, 0)
+case("wrong turn: the candidate with the most scopes", "resolve",
+     syntax_image("x{1,2,3}", words=["x", "y"], made=2, scopes=3,
+                  bindings=[("x", [1, 2], 6), ("x", [3], 7)]), 6, 1)
+
+# ==== budget, table, phase: 5, then 12, then the image ====
+
+ONE = syntax_image("1")
+case("budget 4,096 is the largest", "expand", ONE, 0, 2, result=ONE, budget=4096)
+for job in ("resolve", "expand", "parse", "evaluate"):
+    case(f"{job}: budget 4,097 with a table for it", job, ONE, 5, 0, budget=4097, table=70000)
+    case(f"{job}: one table word short", job, ONE, 5, 0, budget=1024, table=16383)
+    case(f"{job}: 5 before everything else", job, b"", 5, 0, budget=1, table=15, phase=9)
+    case(f"{job}: an empty image breaks the layout", job, b"", 1, 0)
+    case(f"{job}: an empty image with no budget at all", job, b"", 1, 0, budget=0, table=0)
+    case(f"{job}: the largest budget there is", job, ONE, 5, 0, budget=4294967295, table=70000)
+case("a budget of 1 with 16 table words", "resolve", syntax_image("x"), 0, 1, 4, budget=1, table=16)
+case("a table larger than needed", "resolve", syntax_image("x"), 0, 1, 4, budget=1, table=70000)
+case("a table larger than needed, no budget", "resolve", syntax_image("x"), 19, 0, budget=0,
+     table=40)
+for job in ("resolve", "expand"):
+    case(f"{job}: phase 3", job, ONE, 12, 0, phase=3)
+    case(f"{job}: the largest phase there is", job, ONE, 12, 0, phase=4294967295)
+    case(f"{job}: 12 before the image", job, b"", 12, 0, phase=3)
+    case(f"{job}: 12 before a long image", job, bytes(65537), 12, 0, phase=3)
+    case(f"{job}: 12 with no budget", job, ONE, 12, 0, phase=3, budget=0)
+case("resolve: phase 2 is the last", "resolve", syntax_image("x{||1}", made=1, scopes=1,
+     bindings=[("x", [1], 5)]), 0, 1, 5, phase=2)
+case("expand: phase 2 is the last", "expand", ONE, 0, 2, result=ONE, phase=2)
+case("parse takes no phase", "parse", ONE, 0, 2, result=tree_image("1"), phase=7)
+case("evaluate takes no phase", "evaluate", tree_image("1"), 0, 2, result=tree_image("1"), phase=7)
+
+# ==== kinds and numbers ====
+
+for job in ("resolve", "expand", "parse"):
+    case(f"{job}: kind 2 is not its kind", job, tree_image("1"), 4, 0)
+    case(f"{job}: kind 2 and no more", job, b"\x02", 4, 0)
+case("evaluate: kind 1 is not its kind", "evaluate", ONE, 4, 0)
+case("evaluate: kind 1 and no more", "evaluate", b"\x01", 4, 0)
+case("kind 0", "expand", b"\0", 1, 0)
+case("kind 3", "expand", b"\3", 1, 0)
+case("kind 1 and no more", "expand", b"\1", 1, 0)
+case("kind 2 not in its shortest form is 1, not 4", "expand", b"\x82\0", 1, 0)
+case("kind: a fifth byte of 16 comes before 4 or 1", "expand", b"\x82\x80\x80\x80\x10", 2, 0)
+case("kind: a fifth byte of 15 is read, and unknown", "expand", b"\x82\x80\x80\x80\x0f", 1, 0)
+case("kind: a number that does not end", "expand", b"\x81", 1, 0)
+case("kind: four bytes that do not end", "expand", b"\x81\x80\x80\x80", 1, 0)
+
+
+def atom_image(tag, content):
+    """A syntax image whose root is one atom with the bytes of its content given."""
+    return syntax_image(number(tag) + sets([]) + content)
+
+
+for content, value in ((b"\x7f", 127), (b"\x80\x01", 128), (b"\xff\x7f", 16383),
+                       (b"\x80\x80\x01", 16384), (b"\xff\xff\x7f", 2097151),
+                       (b"\x80\x80\x80\x01", 2097152), (b"\xff\xff\xff\x7f", 268435455),
+                       (b"\x80\x80\x80\x80\x01", 268435456), (b"\xff\xff\xff\xff\x0f", 4294967295)):
+    case(f"the number {value}", "parse", atom_image(1, content), 0, 2,
+         result=tree_image(b"\3\1" + content))
+case("a number whose fifth byte is 16", "parse", atom_image(1, b"\xff\xff\xff\xff\x10"), 2, 0)
+case("a number whose fifth byte goes on", "parse", atom_image(1, b"\xff\xff\xff\xff\x8f\0"), 2, 0)
+case("a number whose fifth byte is 128", "parse", atom_image(1, b"\x80\x80\x80\x80\x80"), 2, 0)
+for length in range(1, 5):
+    case(f"zero in {length + 1} bytes", "parse", atom_image(1, b"\x80" * length + b"\0"), 1, 0)
+    case(f"a number cut after {length} bytes", "parse", atom_image(1, b"\x80" * length), 1, 0)
+case("a number with a byte over its limit and a cut after it", "parse",
+     atom_image(1, b"\xff\xff\xff\xff\xff"), 2, 0)
+
+# ==== words ====
+
+
+def one_word(word, root="1"):
+    word = word if isinstance(word, bytes) else word.encode()
+    reader = syntax_image(root)[5:]
+    return b"\1\1" + number(len(word)) + word + b"\0\0\0" + reader
+
+
+def word_case(reason, word, good):
+    image = one_word(word)
+    if good:
+        case(reason, "expand", image, 0, 2, result=image)
+    else:
+        case(reason, "expand", image, 1, 0)
+
+
+word_case("a word of 32 bytes", "a" * 32, True)
+case("a word of 33 bytes", "expand", one_word("a" * 33), 2, 0)
+case("a word of 33 bytes is judged at its length", "expand", b"\1\1\x21", 2, 0)
+case("a word of no bytes", "expand", one_word(""), 1, 0)
+case("a word of no bytes comes before a fault after it", "expand", b"\1\1\0\x80\x80\x80\x80\x10", 1, 0)
+case("a word cut off", "expand", b"\1\1\3ab", 1, 0)
+case("a word length not in its shortest form", "expand", b"\1\1\x81\0a", 1, 0)
+for byte in (32, 127, 128, 255, 0, 10):
+    word_case(f"byte {byte} in a word", bytes([97, byte]), False)
+for byte in (33, 126, ord("0"), ord("9"), ord("@"), ord('"'), ord("*"), ord(":"), ord("$")):
+    word_case(f"byte {byte} inside a word", bytes([97, byte]), True)
+for char in "();'#":
+    word_case(f"{char} first in a word", char, False)
+    word_case(f"{char} inside a word", "a" + char, False)
+for char in "0123456789@":
+    word_case(f"{char} first in a word", char + "a", False)
+for char in "!~/:?A\"$%&*+,-.<=>[]^_`{|}":
+    word_case(f"{char} first in a word", char, True)
+for word in ("lambda", "let-syntax", "quote", "syntax"):
+    word_case(f"the core word {word}", word, False)
+    word_case(f"nearly the core word {word}", word + "s", True)
+    word_case(f"the beginning of {word}", word[:-1], True)
+    word_case(f"{word} with a capital", word.capitalize(), True)
+case("two words the same", "expand", head(1, ["x", "y", "x"], 0, 0) + b"\0" + b"\1\0\0\0\1", 1, 0)
+case("words that begin the same", "expand", head(1, ["x", "xx", "y"], 0, 0) + b"\0\1\0\0\0\1", 0, 2,
+     result=head(1, ["x", "xx", "y"], 0, 0) + b"\0\1\0\0\0\1")
+case("a bad word comes before a bad length after it", "expand", b"\1\2\1(\x21", 1, 0)
+case("a doubled word comes before a bad length after it", "expand", b"\1\3\1x\1x\x21", 1, 0)
+
+# ==== counts ====
+
+MANY = ["w%03d" % i for i in range(510)]
+ROOT = b"\1\0\0\0\1"
+
+
+def counted(words, made, scopes, after=b"\0" + ROOT):
+    return head(1, MANY[:words], made, scopes) + after
+
+
+case("508 words", "resolve", counted(508, 0, 0), 8, 1)
+case("509 words are judged at their count", "resolve", b"\1" + number(509), 2, 0)
+case("508 words, and then the image ends", "resolve", b"\1" + number(508), 1, 0)
+case("508 words and a made name", "resolve", counted(508, 1, 0), 2, 0)
+case("508 made names", "resolve", counted(0, 508, 0), 8, 1)
+case("509 made names are judged at their count", "resolve", b"\1\0" + number(509), 2, 0)
+case("words and made names fill the names", "resolve", counted(100, 408, 0), 8, 1)
+case("words and made names, one too many", "resolve", counted(100, 409, 0), 2, 0)
+case("a very large count of made names", "resolve", counted(3, 4294967295, 0), 2, 0)
+case("64 scopes", "resolve", counted(0, 0, 64), 8, 1)
+case("65 scopes are judged at their count", "resolve", b"\1\0\0\x41", 2, 0)
+case("evaluate: 65 scopes", "evaluate", b"\2\0\0\x41", 2, 0)
+case("evaluate: 64 scopes", "evaluate", b"\2\0\0\x40\3\1\1", 0, 2, result=b"\2\0\0\x40\3\1\1")
+case("evaluate: 513 names", "evaluate", b"\2\0" + number(509), 2, 0)
+
+PAIRS = sorted([[a] for a in range(1, 17)] + [[a, b] for a in range(1, 17) for b in range(a + 1, 17)])
+
+
+def many_bindings(count, **named):
+    return dict(scopes=16, bindings=[("x", s, 4) for s in PAIRS[:count]], **named)
+
+
+case("128 bindings", "resolve", syntax_image("x{1}", **many_bindings(128)), 0, 1, 4)
+case("129 bindings", "resolve", syntax_image("x{1}", **many_bindings(129)), 2, 0)
+case("129 bindings are judged at their count", "resolve", b"\1\0\0\0" + number(129), 2, 0)
+
+# ==== sets and bindings ====
+
+
+def with_set(bytes_, scopes=2):
+    return head(1, ["x"], 1, scopes) + b"\0\0" + bytes_ + b"\0\0\4"
+
+
+case("a set of all scopes", "resolve", with_set(b"\2\1\2"), 0, 1, 4)
+for reason, bytes_ in (("scope 0", b"\1\0"), ("an undeclared scope", b"\1\3"),
+                       ("scopes that fall", b"\2\2\1"), ("a scope twice", b"\2\1\1"),
+                       ("a count longer than the set", b"\3\1\2"),
+                       ("a very large count", b"\xff\xff\xff\xff\x0f\1\2")):
+    case(f"set: {reason}", "resolve", with_set(bytes_), 1, 0)
+case("set: the first fault decides, a fifth byte of 16", "resolve",
+     with_set(b"\4\1\x80\x80\x80\x80\x10"), 2, 0)
+case("set: a falling scope before a fifth byte of 16", "resolve",
+     with_set(b"\4\2\1\x80\x80\x80\x80\x10"), 1, 0)
+case("set: scope 64", "resolve", with_set(b"\1\x40", 64), 0, 1, 4)
+case("set: all 64 scopes", "resolve", with_set(b"\x40" + bytes(range(1, 65)), 64), 0, 1, 4)
+
+
+def bound(rows, root="x", made=3, scopes=3, words=("x", "y")):
+    """rows are (symbol, target, scopes), left in the order given."""
+    body = b"".join(number(s) + number(t) + scope_set(z) for s, t, z in rows)
+    root = syntax_image(root, words=words, scopes=scopes)
+    return head(1, list(words), made, scopes) + number(len(rows)) + body + \
+        root[len(head(1, list(words), 0, scopes)) + 1:]
+
+
+case("bindings ascend by symbol, then by set, a prefix first", "resolve",
+     bound([(0, 6, [3]), (4, 6, []), (4, 6, [1]), (4, 6, [1, 2]), (4, 6, [1, 2, 3]), (4, 6, [1, 3]),
+            (4, 7, [2]), (4, 6, [2, 3]), (4, 6, [3]), (5, 6, [])], "x{2}"), 0, 1, 7)
+for reason, rows in (("symbols that fall", [(5, 6, []), (4, 6, [])]),
+                     ("a binding twice", [(4, 6, [1]), (4, 6, [1])]),
+                     ("a binding twice with another target", [(4, 6, [1]), (4, 7, [1])]),
+                     ("the empty set after another", [(4, 6, [1]), (4, 6, [])]),
+                     ("a longer set before its prefix", [(4, 6, [1, 2]), (4, 6, [1])]),
+                     ("{2} before {1,3}", [(4, 6, [2]), (4, 6, [1, 3])]),
+                     ("{1,3} before {1,2,3}", [(4, 6, [1, 3]), (4, 6, [1, 2, 3])]),
+                     ("an undeclared symbol", [(6, 6, [])]),
+                     ("a made name as symbol", [(7, 6, [])]),
+                     ("an undeclared target", [(4, 9, [])]),
+                     ("an undeclared scope", [(4, 6, [4])])):
+    case(f"bindings: {reason}", "resolve", bound(rows), 1, 0)
+case("bindings: the last name as target", "resolve", bound([(4, 8, [])]), 0, 1, 8)
+case("bindings: a core name as target", "resolve", bound([(4, 3, [])]), 0, 1, 3)
+case("bindings: order waits until the binding is whole", "resolve",
+     head(1, ["x", "y"], 3, 3) + b"\2\5\6\0\4\x80\x80\x80\x80\x10", 2, 0)
+case("bindings: an undeclared symbol does not wait", "resolve",
+     head(1, ["x", "y"], 3, 3) + b"\1\x06\x80\x80\x80\x80\x10", 1, 0)
+case("bindings: an undeclared target does not wait", "resolve",
+     head(1, ["x", "y"], 3, 3) + b"\1\4\x09\x80\x80\x80\x80\x10", 1, 0)
+
+# ==== objects ====
+
+for reason, image in (("tag 6", atom_image(6, b"\0")),
+                      ("a tag is judged before the sets", syntax_image(b"\6\x80\x80\x80\x80\x10")),
+                      ("no sets", syntax_image(b"\0")), ("no content", syntax_image(b"\0\0\0\0")),
+                      ("an undeclared symbol", atom_image(0, b"\4")),
+                      ("a byte after the root", ONE + b"\0"),
+                      ("a list longer than the image", syntax_image(b"\5\0\0\0\2" + ROOT)),
+                      ("a list of very many", syntax_image(b"\5\0\0\0\xff\xff\xff\xff\x0f" + ROOT)),
+                      ("no root", syntax_image(b""))):
+    case(f"object: {reason}", "parse", image, 1, 0)
+case("object: the last core symbol", "resolve", atom_image(0, b"\3"), 0, 1, 3)
+case("object: a made name is no symbol", "resolve", head(1, [], 1, 0) + b"\0\0\0\0\0\4", 1, 0)
+for reason, tag, largest in (("point", 2, 1023), ("primitive", 3, 6), ("rung word", 4, 15)):
+    case(f"object: {reason} {largest}", "parse", atom_image(tag, number(largest)), 0, 2,
+         result=tree_image(b"\3" + number(tag) + number(largest)))
+    case(f"object: {reason} {largest + 1}", "parse", atom_image(tag, number(largest + 1)), 2, 0)
+    case(f"tree: {reason} {largest}", "evaluate",
+         tree_image(b"\3" + number(tag) + number(largest)), 0, 2,
+         result=tree_image(b"\3" + number(tag) + number(largest)))
+    case(f"tree: {reason} {largest + 1}", "evaluate",
+         tree_image(b"\3" + number(tag) + number(largest + 1)), 2, 0)
+case("level 64 may hold an empty list", "resolve", syntax_image(nested(63, "()")), 8, 64)
+LISTS = b"\5\0\0\0\1"
+case("level 65 where the image ends", "resolve", syntax_image(LISTS * 64), 2, 0)
+case("level 65 comes before an unknown tag", "resolve", syntax_image(LISTS * 64 + b"\x09"), 2, 0)
+case("level 64 with an unknown tag", "resolve", syntax_image(LISTS * 63 + b"\x09"), 1, 0)
+case("level 64 where the image ends", "resolve", syntax_image(LISTS * 63), 1, 0)
+case("level 65 comes before a tag with a fifth byte of 16", "resolve",
+     syntax_image(LISTS * 64 + b"\x80\x80\x80\x80\x10"), 2, 0)
+
+# ==== trees ====
+
+for reason, root in (("tag 6", b"\6"), ("an application of nothing", b"\1\0"),
+                     ("an application of nothing, judged at once", b"\1\0\x80\x80\x80\x80\x10"),
+                     ("an atom of tag 5", b"\3\5\0"), ("an undeclared name", b"\0\5"),
+                     ("a function with an undeclared name", b"\2\5\0\4"),
+                     ("a function with an undeclared name, judged at once",
+                      b"\2\5\x80\x80\x80\x80\x10"),
+                     ("a variable in a list value", b"\2\4\4\1\0\4"),
+                     ("an application in a list value", b"\4\1\1\1\3\1\1"),
+                     ("an application in a list value, judged at its tag",
+                      b"\4\1\1\x80\x80\x80\x80\x10"),
+                     ("a symbol that is a made name", b"\3\0\4"),
+                     ("a byte after the root", b"\3\1\1\0"),
+                     ("a syntax value with an unknown tag", b"\5\6"),
+                     ("a function with no body", b"\2\4"), ("no root", b"")):
+    case(f"tree: {reason}", "evaluate", tree_image(root, made=1), 1, 0)
+case("tree: a function in a list value may hold a variable", "evaluate",
+     tree_image("<[4 $4]>", made=1), 0, 4, result=tree_image("<[4 $4]>", made=1))
+case("tree: names 0 to 3 are names like any other", "evaluate", tree_image("([0 $0] 9)"), 0, 9,
+     result=tree_image("9"))
+case("tree: the last name", "evaluate", tree_image("[511 $511]", made=508), 0, 3,
+     result=tree_image("[511 $511]", made=508))
+for reason, opening, closing in (("list values", "<", ">"), ("functions", "[0 ", "]")):
+    case(f"tree: 64 levels of {reason}", "evaluate", tree_image(nested(63, "1", opening, closing)),
+         0, 65, result=tree_image(nested(63, "1", opening, closing)))
+    case(f"tree: 65 levels of {reason}", "evaluate", tree_image(nested(64, "1", opening, closing)),
+         2, 0)
+case("tree: 64 levels of applications, the innermost applied to nothing", "evaluate",
+     tree_image(nested(63)), 10, 64 + 64)
+case("tree: 65 levels of applications", "evaluate", tree_image(nested(64)), 2, 0)
+case("tree: level 65 where the image ends", "evaluate", tree_image(b"\4\1" * 64), 2, 0)
+case("tree: level 65 comes before an unknown tag", "evaluate", tree_image(b"\4\1" * 64 + b"\7"), 2, 0)
+case("tree: level 65 comes before a part that is no value", "evaluate",
+     tree_image(b"\4\1" * 64 + b"\0\0"), 2, 0)
+case("tree: a syntax value's object stands at its level", "evaluate",
+     tree_image(nested(63, "`1", "<", ">")), 0, 65, result=tree_image(nested(63, "`1", "<", ">")))
+case("tree: a syntax value at level 64 with a part", "evaluate",
+     tree_image(nested(63, "`(1)", "<", ">")), 2, 0)
+case("tree: a syntax value at level 63 with a part", "evaluate",
+     tree_image(nested(62, "`(1)", "<", ">")), 0, 65,
+     result=tree_image(nested(62, "`(1)", "<", ">")))
+case("tree: a syntax value of 64 levels", "evaluate", tree_image("`" + nested(63)), 0, 65,
+     result=tree_image("`" + nested(63)))
+case("tree: a syntax value of 65 levels", "evaluate", tree_image("`" + nested(64)), 2, 0)
+
+# ==== code 3 ====
+
+case("3: a free variable", "evaluate", tree_image("$0"), 3, 0)
+case("3: the function has another name", "evaluate", tree_image("[0 $1]"), 3, 0)
+case("3: beside the function, not inside", "evaluate", tree_image("([0 $0] $0)"), 3, 0)
+case("3: deep in a list value", "evaluate", tree_image("<1 <[0 [1 $2]]>>"), 3, 0)
+case("3: an outer function will do", "evaluate", tree_image("[0 [1 ($0 $1)]]"), 0, 6,
+     result=tree_image("[0 [1 ($0 $1)]]"))
+case("3: not in syntax values", "evaluate", tree_image("`x"), 0, 2, result=tree_image("`x"))
+case("3: before the charge for loading", "evaluate", tree_image("$0"), 3, 0, budget=0)
+case("3: after the layout", "evaluate", tree_image("$0") + b"\0", 1, 0)
+case("3: a variable that would never be met", "evaluate", tree_image("(#pick 1 2 [0 $1])"), 3, 0)
+
+# ==== loading ====
+
+case("loading is the first charge", "expand", syntax_image("(1 (2 ()) x)"), 19, 0, budget=5)
+steps("resolve pays for loading only", "resolve", syntax_image("x"), [1], name=4)
+steps("resolve: no identifier is 8 after the charge", "resolve", syntax_image("(1 2)"), [3], 8)
+steps("resolve: a number is no identifier", "resolve", syntax_image("1"), [1], 8)
+steps("resolve: 6 after the charge", "resolve",
+      syntax_image("x{1,2}", scopes=2, bindings=[("x", [1], 4), ("x", [2], 4)]), [1], 6)
+steps("loading counts a syntax value as its object", "evaluate",
+      tree_image("<`(1 (2 3)) 4>"), [7, 1], result=tree_image("<`(1 (2 3)) 4>"))
+steps("loading counts every part of a tree", "evaluate", tree_image("[0 (<1 [1 $0]> $0)]"),
+      [7, 1], result=tree_image("[0 (<1 [1 $0]> $0)]"))
+case("a root of size 4,097 is never loaded", "resolve",
+     syntax_image("(" + " ".join(["1"] * 4096) + ")"), 19, 0, budget=4096)
+case("a root of size 4,096 is loaded", "resolve",
+     syntax_image("(" + " ".join(["1"] * 4095) + ")"), 8, 4096, budget=4096)
+
+# ==== resolving ====
+
+RESOLVE = dict(words=["x", "y"], made=6, scopes=4)
+
+
+def resolving(reason, text, rows, code, name=0, phase=0):
+    case(f"resolve: {reason}", "resolve", syntax_image(text, bindings=rows, **RESOLVE), code, 1,
+         name, phase=phase)
+
+
+resolving("another symbol's binding is no candidate", "x{1}", [("y", [1], 6)], 0, 4)
+resolving("the empty set is always contained", "x", [("x", [], 6)], 0, 6)
+resolving("the sets may be equal", "x{1,2}", [("x", [1, 2], 6)], 0, 6)
+resolving("a set that is larger is no candidate", "x{1,2}", [("x", [1, 2, 3], 6), ("x", [1], 7)], 0, 7)
+resolving("a chain of candidates", "x{1,2,3}",
+          [("x", [], 6), ("x", [1], 7), ("x", [1, 2], 8), ("x", [1, 2, 3], 9)], 0, 9)
+resolving("two pairs that share a scope", "x{1,2,3}", [("x", [1, 2], 6), ("x", [2, 3], 7)], 6)
+resolving("the union of two pairs settles it", "x{1,2,3}",
+          [("x", [1, 2], 6), ("x", [2, 3], 7), ("x", [1, 2, 3], 8)], 0, 8)
+resolving("larger than the union is no candidate", "x{1,2,3}",
+          [("x", [1, 2], 6), ("x", [2, 3], 7), ("x", [1, 2, 3, 4], 8)], 6)
+resolving("three that meet nowhere", "x{1,2,3}", [("x", [1], 6), ("x", [2], 7), ("x", [3], 8)], 6)
+resolving("one contains another, the third neither", "x{1,2,3}",
+          [("x", [1], 6), ("x", [1, 2], 7), ("x", [3], 8)], 6)
+resolving("the same target does not help", "x{1,2}", [("x", [1], 6), ("x", [2], 6)], 6)
+resolving("a core symbol may be bound", "lambda{1}", [("lambda", [1], 6)], 0, 6)
+resolving("a core symbol not bound here", "lambda", [("lambda", [1], 6)], 0, 0)
+resolving("only the phase's own set counts", "x{1|2|3}", [("x", [1], 6), ("x", [2], 7), ("x", [3], 8)],
+          0, 7, phase=1)
+resolving("only the phase's own set counts", "x{1|2|3}", [("x", [1], 6), ("x", [2], 7), ("x", [3], 8)],
+          0, 8, phase=2)
+
+# ==== expanding: identifiers, atoms, applications ====
+
+steps("expand: a number stays", "expand", ONE, [1, 1], result=ONE)
+for text in ("@1023", "#6", "'15", "4294967295"):
+    case(f"expand: {text} stays", "expand", syntax_image(text + "{1|1|1}", scopes=1), 0, 2,
+         result=syntax_image(text + "{1|1|1}", scopes=1))
+steps("expand: an identifier without meaning", "expand", syntax_image("x"), [1, 1], 7)
+steps("expand: an ambiguous identifier", "expand",
+      syntax_image("x{1,2}", scopes=2, bindings=[("x", [1], 4), ("x", [2], 4)]), [1, 1], 6)
+for word in ("lambda", "let-syntax", "quote", "syntax"):
+    steps(f"expand: {word} alone", "expand", syntax_image(word), [1, 1], 8)
+case("expand: a word bound to a core form alone", "expand",
+     syntax_image("x{1}", scopes=1, bindings=[("x", [1], 2)]), 8, 2)
+case("expand: a core word bound to a word has no meaning", "expand",
+     syntax_image("lambda{1}", words=["x"], scopes=1, bindings=[("lambda", [1], 4)]), 7, 2)
+steps("expand: the empty list", "expand", syntax_image("()"), [1, 1], 8)
+steps("expand: 7 comes with the head's own entry", "expand", syntax_image("(x)"), [2, 1, 1], 7)
+steps("expand: an ambiguous head", "expand",
+      syntax_image("(x{1,2} ())", scopes=2, bindings=[("x", [1], 4), ("x", [2], 4)]), [3, 1], 6)
+steps("expand: parts left to right", "expand", syntax_image("(1 () x)"), [4, 1, 1, 1], 8)
+steps("expand: parts left to right, the other way", "expand", syntax_image("(1 x ())"),
+      [4, 1, 1, 1], 7)
+steps("expand: every part of an application", "expand", syntax_image("(1 (2 3){1|2|3} 'and){2}",
+      scopes=3), [6, 1, 1, 1, 1, 1, 1], result=syntax_image("(1 (2 3){1|2|3} 'and){2}", scopes=3))
+case("expand: the last part is expanded too", "expand",
+     syntax_image("(1 (lambda x x))"), 0, 6 + 1 + 1 + 4,
+     result=syntax_image("(1 (lambda x{1} x{1}))", made=1, scopes=1, bindings=[("x", [1], 5)]))
+
+# ==== expanding: lambda ====
+
+steps("expand: lambda", "expand", IDENTITY, [4, 1, 1, 1, 1], result=IDENTITY_EXPANDED)
+steps("expand: lambda's body is charged whole", "expand", syntax_image("(lambda x (1 (2 x)))"),
+      [8, 1, 1, 5, 1, 1, 1, 1, 1], result=syntax_image("(lambda x{1} (1{1} (2{1} x{1}){1}){1})",
+      made=1, scopes=1, bindings=[("x", [1], 5)]))
+for text in ("(lambda)", "(lambda x)", "(lambda x x x)", "(lambda (x) x)", "(lambda 1 x)",
+             "(lambda () x)", "(lambda @1 1)"):
+    case(f"expand: the shape {text}", "expand", syntax_image(text), 8)
+case("expand: the shape is tested before a name is taken", "expand",
+     syntax_image("(lambda x)", made=507), 8, 4)
+FULL = dict(words=["x"], made=507)
+case("expand: no name left", "expand", syntax_image("(lambda x x)", **FULL), 13, 5)
+case("expand: the last name", "expand", syntax_image("(lambda x x)", words=["x"], made=506), 0, 8,
+     result=syntax_image("(lambda x{1} x{1})", words=["x"], made=507, scopes=1,
+                         bindings=[("x", [1], 511)]))
+case("expand: no scope left", "expand", syntax_image("(lambda x x)", scopes=64), 14, 5)
+case("expand: the last scope", "expand", syntax_image("(lambda x x)", scopes=63), 0, 8,
+     result=syntax_image("(lambda x{64} x{64})", made=1, scopes=64, bindings=[("x", [64], 5)]))
+case("expand: no name comes before no scope", "expand",
+     syntax_image("(lambda x x)", scopes=64, **FULL), 13, 5)
+case("expand: no name comes before the charge", "expand",
+     syntax_image("(lambda x x)", **FULL), 13, 5, budget=5)
+case("expand: no scope comes before the charge", "expand",
+     syntax_image("(lambda x x)", scopes=64), 14, 5, budget=5)
+case("expand: no binding room", "expand", syntax_image("(lambda x x)", **many_bindings(128)), 15, 6)
+case("expand: the charge comes before no binding room", "expand",
+     syntax_image("(lambda x x)", **many_bindings(128)), 19, 5, budget=5)
+case("expand: no scope comes before no binding room", "expand",
+     syntax_image("(lambda x x)", words=["x"], scopes=64,
+                  bindings=[("x", s, 4) for s in PAIRS[:128]]), 14, 5)
+LAST_ROOM = many_bindings(127)
+case("expand: the last binding room", "expand", syntax_image("(lambda x x)", **LAST_ROOM), 0, 8,
+     result=syntax_image("(lambda x{17} x{17})", made=1, scopes=17,
+                         bindings=LAST_ROOM["bindings"] + [("x", [17], 5)]))
+case("expand: the new binding is put in order", "expand",
+     syntax_image("(lambda x{1,3} x{1,3})", words=["w", "x", "y"], scopes=4,
+                  bindings=[("w", [1], 4), ("x", [1], 4), ("x", [1, 4], 4), ("x", [2], 4),
+                            ("y", [], 4)]), 0, 8,
+     result=syntax_image("(lambda x{1,3,5} x{1,3,5})", words=["w", "x", "y"], made=1, scopes=5,
+                         bindings=[("w", [1], 4), ("x", [1], 4), ("x", [1, 3, 5], 7),
+                                   ("x", [1, 4], 4), ("x", [2], 4), ("y", [], 4)]))
+case("expand: a word bound to lambda's name is lambda", "expand",
+     syntax_image("(x{1} y y)", words=["x", "y"], scopes=1, bindings=[("x", [1], 0)]), 0, 8,
+     result=syntax_image("(x{1} y{2} y{2})", words=["x", "y"], made=1, scopes=2,
+                         bindings=[("x", [1], 0), ("y", [2], 6)]))
+case("expand: lambda bound to a word is no core form", "expand",
+     syntax_image("(lambda{1} 1 2)", words=["x"], scopes=1, bindings=[("lambda", [1], 4)]), 7, 6)
+case("expand: lambda means what is bound, not what is spelled", "expand",
+     syntax_image("(lambda lambda (lambda lambda lambda))"), 0, 17,
+     result=syntax_image("(lambda lambda{1} (lambda{1} lambda{1} lambda{1}){1})", made=1, scopes=1,
+                         bindings=[("lambda", [1], 4)]))
+case("expand: a variable gives its binder, with the binder's sets", "expand",
+     syntax_image("(lambda x{|1} x{2|2})", scopes=2), 0, 8,
+     result=syntax_image("(lambda x{3|1} x{3|1})", made=1, scopes=3, bindings=[("x", [3], 5)]))
+case("expand: scopes go to the phase at hand", "expand", IDENTITY, 0, 8, phase=1,
+     result=syntax_image("(lambda x{|1} x{|1})", made=1, scopes=1, bindings=[("x", [1], 5)]))
+case("expand: scopes go to the phase at hand", "expand", IDENTITY, 0, 8, phase=2,
+     result=syntax_image("(lambda x{||1} x{||1})", made=1, scopes=1, bindings=[("x", [1], 5)]))
+case("expand: the inner of two binders", "expand", syntax_image("(lambda x (lambda x x))"), 0,
+     7 + 1 + 1 + 4 + 1 + 1 + 1 + 1,
+     result=syntax_image("(lambda x{1} (lambda{1} x{1,2} x{1,2}){1})", made=2, scopes=2,
+                         bindings=[("x", [1], 5), ("x", [1, 2], 6)]))
+case("expand: a variable has no meaning outside its lambda", "expand",
+     syntax_image("((lambda x x) x)"), 7, 6 + 1 + 4 + 1)
+
+# ==== expanding: quote and syntax ====
+
+steps("expand: quote stays as it is", "expand", syntax_image("(quote (x{1} () (lambda)))", scopes=1),
+      [7, 1], result=syntax_image("(quote (x{1} () (lambda)))", scopes=1))
+for text, size in (("(quote)", 2), ("(quote x x)", 4), ("(syntax)", 2), ("(syntax x x)", 4)):
+    steps(f"expand: the shape {text}", "expand", syntax_image(text), [size, 1], 8)
+steps("expand: syntax is charged, though nothing is prunable", "expand",
+      syntax_image("(syntax (x{1} 1))", scopes=1), [5, 1, 3],
+      result=syntax_image("(syntax (x{1} 1))", scopes=1))
+case("expand: syntax prunes the scope of lambda, and no other", "expand",
+     syntax_image("(lambda x (syntax (x{1|1} y){1}))", words=["x", "y"], scopes=1), 0,
+     8 + 1 + 1 + 5 + 1 + 3,
+     result=syntax_image("(lambda x{2} (syntax{2} (x{1|1} y){1}){2})", words=["x", "y"], made=1,
+                         scopes=2, bindings=[("x", [2], 6)]))
+case("expand: syntax prunes the scopes of both binders around it", "expand",
+     syntax_image("(lambda x (lambda y (syntax (x y))))", words=["x", "y"]), 0,
+     11 + 2 + 8 + 2 + 5 + 1 + 3,
+     result=syntax_image("(lambda x{1} (lambda{1} y{1,2} (syntax{1,2} (x y)){1,2}){1})",
+                         words=["x", "y"], made=2, scopes=2,
+                         bindings=[("x", [1], 6), ("y", [1, 2], 7)]))
+case("expand: a lambda beside it is not prunable", "expand",
+     syntax_image("((lambda x x) (syntax x{1}))", scopes=1), 0, 8 + 1 + 4 + 1 + 1,
+     result=syntax_image("((lambda x{2} x{2}) (syntax x{1}))", made=1, scopes=2,
+                         bindings=[("x", [2], 5)]))
+
+# ==== expanding: let-syntax and macro uses ====
+
+for text in ("(let-syntax)", "(let-syntax m)", "(let-syntax m 1)", "(let-syntax m 1 1 1)",
+             "(let-syntax 1 1 1)", "(let-syntax (m) 1 1)", "(let-syntax () 1 1)"):
+    case(f"expand: the shape {text}", "expand", syntax_image(text), 8)
+case("expand: let-syntax, no name left", "expand", syntax_image("(let-syntax m 1 1)", made=507), 13, 6)
+case("expand: let-syntax, no scope left", "expand", syntax_image("(let-syntax m 1 1)", scopes=64), 14, 6)
+case("expand: let-syntax, no binding room", "expand",
+     syntax_image("(let-syntax x 1 1)", **many_bindings(128)), 15, 7)
+case("expand: a let-syntax whose macro is not used", "expand", syntax_image("(let-syntax m 1 1)"), 0,
+     5 + 1 + 1 + 3 + 1 + 1, result=syntax_image("1{1}", words=["m"], made=1, scopes=1,
+                                                bindings=[("m", [1], 5)]))
+steps("expand: no phase above phase 2", "expand", syntax_image("(let-syntax m 1 1)"), [5, 1, 1], 12,
+      phase=2)
+case("expand: no binding room comes before no phase", "expand",
+     syntax_image("(let-syntax x 1 1)", **many_bindings(128)), 15, 7, phase=2)
+case("expand: a right-hand side inside a right-hand side", "expand",
+     syntax_image("(let-syntax m (let-syntax n (let-syntax k 1 1) 1) 1)"), 12,
+     13 + 1 + 1 + 1 + 1 + 1 + 1)
+case("expand: two phases up is as far as it goes", "expand",
+     syntax_image("(let-syntax m (let-syntax n 1 2) 3)", words=["m", "n"]), 0,
+     9 + 1 + 1 + (1 + 1 + 3 + 1 + 1) + 2 + 1 + 1,
+     result=syntax_image("3{1}", words=["m", "n"], made=2, scopes=2,
+                         bindings=[("m", [1], 6), ("n", [2], 7)]))
+case("expand: a macro alone", "expand", syntax_image("(let-syntax m 1 m)"), 8, 5 + 2 + 3 + 1 + 1)
+case("expand: the right-hand side does not get the scope", "expand",
+     syntax_image("(let-syntax m (syntax m) (quote m))"), 0, 9 + 2 + (1 + 1) + 1 + 1 + 3 + 1,
+     result=syntax_image("(quote{1} m{1}){1}", words=["m"], made=1, scopes=1,
+                         bindings=[("m", [1], 5)]))
+case("expand: the words around have no meaning in a right-hand side", "expand",
+     syntax_image("(lambda x (let-syntax m x 1))"), 7, 8 + 1 + 1 + 5 + 1 + 1 + 1)
+CONSTANT = "(let-syntax m (lambda z (syntax 1)) (m))"
+steps("expand: a macro use, charge by charge", "expand", syntax_image(CONSTANT),
+      [11, 1, 1, 1, 1, 3, 1, 1, 1, 1, 1, 2, 1, 2, 2, 1, 1, 1, 1, 1, 1, 1],
+      result=syntax_image("1{4}", words=["m", "z"], made=2, scopes=4,
+                          bindings=[("m", [1], 6), ("z", [2], 7)]))
+steps("expand: a macro that gives its argument back", "expand",
+      syntax_image("(lambda x (let-syntax m (lambda z (#first (#rest (#stx-e z)))) (m x)))",
+                   words=["x", "m", "z"]),
+      [19, 1, 1, 16, 1, 1] + [1, 1, 7, 1, 1, 1, 1, 1, 1, 1] + [1, 1] + [1] * 6 + [1] +
+      [3, 1, 3, 3] + [1, 1, 1, 7] + [1, 1, 1, 1, 1, 1, 1, 1, 1, 1] + [1, 1],
+      result=syntax_image(
+          "(lambda x{1} x{1})", words=["x", "m", "z"], made=3, scopes=5,
+          bindings=[("x", [1], 7), ("m", [1, 2], 8), ("z", [3], 9)]))
+case("expand: a macro's words are its own", "expand",
+     syntax_image("(lambda t (let-syntax m (lambda z (#mk-stx (#link (syntax lambda) (#link "
+                  "(syntax t) (#link (#first (#rest (#stx-e z))) (quote ())))) z)) (m t)))",
+                  words=["t", "m", "z"]), 0, result=syntax_image(
+         "(lambda t{1} (lambda{1,5} t{1,5,6} t{1}){1,2,4})", words=["t", "m", "z"], made=4, scopes=6,
+         bindings=[("t", [1], 7), ("m", [1, 2], 8), ("z", [3], 9), ("t", [1, 5, 6], 10)]))
+case("expand: a macro that gives no syntax object", "expand",
+     syntax_image("(let-syntax m (lambda z 1) (m))"), 9,
+     9 + 2 + (1 + 1 + 1 + 1) + 2 + 1 + 2 + 1 + 2 + 2 + 3 + 1 + 1)
+case("expand: a macro that gives a list", "expand", syntax_image("(let-syntax m #stx-e (m))"), 9,
+     6 + 2 + 3 + 2 + 1 + 2 + 2 + 3 + 1)
+case("expand: a macro that gives a function", "expand",
+     syntax_image("(let-syntax m (lambda z (lambda z z)) (m))"), 9)
+case("expand: a macro that is a number", "expand", syntax_image("(let-syntax m 1 (m))"), 10,
+     6 + 2 + 3 + 2 + 1 + 2 + 2 + 2)
+case("expand: a macro that is a rung word", "expand", syntax_image("(let-syntax m 'and (m))"), 10, 20)
+case("expand: a macro that is syntax", "expand", syntax_image("(let-syntax m (syntax 1) (m))"), 10)
+case("expand: a macro that is a primitive of two arguments", "expand",
+     syntax_image("(let-syntax m #link (m))"), 10, 20)
+case("expand: a macro that is a primitive of one argument", "expand",
+     syntax_image("(let-syntax m #first (m))"), 11, 22)
+case("expand: the primitive's charge comes before 11", "expand",
+     syntax_image("(let-syntax m #first (m))"), 19, 21, budget=21)
+case("expand: an ambiguous word in a right-hand side", "expand",
+     syntax_image("(let-syntax m x{|1,2} 1)", words=["m", "x"], scopes=2,
+                  bindings=[("x", [1], 4), ("x", [2], 4)]), 6, 5 + 2 + 1)
+case("expand: the use's two scopes are the last", "expand", syntax_image(CONSTANT, scopes=60), 0, 37,
+     result=syntax_image("1{64}", words=["m", "z"], made=2, scopes=64,
+                         bindings=[("m", [61], 6), ("z", [62], 7)]))
+case("expand: one scope left for the use", "expand", syntax_image(CONSTANT, scopes=61), 14, 26)
+case("expand: no scope left for the use", "expand", syntax_image(CONSTANT, scopes=62), 14, 26)
+case("expand: no scope for the use comes before the charge", "expand",
+     syntax_image(CONSTANT, scopes=61), 14, 26, budget=26)
+case("expand: a macro that gives its own use runs out of scopes", "expand",
+     syntax_image("(let-syntax m (lambda z z) (m))"), 14,
+     9 + 2 + 4 + 2 + 1 + 2 + 31 * (1 + 4 + 3 + 1 + 1 + 2) + 1)
+case("expand: shadowed core words stay shadowed in a template", "expand",
+     syntax_image("(let-syntax lambda (lambda z (syntax 1)) (lambda x x))"), 0,
+     result=syntax_image("1{4}", words=["z", "x"], made=2, scopes=4,
+                         bindings=[("lambda", [1], 6), ("z", [2], 7)]))
+case("expand: a macro's core words are not the user's", "expand",
+     syntax_image("(let-syntax m (lambda z (syntax (lambda x x))) (lambda lambda (m)))",
+                  words=["m", "z", "x"]), 0,
+     result=syntax_image("(lambda{1} lambda{1,3} (lambda{5} x{5,6} x{5,6}){5}){1}",
+                         words=["m", "z", "x"], made=4, scopes=6,
+                         bindings=[("m", [1], 7), ("z", [2], 8), ("lambda", [1, 3], 9),
+                                   ("x", [5, 6], 10)]))
+
+
+def wrapped(code):
+    return f"(#mk-stx (#link {code} (quote ())) (syntax 1))"
+
+
+# m wraps its argument, of nesting 56, seven times and gives (n ARGUMENT), of nesting 64. The
+# application of n's function to that form is nested 65 deep, and is not tested.
+WRAPPING = wrapped("p")
+for _ in range(6):
+    WRAPPING = f"((lambda p {WRAPPING}) {wrapped('p')})"
+WRAPPING = f"((lambda p {WRAPPING}) (#first (#rest (#stx-e z))))"
+case("expand: the application of a macro use is not tested for 17", "expand",
+     syntax_image("(let-syntax n (lambda z (syntax 1)) (let-syntax m (lambda z (#mk-stx (#link "
+                  "(syntax n) (#link %s (quote ()))) (syntax n))) (m %s)))" % (WRAPPING, nested(55))),
+     0, result=UNKNOWN, budget=4096)
+GROWING = "(syntax 1)"
+for _ in range(13):
+    GROWING = f"((lambda s (#mk-stx (#link s (#link s (quote ()))) s)) {GROWING})"
+case("expand: a macro gives an object larger than every budget", "expand",
+     syntax_image(f"(let-syntax m (lambda z {GROWING}) (m))"), 19, budget=4096)
+case("expand: what a macro gives is nested too deep where it stands", "expand",
+     syntax_image("(let-syntax m (lambda z (syntax %s)) %s)" % (nested(40), nested(25, "m"))), 17)
+case("expand: and one level less", "expand",
+     syntax_image("(let-syntax m (lambda z (syntax %s)) %s)" % (nested(40), nested(24, "m"))), 0,
+     result=UNKNOWN)
+case("expand: a lambda around it is tested as well", "expand",
+     syntax_image("(let-syntax m (lambda z (syntax %s)) (lambda x %s))"
+                  % (nested(40), nested(24, "m"))), 17)
+case("expand: a macro's own text is nested too deep after substitution", "expand",
+     syntax_image("(let-syntax m (lambda z %s) (m %s))" % (nested(32, "z"), nested(32))), 17)
+
+# Entries: a loop in a right-hand side, one entry deeper each time round.
+case("expand: the 129th entry in progress", "expand",
+     syntax_image("(let-syntax m ((lambda f (f f)) (lambda f (f f))) 1)"), 18, 802, budget=4096)
+case("expand: 18 comes before the charge of the entry", "expand",
+     syntax_image("(let-syntax m ((lambda f (f f)) (lambda f (f f))) 1)"), 18, 802, budget=802)
+case("expand: and a unit less is 19", "expand",
+     syntax_image("(let-syntax m ((lambda f (f f)) (lambda f (f f))) 1)"), 19, 801, budget=801)
+
+# ==== parsing ====
+
+for text, tree in (("1", "1"), ("@3", "@3"), ("#2", "#2"), ("'7", "'7"), ("x", "$4"),
+                   ("lambda", "$0"), ("syntax", "$3")):
+    steps(f"parse: {text}", "parse", syntax_image(text, words=["x"]), [1, 1],
+          result=tree_image(tree, words=["x"]))
+steps("parse: lambda", "parse", IDENTITY, [4, 1, 1], result=tree_image("[4 $4]", words=["x"]))
+steps("parse: an application", "parse", syntax_image("(x 1 (y))", words=["x", "y"]),
+      [5, 1, 1, 1, 1, 1], result=tree_image("($4 1 ($5))", words=["x", "y"]))
+steps("parse: an application with a head that is no identifier", "parse",
+      syntax_image("(1 (2))"), [4, 1, 1, 1, 1], result=tree_image("(1 (2))"))
+steps("parse: quote", "parse", syntax_image("(quote (x{1} () (1 @2) #3 'and lambda))", scopes=1),
+      [11, 1, 9], result=tree_image("<x <> <1 @2> #3 'and lambda>", scopes=1))
+steps("parse: quote an atom", "parse", syntax_image("(quote x)"), [3, 1, 1],
+      result=tree_image("x"))
+steps("parse: syntax keeps the object", "parse", syntax_image("(syntax (x{1|2|3} y){2})", scopes=3),
+      [5, 1], result=tree_image("`(x{1|2|3} y){2}", scopes=3))
+for text in ("()", "(let-syntax m 1 1)", "(let-syntax)", "(lambda)", "(lambda x)", "(lambda x x x)",
+             "(lambda 1 x)", "(lambda (x) x)", "(quote)", "(quote x x)", "(syntax)", "(syntax x x)"):
+    case(f"parse: the shape {text}", "parse", syntax_image(text), 8)
+AMBIGUOUS = dict(words=["x"], scopes=2, bindings=[("x", [1], 4), ("x", [2], 4)])
+steps("parse: an ambiguous identifier", "parse", syntax_image("x{1,2}", **AMBIGUOUS), [1, 1], 6)
+steps("parse: an ambiguous binder comes before the body", "parse",
+      syntax_image("(lambda x{1,2} ())", **AMBIGUOUS), [4, 1], 6)
+steps("parse: an ambiguous head comes before its parts", "parse",
+      syntax_image("(x{1,2} ())", **AMBIGUOUS), [3, 1], 6)
+case("parse: the shape comes before the binder is resolved", "parse",
+     syntax_image("(lambda x{1,2})", **AMBIGUOUS), 8, 4)
+case("parse: an ambiguous quoted word does no harm", "parse",
+     syntax_image("(quote x{1,2})", **AMBIGUOUS), 0, 5, result=tree_image("x", scopes=2))
+case("parse: parts left to right", "parse", syntax_image("(1 () x{1,2})", **AMBIGUOUS), 8, 7)
+case("parse: parts left to right, the other way", "parse",
+     syntax_image("(1 x{1,2} ())", **AMBIGUOUS), 6, 7)
+case("parse: a binder gives the name it resolves to", "parse",
+     syntax_image("(lambda x{1} x{2})", words=["x"], made=2, scopes=2,
+                  bindings=[("x", [1], 5), ("x", [2], 6)]), 0, 6,
+     result=tree_image("[5 $6]", words=["x"], made=2, scopes=2))
+case("parse: phase 0 only", "parse",
+     syntax_image("x{1|2}", words=["x"], made=2, scopes=2, bindings=[("x", [1], 5), ("x", [2], 6)]),
+     0, 2, result=tree_image("$5", words=["x"], made=2, scopes=2), phase=1)
+case("parse: a word bound to quote's name is quote", "parse",
+     syntax_image("(x{1} y)", words=["x", "y"], scopes=1, bindings=[("x", [1], 2)]), 0, 5,
+     result=tree_image("y", words=["x", "y"], scopes=1))
+case("parse: quote bound to a word is an application", "parse",
+     syntax_image("(quote{1} y)", words=["y"], scopes=1, bindings=[("quote", [1], 4)]), 0, 6,
+     result=tree_image("($4 $4)", words=["y"], scopes=1))
+case("parse: 64 levels", "parse", syntax_image(nested(63)), 0, 128, result=tree_image(nested(63)))
+
+# ==== evaluating ====
+
+
+def value(reason, text, result, units=UNKNOWN, code=0, **named):
+    """Evaluates a tree in notation; scopes 1 to 3 and three made names are there."""
+    case(f"evaluate: {reason}", "evaluate", tree_image(text, words=["x"], made=3, scopes=3), code,
+         units, result=None if result is None
+         else tree_image(result, words=["x"], made=3, scopes=3), **named)
+
+
+def value_steps(reason, text, result, charges, code=0):
+    steps(f"evaluate: {reason}", "evaluate", tree_image(text, words=["x"], made=3, scopes=3),
+          charges, code, None if result is None
+          else tree_image(result, words=["x"], made=3, scopes=3))
+
+
+for text in ("1", "x", "@4", "#0", "'3", "<>", "<1 <x> `x>", "`x{1|2|3}", "`()", "[4 $4]", "[4 (1)]"):
+    value("a value gives itself: " + text, text, text)
+value_steps("a function", "([4 $4] 9)", "9", [4, 1, 1, 1, 1, 1])
+value_steps("the body is charged whole", "([4 (#link $4 <1 2>)] 9)", "<9 1 2>",
+            [9, 1, 1, 1, 6, 1, 1, 1, 1, 1])
+value_steps("a syntax value in a body counts one", "([4 `(1 2 (3))] 9)", "`(1 2 (3))",
+            [1 + 1 + 5 + 1, 1, 1, 1, 1, 1])
+value_steps("a syntax value that was an argument counts one", "([4 ([5 $4] 1)] `(1 2 3))",
+            "`(1 2 3)", [1 + 5 + 4, 1, 1, 1, 4, 1, 1, 1, 1, 1])
+value("substitution reaches functions in list values", "([4 <[5 $4] [4 $4]>] 9)", "<[5 9] [4 $4]>")
+value("substitution reaches functions of other names", "([4 [5 ($4 $5)]] 9)", "[5 (9 $5)]")
+value("a function of the same name keeps its own", "([4 [4 $4]] 9)", "[4 $4]",
+      5 + 1 + 1 + 1 + 2 + 1)
+value("a function of the same name inside another", "([4 [5 [4 ($4 $5)]]] 9)", "[5 [4 ($4 $5)]]")
+value("the argument is a function of the same name", "([4 ($4 1)] [4 $4])", "1")
+value("syntax values are left alone", "([4 `x] 9)", "`x")
+value("two functions, one after the other", "(([4 [5 $4]] 1) 2)", "1")
+value("the head is evaluated", "((#pick 1 #first #rest) <1 2>)", "1")
+value_steps("10 comes before any argument", "(9 (1))", None, [4, 1, 1], 10)
+for text in ("(9)", "(x 1)", "(@1 1)", "('and 1)", "('not 1)", "(<> 1)", "(`x 1)", "(<#first> <1>)"):
+    value("cannot be applied: " + text, text, None, code=10)
+for text in ("([4 $4])", "([4 $4] 1 2)"):
+    value("a function takes one: " + text, text, None, code=10)
+COUNTS = [1, 2, 1, 1, 2, 2, 3]
+for primitive, count in enumerate(COUNTS):
+    for given in range(5):
+        if given != count:
+            value(f"primitive {primitive} with {given} arguments",
+                  f"(#{primitive}{' (1)' * given})", None, 1 + 1 + 2 * given + 2, code=10)
+value_steps("arguments left to right", "(#link (1) (2 3))", None, [7, 1, 1, 1, 1], 10)
+value_steps("the second argument after the first", "(#link 1 (2))", None, [5, 1, 1, 1, 1, 1], 10)
+value_steps("arguments come before 11", "(#first (1))", None, [4, 1, 1, 1, 1], 10)
+value_steps("the charge comes before 11", "(#first 1)", None, [3, 1, 1, 1, 1], 11)
+
+value_steps("stx-e of an atom", "(#stx-e `x{1})", "x", [3, 1, 1, 1, 1])
+value_steps("stx-e of a list", "(#stx-e `(x{1} (1)){2})", "<`x{1} `(1)>", [6, 1, 1, 1, 1])
+value("stx-e of the empty list", "(#stx-e `())", "<>")
+for text in ("1", "x", "<>", "<`x>", "[4 $4]", "#stx-e"):
+    value("stx-e takes syntax: " + text, f"(#stx-e {text})", None, code=11)
+value_steps("mk-stx of an atom", "(#mk-stx x `(1 2){1|2|3})", "`x{1|2|3}", [6, 1, 1, 1, 1, 1])
+value_steps("mk-stx of a list", "(#mk-stx <`x{1} `(1)> `1{2})", "`(x{1} (1)){2}",
+            [7, 1, 1, 1, 1, 1])
+value("mk-stx of the empty list", "(#mk-stx <> `1{1})", "`(){1}")
+for text in ("1", "@1", "#1", "'1"):
+    value("mk-stx of " + text, f"(#mk-stx {text} `x{{|3}})", f"`{text}{{|3}}")
+for text in ("`x `x", "<1> `x", "<`x <`x>> `x", "<`x 1> `x", "[4 $4] `x", "1 1", "1 <`x>", "<> <>"):
+    value("mk-stx takes an atom or a list of syntax, and syntax: " + text, f"(#mk-stx {text})", None,
+          code=11)
+value_steps("first", "(#first <1 2>)", "1", [5, 1, 1, 1, 1])
+value_steps("rest", "(#rest <1 2 3>)", "<2 3>", [6, 1, 1, 1, 1])
+value("rest of one", "(#rest <1>)", "<>")
+for primitive in ("first", "rest"):
+    for text in ("<>", "1", "`(1 2)", "[4 $4]"):
+        value(f"{primitive} takes a list with a part: {text}", f"(#{primitive} {text})", None, code=11)
+value_steps("link", "(#link 1 <2 3>)", "<1 2 3>", [6, 1, 1, 1, 1, 1])
+value("link a list", "(#link <1> <2>)", "<<1> 2>")
+value("link a function", "(#link [4 $4] <>)", "<[4 $4]>")
+value("link syntax", "(#link `x <>)", "<`x>")
+for text in ("1 2", "<> 1", "1 `()", "1 [4 $4]"):
+    value("link takes a list: " + text, f"(#link {text})", None, code=11)
+for a, b, answer in (("1", "1", 1), ("1", "2", 0), ("x", "x", 1), ("x", "lambda", 0), ("@1", "@1", 1),
+                     ("1", "@1", 0), ("#1", "'1", 0), ("#1", "#1", 1), ("'2", "'2", 1), ("0", "lambda", 0),
+                     ("4", "x", 0), ("4294967295", "4294967295", 1)):
+    value(f"same of {a} and {b}", f"(#same {a} {b})", str(answer))
+value_steps("same", "(#same 1 @1)", "0", [4, 1, 1, 1, 1, 1])
+for text in ("<> <>", "1 <>", "`x x", "x `x", "[4 $4] [4 $4]"):
+    value("same takes atoms: " + text, f"(#same {text})", None, code=11)
+value_steps("pick at 0", "(#pick 0 1 2)", "2", [5, 1, 1, 1, 1, 1, 1])
+value("pick at 1", "(#pick 1 1 2)", "1")
+value("pick at the largest number", "(#pick 4294967295 1 2)", "1")
+value("pick evaluates both", "(#pick 1 1 (2))", None, code=10)
+value("pick any values", "(#pick 0 [4 $4] <`x>)", "<`x>")
+for text in ("@0", "x", "#0", "<>", "`0", "[4 0]"):
+    value("pick takes a number: " + text, f"(#pick {text} 1 2)", None, code=11)
+value("the first of two faults in the arguments", "(#mk-stx [4 $4] 1)", None, code=11)
+
+# ==== nesting over 64 ====
+
+value("link makes nesting 64", "(#link %s <>)" % nested(62, "1", "<", ">"), nested(63, "1", "<", ">"))
+DEEP = nested(62, "1", "<", ">")
+# Two links, one after the other, so that no substitution is nested over 64.
+TWO_LINKS = "([4 ([4 (#link $4 <>)] (#link $4 <>))] %s)" % nested(61, "1", "<", ">")
+value("two links make nesting 64", TWO_LINKS, nested(63, "1", "<", ">"), 74 + 29)
+value("a third makes nesting 65, after its charge", f"(#link {TWO_LINKS} <>)", None,
+      77 + 2 + 29 + 1 + 1, code=17)
+value("and a unit less is 19", f"(#link {TWO_LINKS} <>)", None, 109, code=19, budget=109)
+value("substitution makes nesting 65", "([4 (1 (2 $4))] %s)" % nested(62, "1", "<", ">"), None,
+      (1 + 1 + 5 + 63) + 3 + 5, code=17)
+value("substitution makes nesting 64, and the head is tested", "([4 (1 (2 $4))] %s)"
+      % nested(61, "1", "<", ">"), None, (1 + 1 + 5 + 62) + 3 + 5 + 2, code=10)
+value("the argument's syntax counts with its nesting", "([4 (1 (2 $4))] `%s)" % nested(62), None,
+      (1 + 1 + 5 + 63) + 3 + 5, code=17)
+value("substitution where the variable is not met", "([4 (1 (2 3))] %s)" % DEEP, None,
+      (1 + 1 + 5 + 63) + 3 + 5 + 2, code=10)
+value("mk-stx keeps the nesting", "(#mk-stx (#link `%s <>) `x)" % nested(61), "`" + nested(62))
+value("link over mk-stx", "(#link (#mk-stx (#link `%s <>) `x) <>)" % nested(60), "<`%s>" % nested(61))
+value("stx-e keeps the nesting", "(#stx-e `%s)" % nested(62), "<`%s>" % nested(61))
+
+# ==== entries ====
+
+value("the 129th entry in progress", "([4 ($4 $4)] [4 ($4 $4)])", None, 772, code=18, budget=4096)
+value("18 comes before the charge of the entry", "([4 ($4 $4)] [4 ($4 $4)])", None, 772, code=18,
+      budget=772)
+value("and a unit less is 19", "([4 ($4 $4)] [4 ($4 $4)])", None, 771, code=19, budget=771)
+# Each function takes the list of those after it and applies the first to the rest.
+NEXT = "[4 ((#first $4) (#rest $4))]"
+
+
+def chain(count):
+    return f"({NEXT} <{(NEXT + ' ') * count}[4 7]>)"
+
+
+value("128 entries in progress", chain(124), "7", 33 + 24 * 124, budget=4096)
+value("129 entries in progress", chain(125), None, 3024, code=18, budget=4096)
+
+# ==== sizes that grow ====
+
+DOUBLE = "[4 (#link $4 (#link $4 <>))]"
+
+
+def doubled(times, inner):
+    return f"({DOUBLE} " * times + inner + ")" * times
+
+
+value("a value doubled three times", doubled(3, "1"),
+      "<<<1 1> <1 1>> <<1 1> <1 1>>>", 9 * 3 + 1 + 18 * 3 + 1)
+value("a value doubled sixty times is too long to write", doubled(60, "1"), None, 1622, code=20,
+      budget=4096)
+value("a doubled value can be taken apart", "(#first (#rest %s))" % doubled(2, "1"), "<1 1>")
+value("a function may hold a value that grew beyond every budget", "([5 ([6 [4 $6]] $5)] %s)"
+      % doubled(40, "1"), None, code=20, budget=4096)
+value("but it cannot be applied", "(([5 [6 $5]] %s) 1)" % doubled(40, "1"),
+      None, code=19, budget=4096)
+value("a function that holds syntax that grew may be applied: syntax counts one",
+      "(([5 [6 $5]] %s) 1)" % ("([4 (#mk-stx (#link $4 (#link $4 <>)) `1)] " * 40 + "`x" + ")" * 40),
+      None, code=20, budget=4096)
+
+# ==== the output ====
+
+for job, image, result in (("expand", IDENTITY, IDENTITY_EXPANDED),
+                           ("parse", IDENTITY_EXPANDED, IDENTITY_PARSED),
+                           ("evaluate", THIRTEEN, tree_image("9", made=1))):
+    units = {"expand": 8, "parse": 6, "evaluate": 9}[job]
+    case(f"{job}: an output just long enough", job, image, 0, units, result=result,
+         output=len(result))
+    case(f"{job}: an output one byte short", job, image, 20, units, output=len(result) - 1)
+    case(f"{job}: no output", job, image, 20, units, output=0)
+    case(f"{job}: an output longer than needed", job, image, 0, units, result=result,
+         output=len(result) + 1)
+    case(f"{job}: a refusal comes before 20", job, image, 19, 0, output=0, budget=1)
+case("resolve writes nothing and needs no output", "resolve", syntax_image("x"), 0, 1, 4, output=0)
+case("the counts reached are written", "evaluate", tree_image("1", words=["x", "y"], made=9, scopes=9),
+     0, 2, result=tree_image("1", words=["x", "y"], made=9, scopes=9))
+
+# Syntax values with all scopes in all sets are long: 198 bytes for a number.
+ALL = "{" + "|".join([",".join(map(str, range(1, 65)))] * 3) + "}"
+
+
+def padded(length, make):
+    """make(words) is an image; words are found so that it has the length."""
+    left = length - len(make([]))
+    words = []
+    while left > 0:
+        chunk = left if left <= 33 else min(33, left - 2)
+        words.append("abcdefghijklmnopqrstuvwyz"[len(words)] + "-" * (chunk - 2))
+        left -= chunk
+    image = make(words)
+    assert len(image) == length, (length, len(image))
+    return image
+
+
+def long_list(words):
+    return tree_image("<" + ("`1" + ALL + " ") * 330 + ">", words=words, scopes=64)
+
+
+LONGEST = padded(65536, long_list)
+case("an image of 65,536 bytes", "evaluate", LONGEST, 0, 332, result=LONGEST)
+case("a result of 65,536 bytes, the output a byte shorter", "evaluate", LONGEST, 20, 332,
+     output=65535)
+case("an image of 65,537 bytes", "evaluate", LONGEST + b"\0", 2, 0)
+case("an image of 65,536 bytes with a fault at its front", "evaluate", bytes(65536), 1, 0)
+case("an image of 65,537 bytes with a fault at its front", "evaluate", bytes(65537), 2, 0)
+case("an image of 65,537 bytes of another kind", "resolve", b"\2" + bytes(65536), 2, 0)
+
+
+HALF = "<" + ("`1" + ALL + " ") * 165 + ">"
+
+
+def twice(words):
+    return tree_image(f"<{HALF} {HALF}>", words=words, scopes=64)
+
+
+def words_of(image):
+    """The bytes of an image's words, with their count before them."""
+    place = 2
+    for _ in range(image[1]):
+        place += 1 + image[place]
+    return image[1:place]
+
+
+for length in (65536, 65537):
+    written = padded(length, twice)
+    doubling = tree_image(f"([0 (#link $0 (#link $0 <>))] {HALF})", scopes=64)
+    image = doubling[:1] + words_of(written) + doubling[2:]
+    if length == 65536:
+        case("a result of 65,536 bytes in a longer output", "evaluate", image, 0, 194,
+             result=written, output=70000)
+    else:
+        case("a result of 65,537 bytes in a longer output", "evaluate", image, 20, 194,
+             output=70000)
