@@ -1,0 +1,44 @@
+-- What the words of a store stand for.
+use mathlib.Core.Path.{_≡_}
+use mathlib.Core.List.{List, [], _∷_, _++_}
+use Prim.Native.Nat.{ℕ, zero, suc, _+_, _-_, _*_, _%_, _≤_, _<_}
+use lib.ListN.{getD, set}
+use Rattle.model.specs.Resolving.{Bind, insert}
+use Rattle.scopes.specs.Sets.{scopesOf}
+use Rattle.store.specs.declared.bindings.Binding.{Binding}
+
+abbrev pub bindOf : Binding → Bind
+bindOf b = record { symb = b .symbol .0; target = b .target .0; set = scopesOf (b .set) }
+
+-- the binding at place i: symbol and target are numbers of 32 bits
+unfoldable pub bindAt : List ℕ → ℕ → Bind
+bindAt l i = record {
+  symb = getD l (i * 3) 0 % 4294967296;
+  target = getD l (i * 3 + 1) 0 % 4294967296;
+  set = getD l (i * 3 + 2) 0;
+}
+
+-- n bindings from place i on
+unfoldable pub bindsFrom : List ℕ → ℕ → ℕ → List Bind
+unfolding bindAt
+bindsFrom l i zero = []
+bindsFrom l i (suc n) = bindAt l i ∷ bindsFrom l (suc i) n
+
+-- the first n bindings of the store l
+unfoldable pub bindsOf : List ℕ → ℕ → List Bind
+unfolding bindsFrom
+bindsOf l n = bindsFrom l 0 n
+
+-- the store l with b at place i
+abbrev pub written : List ℕ → ℕ → Bind → List ℕ
+written l i b = set (set (set l (i * 3) (b .symb)) (i * 3 + 1) (b .target)) (i * 3 + 2) (b .set)
+
+-- place i is that of b among the first n
+pub record Placed (b : Bind) (l : List ℕ) (n i : ℕ) : Type 0 where
+  pub inside : i ≤ n
+  pub there : insert b (bindsOf l n) ≡ bindsFrom l 0 i ++ b ∷ bindsFrom l i (n - i)
+
+-- the words from lo to hi stand three further on, the ones before are as they were
+pub record Shifted (lo hi : ℕ) (was now : List ℕ) : Type 0 where
+  pub kept : (k : ℕ) → k < lo → getD now k 0 ≡ getD was k 0
+  pub moved : (k : ℕ) → lo ≤ k → k < hi → getD now (k + 3) 0 ≡ getD was k 0
