@@ -1,0 +1,30 @@
+-- The name of an object at a phase, where it is an identifier.
+use mathlib.Core.Path.{_≡_}
+use mathlib.Core.List.{List}
+use mathlib.Core.Option.{Option, none, some}
+use Prim.Native.Nat.{ℕ}
+use Rattle.model.specs.Objects.{Atom, symbol, number, point, prim, rung, Stx, atom, list, setAt}
+use Rattle.model.specs.Trees.{stx}
+use Rattle.model.specs.Resolving as m
+use Rattle.model.specs.Resolving.{Bind, Found, several, resolve}
+use Rattle.store.specs.Words.{bindsOf}
+use Rattle.things.specs.Rep.{Rep}
+use Rattle.forms.specs.declared.Naming.{Naming}
+use Rattle.forms.specs.declared.Naming.the-variants.{Named, Unclear, Unnamed}
+
+unfoldable pub nameFound : ℕ → List Bind → Stx → Option Found
+nameFound ph bs (atom c (symbol x)) = some (resolve x (setAt ph c) bs)
+nameFound ph bs (atom c (number x)) = none
+nameFound ph bs (atom c (point x)) = none
+nameFound ph bs (atom c (prim x)) = none
+nameFound ph bs (atom c (rung x)) = none
+nameFound ph bs (list c l) = none
+
+abbrev pub namingOf : Naming → Option Found
+namingOf (Named n) = some (m.means (n .0))
+namingOf Unclear = some several
+namingOf Unnamed = none
+
+-- by the first n bindings of the store st
+pub record Names (ph : ℕ) (st : List ℕ) (n : ℕ) (l : List ℕ) (i : ℕ) (r : Naming) : Type 0 where
+  pub means : (top : ℕ) (x : Stx) → Rep l top i (stx x) → namingOf r ≡ nameFound ph (bindsOf st n) x
