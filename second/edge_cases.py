@@ -682,6 +682,11 @@ case("expand: 18 comes before the charge of the entry", "expand",
 case("expand: and a unit less is 19", "expand",
      syntax_image("(let-syntax m ((lambda f (f f)) (lambda f (f f))) 1)"), 19, 801, budget=801)
 
+LOOP = "((lambda f (f f)) (lambda f (f f)))"
+case("expand: what a macro gives is expanded inside the entry of its use", "expand",
+     syntax_image(f"(let-syntax n (lambda z {LOOP}) (let-syntax m (lambda z (syntax (n))) (m)))"),
+     18, 866, budget=4096)
+
 # ==== parsing ====
 
 for text, tree in (("1", "1"), ("@3", "@3"), ("#2", "#2"), ("'7", "'7"), ("x", "$4"),
@@ -825,6 +830,10 @@ value("the first of two faults in the arguments", "(#mk-stx [4 $4] 1)", None, co
 # ==== nesting over 64 ====
 
 value("link makes nesting 64", "(#link %s <>)" % nested(62, "1", "<", ">"), nested(63, "1", "<", ">"))
+value("an empty list has nesting 1", "(#link %s <>)" % nested(62, "<>", "<", ">"),
+      nested(63, "<>", "<", ">"))
+value("an empty list in syntax has nesting 1", "(#link `%s <>)" % nested(62, "()"),
+      "<`%s>" % nested(62, "()"))
 DEEP = nested(62, "1", "<", ">")
 # Two links, one after the other, so that no substitution is nested over 64.
 TWO_LINKS = "([4 ([4 (#link $4 <>)] (#link $4 <>))] %s)" % nested(61, "1", "<", ">")
@@ -879,6 +888,8 @@ value("a function may hold a value that grew beyond every budget", "([5 ([6 [4 $
       % doubled(40, "1"), None, code=20, budget=4096)
 value("but it cannot be applied", "(([5 [6 $5]] %s) 1)" % doubled(40, "1"),
       None, code=19, budget=4096)
+value("nor when it is larger by one", "(([5 [6 $5]] (#link %s <>)) 1)" % doubled(40, "1"), None,
+      code=19, budget=4096)
 value("a function that holds syntax that grew may be applied: syntax counts one",
       "(([5 [6 $5]] %s) 1)" % ("([4 (#mk-stx (#link $4 (#link $4 <>)) `1)] " * 40 + "`x" + ")" * 40),
       None, code=20, budget=4096)
