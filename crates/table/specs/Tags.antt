@@ -20,3 +20,10 @@ listValueTag = 9
 -- an atom as a value: this, and the atom's tag on top
 abbrev pub atomValueTag : ℕ
 atomValueTag = 10
+
+-- a number, and a primitive, as values
+abbrev pub numberValueTag : ℕ
+numberValueTag = 11
+
+abbrev pub primitiveValueTag : ℕ
+primitiveValueTag = 13

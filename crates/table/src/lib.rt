@@ -27,6 +27,7 @@ impl Node {
     pub const RUNG_WORD: u32 = 4;
 
     pub const LIST: u32 = 5;
+
     // Trees that are no syntax values.
     pub const VARIABLE: u32 = 6;
 
@@ -35,8 +36,14 @@ impl Node {
     pub const FUNCTION: u32 = 8;
 
     pub const LIST_VALUE: u32 = 9;
+
     // An atom as a value: this, and the atom's tag on top.
     pub const ATOM_VALUE: u32 = 10;
+
+    pub const NUMBER_VALUE: u32 = Node::ATOM_VALUE + Node::NUMBER;
+
+    pub const PRIMITIVE_VALUE: u32 = Node::ATOM_VALUE + Node::PRIMITIVE;
+
     // The words that a node takes with its sets or body, though not every kind fills them.
     pub const WORDS: u32 = 8;
 }
