@@ -1,0 +1,4 @@
+pub mod Sizes
+pub mod Changing
+pub mod Copying
+pub mod Whole
