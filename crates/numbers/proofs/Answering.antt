@@ -14,7 +14,9 @@ use Rattle.refusals.proofs.Cases.{refusal-back, case-back}
 use Rattle.numbers.specs.declared.Cursor.{Cursor}
 use Rattle.numbers.specs.declared.Number.{Number}
 use Rattle.numbers.specs.declared.Number.the-variants as number
-use Rattle.numbers.specs.Answers.{answerAt, numberAt}
+use Rattle.numbers.specs.declared.Place.{Place}
+use Rattle.numbers.specs.declared.Place.the-variants as place
+use Rattle.numbers.specs.Answers.{answerAt, numberAt, placed, Seen, seen, unseen, seenAt}
 use Rattle.numbers.proofs.Tails.{Behind, Tail, tail-got, tail-fault, num-tail, up-to-tail, below-tail}
 
 -- the two ways of an answer are told apart, and give back what they hold
@@ -61,8 +63,11 @@ module _ {K X : Type 0} {read : K → Cursor → X} {refuse : Refusal → X} (S 
 
     module _ (at : ℕ) (s : List ℕ) (g : Read K) {k : K} {past : Cursor} (h : r ≡ answerAt read refuse (at + length s) g) (e : r ≡ read k past) (t : Tail s g) where
       -- what `after` asks
-      pub lies-after : (at ≤ past .at) × (past .at ≤ at + length s)
-      lies-after = let T : Took at s g k (past .at) = took h e t in (T .moved, T .within)
+      pub moved-on : at ≤ past .at
+      moved-on = let T : Took at s g k (past .at) = took h e t in T .moved
+
+      pub kept-within : past .at ≤ at + length s
+      kept-within = let T : Took at s g k (past .at) = took h e t in T .within
 
       -- what the next reader asks
       pub fits-after : {u : List ℕ} {m : ℕ} → u ≡ drop (past .at - at) s → at + length s ≤ m → past .at + length u ≤ m
@@ -100,11 +105,69 @@ number-shape = record {
 }
 
 module _ (at : ℕ) (s : List ℕ) (g : Read ℕ) {r : Number} {n : ℕ} {past : Cursor} (h : r ≡ numberAt (at + length s) g) (e : r ≡ number.Read n past) (t : Tail s g) where
-  pub number-after : (at ≤ past .at) × (past .at ≤ at + length s)
-  number-after = lies-after number-shape at s g h e t
+  pub number-moved : at ≤ past .at
+  number-moved = moved-on number-shape at s g h e t
+
+  pub number-within : past .at ≤ at + length s
+  number-within = kept-within number-shape at s g h e t
 
   pub number-fits : {u : List ℕ} {m : ℕ} → u ≡ drop (past .at - at) s → at + length s ≤ m → past .at + length u ≤ m
   number-fits i l = fits-after number-shape at s g h e t i l
+
+-- ---- the answer `Place`
+
+pub place-shape : Shape placed place.Fault
+place-shape = record {
+  value = λ v w c d e. refl;
+  place = λ v w c d e. (cc);
+  fault = λ f h e. (cc);
+  apart = λ v c f e. (let z : _≡_ {A = ℕ} 0 1 = cc in omega arith);
+}
+
+-- ---- a value beside a place
+
+pub seen-shape : {K : Type 0} (none : K) → Shape {K = K} {X = Seen K} seen (unseen none)
+seen-shape {K} none = record {
+  value = λ v w c d e. ap (λ (x : Seen K). x .value) e;
+  place = λ v w c d e. (let p : place.At c ≡ place.At d = ap (λ (x : Seen K). x .end) e in cc);
+  fault = λ f h e. (let p : place.Fault f ≡ place.Fault h = ap (λ (x : Seen K). x .end) e in cc);
+  apart = λ v c f e. (let p : place.At c ≡ place.Fault f = ap (λ (x : Seen K). x .end) e in let z : _≡_ {A = ℕ} 0 1 = cc in omega arith);
+}
+
+module _ {K : Type 0} (none : K) (at : ℕ) (s : List ℕ) (g : Read K) {x : Seen K} {past : Cursor} (h : x ≡ seenAt none (at + length s) g) (e : x .end ≡ place.At past) (t : Tail s g) where
+  pub whole : x ≡ seen (x .value) past
+  whole = ap (λ (p : Place). record { value = x .value; end = p }) e
+
+  pub seen-moved : at ≤ past .at
+  seen-moved = moved-on (seen-shape none) at s g h whole t
+
+  pub seen-within : past .at ≤ at + length s
+  seen-within = kept-within (seen-shape none) at s g h whole t
+
+  pub seen-fits : {u : List ℕ} {m : ℕ} → u ≡ drop (past .at - at) s → at + length s ≤ m → past .at + length u ≤ m
+  seen-fits i l = fits-after (seen-shape none) at s g h whole t i l
+
+  -- what the definition makes of it
+  module _ {L Y : Type 0} (read′ : L → Cursor → Y) (refuse′ : Refusal → Y) (j : K → Reader L) where
+    pub seen-goes : {u : List ℕ} {y : Y} → u ≡ drop (past .at - at) s → y ≡ answerAt read′ refuse′ (past .at + length u) (j (x .value) u) → y ≡ answerAt read′ refuse′ (at + length s) (next g j)
+    seen-goes i a = goes (seen-shape none) read′ refuse′ at g j h whole t i a
+
+    pub seen-gives : {l : L} → ((u : List ℕ) → j (x .value) u ≡ got l u) → read′ l past ≡ answerAt read′ refuse′ (at + length s) (next g j)
+    seen-gives i = gives (seen-shape none) read′ refuse′ at g j h whole t i
+
+pub seen-refused : {K : Type 0} (none : K) (end : ℕ) (g : Read K) {x : Seen K} {f : Refusal} → x ≡ seenAt none end g → x .end ≡ place.Fault f → g ≡ fault (refusalOf f)
+seen-refused {K} none end (got k rest) {x} {f} h e =
+    let p : x .end ≡ place.At (record { at = end - length rest }) = ap (λ (y : Seen K). y .end) h in
+    let z : _≡_ {A = ℕ} 0 1 = cc in
+    absurd (omega arith)
+seen-refused {K} none end (fault r) {x} {f} h e =
+    let p : x .end ≡ place.Fault (caseOf r) = ap (λ (y : Seen K). y .end) h in
+    let q : caseOf r ≡ f = cc in
+    ap fault (sym (refusal-back r) ∙ ap refusalOf q)
+
+pub seen-stops : {K L Y : Type 0} (none : K) (read′ : L → Cursor → Y) (refuse′ : Refusal → Y) (end : ℕ) (g : Read K) (j : K → Reader L) {x : Seen K} {f : Refusal}
+    → x ≡ seenAt none end g → x .end ≡ place.Fault f → refuse′ f ≡ answerAt read′ refuse′ end (next g j)
+seen-stops none read′ refuse′ end g j {f = f} h e = rw (seen-refused none end g h e) (ap refuse′ (sym (case-back f)))
 
 -- ---- tests
 
@@ -115,4 +178,4 @@ pub need-no : {A : Type 0} (c : m.Refusal) {t : Bool} (j : Unit {0} → Reader A
 need-no c j s e = rw e refl
 
 -- what a caller of the number readers asks for most needs
-pub ruleset answering = (number-after, number-fits, num-tail, up-to-tail, below-tail)
+pub ruleset answering = (number-moved, number-within, number-fits, seen-moved, seen-within, seen-fits, num-tail, up-to-tail, below-tail)

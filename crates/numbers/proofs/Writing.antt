@@ -112,6 +112,20 @@ module _ (n : ℕ) where
       groups-more 3 n 4 (omega arith) (groups-more 2 (n / 128) 3 (omega arith) (groups-more 1 (n / 128 / 128) 2 (omega arith)
       (groups-more 0 (n / 128 / 128 / 128) 1 (omega arith) (groups-last (n / 128 / 128 / 128 / 128)))))
 
+-- at most five groups
+groups-few : (left v : ℕ) → length (groupsOf left v) ≤ suc left
+unfolding groupsOf
+groups-few zero v = omega arith
+groups-few (suc left) v = go (ltb v 128) (groups-few left (v / 128))
+  where
+    go : (t : Bool) → length (groupsOf left (v / 128)) ≤ suc left → length (if t then v ∷ [] else (v % 128 + 128) ∷ groupsOf left (v / 128)) ≤ suc (suc left)
+    go true h = omega arith
+    go false h = omega arith
+
+pub num-short : (n : ℕ) → length (numBytes n) ≤ 5
+unfolding numBytes
+num-short n = groups-few 4 n
+
 -- one run of stores behind another is one run
 pub sets-append : (xs ys l : List ℕ) (i : ℕ) → sets (sets l i xs) (i + length xs) ys ≡ sets l i (xs ++ ys)
 sets-append [] ys l i = let e : i + 0 ≡ i = omega arith in rw e

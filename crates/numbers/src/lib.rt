@@ -21,6 +21,12 @@ pub enum Number {
     Fault(Refusal),
 }
 
+// The place past something that was read, or the fault.
+pub enum Place {
+    At(Cursor),
+    Fault(Refusal),
+}
+
 impl Cursor {
     // The image from `past` on, where `s` is the image from this cursor on.
     pub fn after(self, s: &[u8], past: Cursor) -> &[u8]

@@ -1,0 +1,243 @@
+// Scope sets of an image: a count, then strictly ascending scope numbers.
+use numbers::Cursor;
+use numbers::Number;
+use numbers::Place;
+use refusals::Refusal;
+use scopes::Scope;
+use scopes::ScopeSet;
+ghost use mathlib.Core.Path.{_≡_};
+ghost use Prim.Native.Nat.{ℕ, _+_, _-_, _≤_, _<_};
+ghost use lib.ListN.{length};
+ghost use lib.Seq.{sets};
+ghost use Rattle.model.specs.Scopes.{members};
+ghost use Rattle.model.specs.Objects.{noSets};
+ghost use Rattle.model.specs.Reading.{readMembers, readSet, readSets};
+ghost use Rattle.model.specs.Writing.{numsBytes, setBytes, setsBytes};
+ghost use Rattle.numbers.specs.Answers.{seenAt, unseen};
+ghost use Rattle.scopes.specs.Sets.{scopesOf};
+ghost use Rattle.sets.specs.Writing.{oneIf, memberBytes, threeSets};
+ghost use Rattle.sets.specs.Seeing.{setSeen, setsSeen, readLaterSets};
+
+// A set beside the place past it, or beside the fault.
+pub struct SetRead {
+    pub set: ScopeSet,
+    pub end: Place,
+}
+
+// The sets of phases 0, 1 and 2 beside the place past them, or beside the fault.
+pub struct SetsRead {
+    pub at0: ScopeSet,
+    pub at1: ScopeSet,
+    pub at2: ScopeSet,
+    pub end: Place,
+}
+
+impl SetRead {
+    fn fault(f: Refusal) -> Self
+        ensures { λ r. ⌜ setSeen r ≡ unseen 0 f ⌝ }
+    {
+        let set = ScopeSet::empty();
+        SetRead {
+            set,
+            end: Place::Fault(f),
+        }
+    }
+}
+
+impl SetsRead {
+    fn fault(f: Refusal) -> Self
+        ensures { λ r. ⌜ setsSeen r ≡ unseen noSets f ⌝ }
+    {
+        let set = ScopeSet::empty();
+        SetsRead {
+            at0: set,
+            at1: set,
+            at2: set,
+            end: Place::Fault(f),
+        }
+    }
+}
+
+// `left` more members, above `last` and at most `scopes`, joined to `set`.
+fn read_members(c: Cursor, s: &[u8], scopes: u32, left: u32, last: u32, set: ScopeSet) -> SetRead
+    requires { ⌜ (c .at + length (now s) ≤ 65536) × (scopes ≤ 64) ⌝ }
+    ensures { λ r. ⌜ setSeen r ≡ seenAt 0 (c .at + length (now (s .entry))) (readMembers left scopes last (scopesOf set) (now (s .entry))) ⌝ }
+{
+    if left == 0 {
+        return SetRead {
+            set,
+            end: Place::At(c),
+        };
+    }
+    match c.number(s) {
+        Number::Read(k, past) => {
+            if k <= last {
+                return SetRead::fault(Refusal::Layout);
+            }
+            if scopes < k {
+                return SetRead::fault(Refusal::Layout);
+            }
+            let joined = set.add(Scope(k));
+            read_members(past, c.after(s, past), scopes, left - 1, k, joined)
+        }
+        Number::Fault(f) => SetRead::fault(f),
+    }
+}
+
+// The set at a cursor, where `s` is the image from there on, and `scopes` scopes are declared.
+pub fn read_set(c: Cursor, s: &[u8], scopes: u32) -> SetRead
+    requires { ⌜ (c .at + length (now s) ≤ 65536) × (scopes ≤ 64) ⌝ }
+    ensures { λ r. ⌜ setSeen r ≡ seenAt 0 (c .at + length (now (s .entry))) (readSet scopes (now (s .entry))) ⌝ }
+{
+    match c.number(s) {
+        Number::Read(count, past) => read_members(
+            past,
+            c.after(s, past),
+            scopes,
+            count,
+            0,
+            ScopeSet::empty(),
+        ),
+        Number::Fault(f) => SetRead::fault(f),
+    }
+}
+
+// The sets of phases 1 and 2, behind that of phase 0.
+fn read_later_sets(c: Cursor, s: &[u8], scopes: u32, at0: ScopeSet) -> SetsRead
+    requires { ⌜ (c .at + length (now s) ≤ 65536) × (scopes ≤ 64) ⌝ }
+    ensures { λ r. ⌜ setsSeen r ≡ seenAt noSets (c .at + length (now (s .entry))) (readLaterSets scopes (scopesOf at0) (now (s .entry))) ⌝ }
+{
+    let second = read_set(c, s, scopes);
+    let end1 = second.end;
+    match end1 {
+        Place::At(c1) => {
+            let third = read_set(c1, c.after(s, c1), scopes);
+            let end2 = third.end;
+            match end2 {
+                Place::At(c2) => {
+                    let at1 = second.set;
+                    let at2 = third.set;
+                    let end = Place::At(c2);
+                    SetsRead { at0, at1, at2, end }
+                }
+                Place::Fault(f) => SetsRead::fault(f),
+            }
+        }
+        Place::Fault(f) => SetsRead::fault(f),
+    }
+}
+
+// The sets of phases 0, 1 and 2.
+pub fn read_sets(c: Cursor, s: &[u8], scopes: u32) -> SetsRead
+    requires { ⌜ (c .at + length (now s) ≤ 65536) × (scopes ≤ 64) ⌝ }
+    ensures { λ r. ⌜ setsSeen r ≡ seenAt noSets (c .at + length (now (s .entry))) (readSets scopes (now (s .entry))) ⌝ }
+{
+    let first = read_set(c, s, scopes);
+    let end0 = first.end;
+    match end0 {
+        Place::At(c0) => {
+            let at0 = first.set;
+            read_later_sets(c0, c.after(s, c0), scopes, at0)
+        }
+        Place::Fault(f) => SetsRead::fault(f),
+    }
+}
+
+fn one_if(b: bool) -> u32
+    ensures { λ r. ⌜ r ≡ oneIf b ⌝ }
+{
+    if b { 1 } else { 0 }
+}
+
+// How many members a set has.
+fn count(set: ScopeSet) -> u32
+    ensures { λ r. ⌜ (r ≡ length (members (scopesOf set))) × (r ≤ 64) ⌝ }
+{
+    let mut n: u32 = 0;
+    let mut k: u32 = 0;
+    while k < Scope::MOST {
+        k += 1;
+        n += one_if(set.has(Scope(k)));
+    }
+    n
+}
+
+// How many bytes scope k takes in a set that may have it.
+fn member_len(set: ScopeSet, k: u32) -> usize
+    requires { ⌜ (1 ≤ k) × (k ≤ 64) ⌝ }
+    ensures { λ r. ⌜ (r ≡ length (memberBytes k (scopesOf set))) × (r ≤ 5) ⌝ }
+{
+    if set.has(Scope(k)) {
+        numbers::number_len(k)
+    } else {
+        0
+    }
+}
+
+// How many bytes a set takes.
+pub fn set_len(set: ScopeSet) -> usize
+    ensures { λ r. ⌜ (r ≡ length (setBytes (scopesOf set))) × (r ≤ 325) ⌝ }
+{
+    let mut n = numbers::number_len(count(set));
+    let mut k: u32 = 0;
+    while k < Scope::MOST {
+        k += 1;
+        n += member_len(set, k);
+    }
+    n
+}
+
+fn put_member(out: &mut [u8], at: usize, set: ScopeSet, k: u32) -> usize
+    requires { ⌜ (1 ≤ k) × (k ≤ 64) × (at + length (memberBytes k (scopesOf set)) ≤ length (now out)) ⌝ }
+    ensures past { λ r. ⌜ r ≡ at + length (memberBytes k (scopesOf set)) ⌝ }
+    ensures bytes { λ _. ⌜ now (out .exit) ≡ sets (now (out .entry)) at (memberBytes k (scopesOf set)) ⌝ }
+{
+    if set.has(Scope(k)) {
+        numbers::put_number(out, at, k)
+    } else {
+        at
+    }
+}
+
+fn put_members(out: &mut [u8], at: usize, set: ScopeSet) -> usize
+    requires { ⌜ at + length (numsBytes (members (scopesOf set))) ≤ length (now out) ⌝ }
+    ensures past { λ r. ⌜ r ≡ at + length (numsBytes (members (scopesOf set))) ⌝ }
+    ensures bytes { λ _. ⌜ now (out .exit) ≡ sets (now (out .entry)) at (numsBytes (members (scopesOf set))) ⌝ }
+{
+    let mut here = at;
+    let mut k: u32 = 0;
+    while k < Scope::MOST {
+        k += 1;
+        here = put_member(out, here, set, k);
+    }
+    here
+}
+
+// Writes a set at a place, and gives the place past it.
+pub fn put_set(out: &mut [u8], at: usize, set: ScopeSet) -> usize
+    requires { ⌜ at + length (setBytes (scopesOf set)) ≤ length (now out) ⌝ }
+    ensures past { λ r. ⌜ r ≡ at + length (setBytes (scopesOf set)) ⌝ }
+    ensures bytes { λ _. ⌜ now (out .exit) ≡ sets (now (out .entry)) at (setBytes (scopesOf set)) ⌝ }
+{
+    let here = numbers::put_number(out, at, count(set));
+    put_members(out, here, set)
+}
+
+// How many bytes three sets take.
+pub fn sets_len(at0: ScopeSet, at1: ScopeSet, at2: ScopeSet) -> usize
+    ensures { λ r. ⌜ r ≡ length (setsBytes (threeSets at0 at1 at2)) ⌝ }
+    ensures { λ r. ⌜ r ≤ 975 ⌝ }
+{
+    set_len(at0) + set_len(at1) + set_len(at2)
+}
+
+// Writes three sets at a place, and gives the place past them.
+pub fn put_sets(out: &mut [u8], at: usize, at0: ScopeSet, at1: ScopeSet, at2: ScopeSet) -> usize
+    requires { ⌜ at + length (setsBytes (threeSets at0 at1 at2)) ≤ length (now out) ⌝ }
+    ensures past { λ r. ⌜ r ≡ at + length (setsBytes (threeSets at0 at1 at2)) ⌝ }
+    ensures bytes { λ _. ⌜ now (out .exit) ≡ sets (now (out .entry)) at (setsBytes (threeSets at0 at1 at2)) ⌝ }
+{
+    let here0 = put_set(out, at, at0);
+    let here1 = put_set(out, here0, at1);
+    put_set(out, here1, at2)
+}
