@@ -1,10 +1,10 @@
 /* calls: a stream of calls made up by chance from a seed.
 
-       calls --seed S --count N [--small]
+       calls --seed S --count N [--small BYTES]
 
    Each image is first answered with all the budget there is. The calls then
    hand out budgets, tables and outputs around what it needed. --small keeps
-   images under 60 bytes and budgets to 200 at most. */
+   images shorter than so many bytes, and nearly all budgets to 200 at most. */
 #include <stdlib.h>
 #include <string.h>
 
@@ -12,7 +12,7 @@
 #include "drafts.h"
 #include "stream.h"
 
-static bool small;
+static uint32_t small; /* images are shorter than this; 0 where they need not be */
 static Memory *memory;
 static uint64_t wanted;
 
@@ -35,7 +35,7 @@ static uint32_t choose_budget(uint32_t need)
     if (choice < 85)
         return below(need + 1);
     if (choice < 95)
-        return small ? 200 : MOST_BUDGET;
+        return small > 0 ? 200 : MOST_BUDGET;
     if (choice < 97)
         return MOST_BUDGET - below(2) + below(3);
     if (choice < 98)
@@ -94,8 +94,8 @@ static void emit(Job job, const Draft *draft, Answer *answer)
     call.budget = choose_budget(answer->units);
     call.table_words = choose_table(call.budget);
     call.output_length = choose_output(answer->length);
-    if (small && (draft->length >= 60 || answer->length > 200 ||
-                  (call.budget > 200 && percent(95)) || call.budget > 5000))
+    if (small > 0 && (draft->length >= small || answer->length > 200 ||
+                      (call.budget > 200 && percent(95)) || call.budget > 5000))
         return;
     write_call(stdout, &call);
     wanted--;
@@ -151,10 +151,10 @@ int main(int count, char **arguments)
             seed = strtoull(arguments[++i], NULL, 10);
         } else if (strcmp(arguments[i], "--count") == 0 && i + 1 < count) {
             wanted = strtoull(arguments[++i], NULL, 10);
-        } else if (strcmp(arguments[i], "--small") == 0) {
-            small = true;
+        } else if (strcmp(arguments[i], "--small") == 0 && i + 1 < count) {
+            small = (uint32_t)strtoul(arguments[++i], NULL, 10);
         } else {
-            fprintf(stderr, "calls --seed S --count N [--small]\n");
+            fprintf(stderr, "calls --seed S --count N [--small BYTES]\n");
             return 2;
         }
     }
