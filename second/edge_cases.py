@@ -359,6 +359,10 @@ case("tree: level 65 where the image ends", "evaluate", tree_image(b"\4\1" * 64)
 case("tree: level 65 comes before an unknown tag", "evaluate", tree_image(b"\4\1" * 64 + b"\7"), 2, 0)
 case("tree: level 65 comes before a part that is no value", "evaluate",
      tree_image(b"\4\1" * 64 + b"\0\0"), 2, 0)
+case("tree: at level 64 a function's name is judged before its body's level", "evaluate",
+     tree_image(b"\2\0" * 63 + b"\2\4"), 1, 0)
+case("tree: at level 64 an application of nothing", "evaluate", tree_image(b"\2\0" * 63 + b"\1\0"), 1, 0)
+case("tree: at level 64 an application of one", "evaluate", tree_image(b"\2\0" * 63 + b"\1\1"), 2, 0)
 case("tree: a syntax value's object stands at its level", "evaluate",
      tree_image(nested(63, "`1", "<", ">")), 0, 65, result=tree_image(nested(63, "`1", "<", ">")))
 case("tree: a syntax value at level 64 with a part", "evaluate",

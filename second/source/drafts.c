@@ -394,6 +394,16 @@ static const Object *odd_form(int depth, const Known *known)
     }
 }
 
+/* A let-syntax whose macro is known in its body. */
+static const Object *definition(int depth, const Known *known)
+{
+    Known defined = {.word = percent(6) ? below(CORE_NAMES) : any_word(),
+                     .is_macro = true,
+                     .outer = known};
+    const Object *value = right_hand_side(depth, known);
+    return let_syntax(defined.word, value, program(depth - 1, &defined));
+}
+
 static const Object *program(int depth, const Known *known)
 {
     if (depth <= 0)
@@ -406,13 +416,8 @@ static const Object *program(int depth, const Known *known)
         Known variable = {.word = percent(6) ? below(CORE_NAMES) : any_word(), .outer = known};
         return lambda(variable.word, program(depth - 1, &variable));
     }
-    if (choice < 52) {
-        Known defined = {.word = percent(6) ? below(CORE_NAMES) : any_word(),
-                         .is_macro = true,
-                         .outer = known};
-        const Object *value = right_hand_side(depth, known);
-        return let_syntax(defined.word, value, program(depth - 1, &defined));
-    }
+    if (choice < 52)
+        return definition(depth, known);
     if (choice < 70) {
         const Object *parts[3];
         uint32_t count = between(1, 3);
@@ -680,6 +685,13 @@ static const Object *deep_program(void)
     }
 }
 
+/* A macro defined where a word is bound, so that both can meet in a template. */
+static const Object *lambda_around(int depth)
+{
+    Known variable = {.word = any_word(), .outer = NULL};
+    return lambda(variable.word, definition(depth, &variable));
+}
+
 void draft_program(Memory *given, Draft *draft)
 {
     memory = given;
@@ -689,8 +701,10 @@ void draft_program(Memory *given, Draft *draft)
         root = panel_program();
     else if (percent(3))
         root = deep_program();
-    else
+    else if (percent(30))
         root = program((int)between(1, 6), NULL);
+    else
+        root = percent(40) ? lambda_around((int)between(3, 6)) : definition((int)between(3, 6), NULL);
     if (image.word_count > 1 && percent(15))
         root = rename_word(root, any_word(), any_word());
     choose_counts();
