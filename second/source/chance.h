@@ -1,4 +1,5 @@
-/* A seeded source of chance: the same seed gives the same calls everywhere. */
+/* A seeded source of chance: one compiler gives the same calls for a seed each
+   time. Another may evaluate arguments in another order and make other calls. */
 #ifndef CHANCE_H
 #define CHANCE_H
 

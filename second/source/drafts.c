@@ -2,14 +2,13 @@
 
    Programs are first made without scopes, as a person would write them. Some
    then get scopes and bindings of their own, ambiguous ones among them. */
-#include "drafts.h"
-
 #include <string.h>
 
 #include "chance.h"
+#include "draft_parts.h"
 
-static Memory *memory;
-static Image image;
+Memory *draft_memory;
+Image draft_image;
 
 /* ---- small makers ---- */
 
@@ -17,7 +16,7 @@ static const ScopeSet bare[PHASES] = {NO_SCOPES, NO_SCOPES, NO_SCOPES};
 
 static const Object *atom(ObjectTag tag, uint32_t content)
 {
-    return make_atom_object(memory, (Atom){tag, content}, bare);
+    return make_atom_object(draft_memory, (Atom){tag, content}, bare);
 }
 
 static const Object *symbol(uint32_t number)
@@ -32,10 +31,10 @@ static const Object *primitive(uint32_t number)
 
 static const Object *list_of(uint32_t count, const Object *const *given)
 {
-    const Object **parts = take_object_parts(memory, count);
+    const Object **parts = take_object_parts(draft_memory, count);
     for (uint32_t i = 0; i < count; i++)
         parts[i] = given[i];
-    return make_list_object(memory, count, parts, bare);
+    return make_list_object(draft_memory, count, parts, bare);
 }
 
 static const Object *list1(const Object *a)
@@ -87,9 +86,9 @@ static const char *const pool[] = {
 
 static bool has_word(const char *text)
 {
-    for (uint32_t i = 0; i < image.word_count; i++)
-        if (image.words[i].length == strlen(text) &&
-            memcmp(image.words[i].bytes, text, strlen(text)) == 0)
+    for (uint32_t i = 0; i < draft_image.word_count; i++)
+        if (draft_image.words[i].length == strlen(text) &&
+            memcmp(draft_image.words[i].bytes, text, strlen(text)) == 0)
             return true;
     return false;
 }
@@ -100,11 +99,11 @@ static uint32_t word_symbol(const char *text, size_t length)
     for (uint32_t i = 0; i < CORE_NAMES; i++)
         if (strlen(core[i]) == length && memcmp(core[i], text, length) == 0)
             return i;
-    for (uint32_t i = 0; i < image.word_count; i++)
-        if (image.words[i].length == length && memcmp(image.words[i].bytes, text, length) == 0)
+    for (uint32_t i = 0; i < draft_image.word_count; i++)
+        if (draft_image.words[i].length == length && memcmp(draft_image.words[i].bytes, text, length) == 0)
             return CORE_NAMES + i;
-    image.words[image.word_count] = (Word){(const uint8_t *)text, (uint32_t)length};
-    return CORE_NAMES + image.word_count++;
+    draft_image.words[draft_image.word_count] = (Word){(const uint8_t *)text, (uint32_t)length};
+    return CORE_NAMES + draft_image.word_count++;
 }
 
 static void choose_words(uint32_t count)
@@ -119,9 +118,9 @@ static void choose_words(uint32_t count)
 
 static uint32_t any_word(void)
 {
-    if (image.word_count == 0 || percent(2))
+    if (draft_image.word_count == 0 || percent(2))
         return below(CORE_NAMES);
-    return CORE_NAMES + below(image.word_count);
+    return CORE_NAMES + below(draft_image.word_count);
 }
 
 /* ---- notation, for the programs written by hand ---- */
@@ -223,7 +222,7 @@ static const Object *template_code(const Object *template, uint32_t form)
 
 /* ---- loose objects ---- */
 
-static const Object *any_atom(void)
+const Object *any_atom(void)
 {
     switch (below(10)) {
     case 0:
@@ -243,7 +242,7 @@ static const Object *any_atom(void)
     }
 }
 
-static const Object *any_object(int depth)
+const Object *any_object(int depth)
 {
     if (depth <= 0 || percent(45))
         return any_atom();
@@ -528,10 +527,10 @@ static const Object *rename_word(const Object *object, uint32_t from, uint32_t t
         return object->content == from ? symbol(to) : object;
     if (object->tag != LIST)
         return object;
-    const Object **parts = take_object_parts(memory, object->count);
+    const Object **parts = take_object_parts(draft_memory, object->count);
     for (uint32_t i = 0; i < object->count; i++)
         parts[i] = rename_word(object->parts[i], from, to);
-    return make_list_object(memory, object->count, parts, bare);
+    return make_list_object(draft_memory, object->count, parts, bare);
 }
 
 /* ---- scopes and bindings of the image's own ---- */
@@ -539,48 +538,48 @@ static const Object *rename_word(const Object *object, uint32_t from, uint32_t t
 static ScopeSet any_set(void)
 {
     ScopeSet set = NO_SCOPES;
-    if (image.scopes == 0)
+    if (draft_image.scopes == 0)
         return set;
     for (uint32_t i = below(4); i > 0; i--)
-        set |= only_scope(percent(90) ? between(1, image.scopes < 4 ? image.scopes : 4)
-                                      : between(1, image.scopes));
+        set |= only_scope(percent(90) ? between(1, draft_image.scopes < 4 ? draft_image.scopes : 4)
+                                      : between(1, draft_image.scopes));
     return set;
 }
 
-static const Object *sprinkle(const Object *object, uint32_t of_hundred)
+const Object *sprinkle(const Object *object, uint32_t of_hundred)
 {
     ScopeSet sets[PHASES] = {object->sets[0], object->sets[1], object->sets[2]};
     for (int phase = 0; phase < PHASES; phase++)
         if (percent(of_hundred))
             sets[phase] |= any_set();
     if (object->tag != LIST)
-        return make_atom_object(memory, (Atom){object->tag, object->content}, sets);
-    const Object **parts = take_object_parts(memory, object->count);
+        return make_atom_object(draft_memory, (Atom){object->tag, object->content}, sets);
+    const Object **parts = take_object_parts(draft_memory, object->count);
     for (uint32_t i = 0; i < object->count; i++)
         parts[i] = sprinkle(object->parts[i], of_hundred);
-    return make_list_object(memory, object->count, parts, sets);
+    return make_list_object(draft_memory, object->count, parts, sets);
 }
 
 static void add_binding(Binding binding)
 {
-    uint32_t place = image.binding_count;
+    uint32_t place = draft_image.binding_count;
     if (place == MOST_BINDINGS)
         return;
-    while (place > 0 && compare_bindings(&image.bindings[place - 1], &binding) >= 0)
+    while (place > 0 && compare_bindings(&draft_image.bindings[place - 1], &binding) >= 0)
         place--;
-    if (place < image.binding_count && compare_bindings(&image.bindings[place], &binding) == 0)
+    if (place < draft_image.binding_count && compare_bindings(&draft_image.bindings[place], &binding) == 0)
         return;
-    for (uint32_t i = image.binding_count; i > place; i--)
-        image.bindings[i] = image.bindings[i - 1];
-    image.bindings[place] = binding;
-    image.binding_count++;
+    for (uint32_t i = draft_image.binding_count; i > place; i--)
+        draft_image.bindings[i] = draft_image.bindings[i - 1];
+    draft_image.bindings[place] = binding;
+    draft_image.binding_count++;
 }
 
 static void add_bindings(uint32_t count, uint32_t favoured)
 {
     for (uint32_t i = 0; i < count; i++) {
         uint32_t bound = percent(60) ? favoured : percent(20) ? below(CORE_NAMES) : any_word();
-        uint32_t target = percent(35) ? below(CORE_NAMES) : below(image.names);
+        uint32_t target = percent(35) ? below(CORE_NAMES) : below(draft_image.names);
         add_binding((Binding){.symbol = bound, .target = target, .set = any_set()});
     }
 }
@@ -588,62 +587,62 @@ static void add_bindings(uint32_t count, uint32_t favoured)
 /* Two bindings of a word that contain each other nowhere; a third may settle it. */
 static void tangle(uint32_t word)
 {
-    if (image.scopes < 3)
-        image.scopes = 3;
+    if (draft_image.scopes < 3)
+        draft_image.scopes = 3;
     ScopeSet one = only_scope(1), two = only_scope(2), three = only_scope(3);
-    add_binding((Binding){.symbol = word, .target = below(image.names), .set = one});
-    add_binding((Binding){.symbol = word, .target = below(image.names), .set = two});
+    add_binding((Binding){.symbol = word, .target = below(draft_image.names), .set = one});
+    add_binding((Binding){.symbol = word, .target = below(draft_image.names), .set = two});
     if (percent(40))
-        add_binding((Binding){.symbol = word, .target = below(image.names), .set = one | two});
+        add_binding((Binding){.symbol = word, .target = below(draft_image.names), .set = one | two});
     if (percent(30))
-        add_binding((Binding){.symbol = word, .target = below(image.names), .set = one | three});
+        add_binding((Binding){.symbol = word, .target = below(draft_image.names), .set = one | three});
 }
 
 /* Many bindings of a word that is seldom used, to be short of room. */
 static void fill_bindings(uint32_t count)
 {
-    if (image.scopes < 30)
-        image.scopes = 30;
+    if (draft_image.scopes < 30)
+        draft_image.scopes = 30;
     uint32_t word = any_word();
-    for (uint32_t low = 1; low < 30 && image.binding_count < count; low++)
-        for (uint32_t high = low + 1; high <= 30 && image.binding_count < count; high++)
+    for (uint32_t low = 1; low < 30 && draft_image.binding_count < count; low++)
+        for (uint32_t high = low + 1; high <= 30 && draft_image.binding_count < count; high++)
             add_binding((Binding){.symbol = word,
                                   .target = word,
                                   .set = only_scope(low) | only_scope(high)});
 }
 
-static void start_image(uint32_t kind, uint32_t words)
+void start_draft(Memory *memory, uint32_t kind, uint32_t words)
 {
+    draft_memory = memory;
     clear_memory(memory);
-    image.kind = kind;
-    image.word_count = 0;
-    image.names = CORE_NAMES;
-    image.scopes = 0;
-    image.binding_count = 0;
-    image.object = NULL;
-    image.tree = NULL;
+    draft_image.kind = kind;
+    draft_image.word_count = 0;
+    draft_image.names = CORE_NAMES;
+    draft_image.scopes = 0;
+    draft_image.binding_count = 0;
+    draft_image.object = NULL;
+    draft_image.tree = NULL;
     holes_allowed = 0;
     choose_words(words);
 }
 
-/* Counts of names and scopes, now and then near their limits. */
-static void choose_counts(void)
+void choose_counts(void)
 {
-    image.names = CORE_NAMES + image.word_count;
+    draft_image.names = CORE_NAMES + draft_image.word_count;
     if (percent(15))
-        image.names += between(1, 3);
+        draft_image.names += between(1, 3);
     if (percent(4))
-        image.names = MOST_NAMES - below(4);
+        draft_image.names = MOST_NAMES - below(4);
     if (percent(30))
-        image.scopes = between(1, 4);
+        draft_image.scopes = between(1, 4);
     if (percent(5))
-        image.scopes = MOST_SCOPES - below(6);
+        draft_image.scopes = MOST_SCOPES - below(6);
 }
 
-static void finish(Draft *draft)
+void finish_draft(Draft *draft)
 {
-    draft->kind = image.kind;
-    if (!write_image(&image, draft->bytes, DRAFT_ROOM, &draft->length))
+    draft->kind = draft_image.kind;
+    if (!write_image(&draft_image, draft->bytes, DRAFT_ROOM, &draft->length))
         draft->length = 0;
 }
 
@@ -692,10 +691,9 @@ static const Object *lambda_around(int depth)
     return lambda(variable.word, definition(depth, &variable));
 }
 
-void draft_program(Memory *given, Draft *draft)
+void draft_program(Memory *memory, Draft *draft)
 {
-    memory = given;
-    start_image(SYNTAX_IMAGE, between(1, 4));
+    start_draft(memory, SYNTAX_IMAGE, between(1, 4));
     const Object *root;
     if (percent(30))
         root = panel_program();
@@ -705,7 +703,7 @@ void draft_program(Memory *given, Draft *draft)
         root = program((int)between(1, 6), NULL);
     else
         root = percent(40) ? lambda_around((int)between(3, 6)) : definition((int)between(3, 6), NULL);
-    if (image.word_count > 1 && percent(15))
+    if (draft_image.word_count > 1 && percent(15))
         root = rename_word(root, any_word(), any_word());
     choose_counts();
     if (percent(35))
@@ -718,17 +716,16 @@ void draft_program(Memory *given, Draft *draft)
     }
     if (percent(1))
         fill_bindings(between(MOST_BINDINGS - 3, MOST_BINDINGS));
-    image.object = root;
-    finish(draft);
+    draft_image.object = root;
+    finish_draft(draft);
 }
 
-void draft_identifier(Memory *given, Draft *draft)
+void draft_identifier(Memory *memory, Draft *draft)
 {
-    memory = given;
-    start_image(SYNTAX_IMAGE, between(0, 2));
+    start_draft(memory, SYNTAX_IMAGE, between(0, 2));
     choose_counts();
-    if (image.scopes == 0)
-        image.scopes = between(1, 5);
+    if (draft_image.scopes == 0)
+        draft_image.scopes = between(1, 5);
     uint32_t word = any_word();
     const Object *root = percent(92) ? symbol(word) : any_object(1);
     for (uint32_t times = between(1, 3); times > 0; times--)
@@ -736,16 +733,15 @@ void draft_identifier(Memory *given, Draft *draft)
     if (percent(30))
         tangle(word);
     add_bindings(between(0, 7), word);
-    image.object = root;
+    draft_image.object = root;
     if (percent(1))
         fill_bindings(MOST_BINDINGS);
-    finish(draft);
+    finish_draft(draft);
 }
 
-void draft_object(Memory *given, Draft *draft)
+void draft_object(Memory *memory, Draft *draft)
 {
-    memory = given;
-    start_image(SYNTAX_IMAGE, between(0, 3));
+    start_draft(memory, SYNTAX_IMAGE, between(0, 3));
     const Object *root = percent(50) ? any_object(3) : program((int)between(1, 4), NULL);
     if (percent(2))
         root = wrap(root, between(50, 63));
@@ -761,360 +757,6 @@ void draft_object(Memory *given, Draft *draft)
         tangle(any_word());
         root = sprinkle(root, 50);
     }
-    image.object = root;
-    finish(draft);
-}
-
-/* ---- trees ---- */
-
-typedef struct Bound Bound;
-struct Bound {
-    uint32_t name;
-    const Bound *outer;
-};
-
-/* What a tree should evaluate to. */
-typedef enum { ANY_VALUE, A_NUMBER, AN_ATOM, A_LIST, SYNTAXES, A_SYNTAX, A_FUNCTION } Wanted;
-
-static const Tree *tree(int depth, const Bound *bound, Wanted wanted);
-
-static const Tree *tree_atom(ObjectTag tag, uint32_t content)
-{
-    return make_atom(memory, (Atom){tag, content});
-}
-
-static const Tree *tree_list(uint32_t count, const Tree *const *given, bool is_value)
-{
-    const Tree **parts = take_tree_parts(memory, count);
-    for (uint32_t i = 0; i < count; i++)
-        parts[i] = given[i];
-    return is_value ? make_list_value(memory, count, parts)
-                    : make_application(memory, count, parts);
-}
-
-static const Tree *apply1(const Tree *head, const Tree *a)
-{
-    return tree_list(2, (const Tree *[]){head, a}, false);
-}
-
-static const Tree *apply2(const Tree *head, const Tree *a, const Tree *b)
-{
-    return tree_list(3, (const Tree *[]){head, a, b}, false);
-}
-
-static const Tree *apply3(const Tree *head, const Tree *a, const Tree *b, const Tree *c)
-{
-    return tree_list(4, (const Tree *[]){head, a, b, c}, false);
-}
-
-static const Tree *tree_primitive(uint32_t number)
-{
-    return tree_atom(PRIMITIVE, number);
-}
-
-static const Tree *any_syntax(void)
-{
-    return make_syntax_value(memory, sprinkle(any_object(2), 30));
-}
-
-static uint32_t any_function_name(void)
-{
-    uint32_t names = image.names < 8 ? image.names : 8;
-    return percent(95) ? below(names) : below(image.names);
-}
-
-static const Tree *any_variable(const Bound *bound)
-{
-    uint32_t met = 0, chosen = any_function_name();
-    for (; bound != NULL; bound = bound->outer)
-        if (below(++met) == 0)
-            chosen = bound->name;
-    return make_variable(memory, chosen);
-}
-
-static const Tree *value(int depth, const Bound *bound, Wanted wanted)
-{
-    const Tree *parts[4];
-    uint32_t count;
-    switch (wanted) {
-    case A_NUMBER:
-        return tree_atom(NUMBER, below(3));
-    case AN_ATOM: {
-        const Object *chosen = any_atom();
-        return tree_atom(chosen->tag, chosen->content);
-    }
-    case A_LIST:
-        count = below(4);
-        for (uint32_t i = 0; i < count; i++)
-            parts[i] = value(depth - 1, bound,
-                             depth > 0 ? (Wanted[]){AN_ATOM, A_LIST, A_SYNTAX, A_FUNCTION}[below(4)]
-                                       : AN_ATOM);
-        return tree_list(count, parts, true);
-    case SYNTAXES:
-        count = below(4);
-        for (uint32_t i = 0; i < count; i++)
-            parts[i] = any_syntax();
-        return tree_list(count, parts, true);
-    case A_SYNTAX:
-        return any_syntax();
-    case A_FUNCTION: {
-        Bound inner = {.name = any_function_name(), .outer = bound};
-        return make_function(memory, inner.name, tree(depth - 1, &inner, ANY_VALUE));
-    }
-    default:
-        return value(depth, bound,
-                     (Wanted[]){AN_ATOM, AN_ATOM, A_LIST, A_SYNTAX, A_FUNCTION}[below(5)]);
-    }
-}
-
-/* A tree that most often evaluates to what is wanted. */
-static const Tree *tree(int depth, const Bound *bound, Wanted wanted)
-{
-    if (percent(4))
-        wanted = ANY_VALUE;
-    if (bound != NULL && percent(25))
-        return any_variable(bound);
-    if (percent(1))
-        return any_variable(bound);
-    if (depth <= 0)
-        return value(depth, bound, wanted);
-    if (percent(3)) { /* wrong counts, and heads that cannot be applied */
-        const Tree *parts[5];
-        uint32_t count = between(1, 5);
-        for (uint32_t i = 0; i < count; i++)
-            parts[i] = tree(depth - 1, bound, ANY_VALUE);
-        if (percent(60))
-            parts[0] = tree_primitive(below(LARGEST_PRIMITIVE + 1));
-        return tree_list(count, parts, false);
-    }
-    switch (below(12)) {
-    case 0:
-    case 1: { /* a function applied */
-        Bound inner = {.name = any_function_name(), .outer = bound};
-        const Tree *function =
-            make_function(memory, inner.name, tree(depth - 1, &inner, wanted));
-        return apply1(function, tree(depth - 1, bound, ANY_VALUE));
-    }
-    case 2:
-        return apply3(tree_primitive(6), tree(depth - 2, bound, A_NUMBER),
-                      tree(depth - 1, bound, wanted), tree(depth - 1, bound, wanted));
-    case 3:
-        return apply1(tree_primitive(2), tree(depth - 1, bound, A_LIST));
-    default:
-        break;
-    }
-    switch (wanted) {
-    case A_NUMBER:
-    case AN_ATOM:
-        if (percent(50))
-            return apply2(tree_primitive(5), tree(depth - 1, bound, AN_ATOM),
-                          tree(depth - 1, bound, AN_ATOM));
-        return value(depth, bound, wanted);
-    case A_LIST:
-        if (percent(25))
-            return apply1(tree_primitive(3), tree(depth - 1, bound, A_LIST));
-        if (percent(60))
-            return apply2(tree_primitive(4), tree(depth - 1, bound, ANY_VALUE),
-                          tree(depth - 1, bound, A_LIST));
-        return value(depth, bound, A_LIST);
-    case SYNTAXES:
-        if (percent(40))
-            return apply1(tree_primitive(0), tree(depth - 1, bound, A_SYNTAX));
-        if (percent(60))
-            return apply2(tree_primitive(4), tree(depth - 1, bound, A_SYNTAX),
-                          tree(depth - 1, bound, SYNTAXES));
-        return value(depth, bound, SYNTAXES);
-    case A_SYNTAX:
-        if (percent(70))
-            return apply2(tree_primitive(1),
-                          tree(depth - 1, bound, percent(50) ? AN_ATOM : SYNTAXES),
-                          tree(depth - 2, bound, A_SYNTAX));
-        return value(depth, bound, A_SYNTAX);
-    case A_FUNCTION:
-        return value(depth, bound, A_FUNCTION);
-    default:
-        return tree(depth, bound,
-                    (Wanted[]){AN_ATOM, A_LIST, A_LIST, SYNTAXES, A_SYNTAX, A_SYNTAX,
-                               A_FUNCTION}[below(7)]);
-    }
-}
-
-/* [n (link $n (link $n <>))]: what goes in comes out twice. */
-static const Tree *doubler(uint32_t name)
-{
-    const Tree *variable = make_variable(memory, name);
-    const Tree *empty = tree_list(0, NULL, true);
-    return make_function(memory, name,
-                         apply2(tree_primitive(4), variable,
-                                apply2(tree_primitive(4), variable, empty)));
-}
-
-static const Tree *deep_value(const Tree *inner, uint32_t times)
-{
-    for (uint32_t i = 0; i < times; i++)
-        inner = tree_list(1, &inner, true);
-    return inner;
-}
-
-/* Applications of the identity around a tree: an entry is in progress for each. */
-static const Tree *deep_application(const Tree *inner, uint32_t times)
-{
-    for (uint32_t i = 0; i < times; i++)
-        inner = percent(80) ? apply1(make_function(memory, 1, make_variable(memory, 1)), inner)
-                            : apply2(tree_primitive(4), inner, tree_list(0, NULL, true));
-    return inner;
-}
-
-/* Values that double, values nested deep, entries that pile up. */
-static const Tree *hard_tree(void)
-{
-    const Tree *x = make_variable(memory, 2), *f = make_variable(memory, 3);
-    switch (below(7)) {
-    case 0: { /* doubled over and over */
-        const Tree *result = value(1, NULL, ANY_VALUE);
-        for (uint32_t i = between(1, 20); i > 0; i--)
-            result = apply1(doubler(2), result);
-        return result;
-    }
-    case 1: { /* a function that doubles many times, applied to a doubler */
-        const Tree *body = x;
-        for (uint32_t i = between(1, 30); i > 0; i--)
-            body = apply1(f, body);
-        return apply1(apply1(make_function(memory, 3, make_function(memory, 2, body)),
-                             doubler(0)),
-                      value(1, NULL, ANY_VALUE));
-    }
-    case 2: { /* link makes a value deeper */
-        const Tree *result = deep_value(value(0, NULL, ANY_VALUE), between(55, 62));
-        uint32_t times = between(1, 63);
-        for (uint32_t i = times > 10 ? times % 8 : times; i > 0; i--)
-            result = apply2(tree_primitive(4), result, tree_list(0, NULL, true));
-        return result;
-    }
-    case 3: { /* substitution makes a tree deeper */
-        uint32_t inner = between(2, 60), outer = 66 - inner - below(6);
-        const Tree *body = deep_application(x, outer > 60 ? 60 : outer);
-        return apply1(make_function(memory, 2, body), deep_value(tree_atom(NUMBER, 1), inner));
-    }
-    case 4: { /* round and round */
-        const Tree *twice = make_function(memory, 3, apply1(f, f));
-        return deep_application(apply1(twice, twice), below(50));
-    }
-    case 5: { /* entries near their limit */
-        uint32_t outer = between(30, 61), inner = 128 - outer - below(8) + below(4);
-        if (inner > 60)
-            inner = 60;
-        const Tree *body = deep_application(x, inner);
-        return deep_application(apply1(make_function(memory, 2, body), tree_atom(NUMBER, 1)),
-                                outer);
-    }
-    default: { /* round and round, growing */
-        const Tree *grow =
-            make_function(memory, 3,
-                          make_function(memory, 2,
-                                        apply1(apply1(f, f), apply1(doubler(1), x))));
-        return apply1(apply1(grow, grow), value(0, NULL, ANY_VALUE));
-    }
-    }
-}
-
-void draft_tree(Memory *given, Draft *draft)
-{
-    memory = given;
-    start_image(TREE_IMAGE, between(0, 3));
-    choose_counts();
-    image.tree = percent(8) ? hard_tree() : tree((int)between(1, 6), NULL, ANY_VALUE);
-    finish(draft);
-}
-
-/* ---- damage ---- */
-
-static void insert_bytes(Draft *draft, size_t place, const uint8_t *bytes, size_t count)
-{
-    if (draft->length + count > DRAFT_ROOM)
-        return;
-    memmove(draft->bytes + place + count, draft->bytes + place, draft->length - place);
-    memmove(draft->bytes + place, bytes, count);
-    draft->length += count;
-}
-
-static void remove_bytes(Draft *draft, size_t place, size_t count)
-{
-    memmove(draft->bytes + place, draft->bytes + place + count, draft->length - place - count);
-    draft->length -= count;
-}
-
-static size_t any_place(const Draft *draft)
-{
-    return percent(30) ? below((uint32_t)(draft->length < 12 ? draft->length : 12))
-                       : below((uint32_t)draft->length);
-}
-
-/* Numbers that are hard to read: longer than needed, or over the limit. */
-static void lengthen_number(Draft *draft, size_t place)
-{
-    static const uint8_t hard[][6] = {
-        {1, 0x00},
-        {1, 0x01},
-        {2, 0x80, 0x00},
-        {2, 0x80, 0x01},
-        {3, 0x80, 0x80, 0x00},
-        {4, 0x80, 0x80, 0x80, 0x00},
-        {4, 0x80, 0x80, 0x80, 0x0f},
-        {4, 0x80, 0x80, 0x80, 0x10},
-        {4, 0xff, 0xff, 0xff, 0x0f},
-        {4, 0xff, 0xff, 0xff, 0x8f},
-        {5, 0xff, 0xff, 0xff, 0x8f, 0x00},
-    };
-    const uint8_t *chosen = hard[below(sizeof hard / sizeof hard[0])];
-    draft->bytes[place] |= 128;
-    insert_bytes(draft, place + 1, chosen + 1, chosen[0]);
-}
-
-void damage_draft(Draft *draft, const Draft *other)
-{
-    for (uint32_t times = percent(70) ? 1 : between(1, 4); times > 0; times--) {
-        if (draft->length == 0)
-            return;
-        size_t place = any_place(draft);
-        size_t left = draft->length - place;
-        uint32_t run = 1 + below((uint32_t)(left < 12 ? left : 12));
-        static const uint8_t telling[] = {0, 1, 2, 3, 4, 5, 6, 7, 15, 16, 31, 32, 33, 35,
-                                          39, 40, 48, 64, 65, 126, 127, 128, 255};
-        switch (below(9)) {
-        case 0:
-        case 1:
-            draft->bytes[place] ^= (uint8_t)(1u << below(8));
-            break;
-        case 2:
-            draft->length = place;
-            break;
-        case 3: /* spliced with another image */
-            if (other->length > 0) {
-                size_t from = below((uint32_t)other->length);
-                size_t count = other->length - from;
-                draft->length = place;
-                insert_bytes(draft, place, other->bytes + from, count);
-            }
-            break;
-        case 4: { /* a section doubled */
-            uint8_t copy[16];
-            memcpy(copy, draft->bytes + place, run);
-            insert_bytes(draft, place, copy, run);
-            break;
-        }
-        case 5:
-            remove_bytes(draft, place, run);
-            break;
-        case 6:
-            lengthen_number(draft, place);
-            break;
-        case 7:
-            draft->bytes[place] = telling[below(sizeof telling)];
-            break;
-        default:
-            draft->bytes[place] = (uint8_t)(draft->bytes[place] + (percent(50) ? 1 : 255));
-            break;
-        }
-    }
+    draft_image.object = root;
+    finish_draft(draft);
 }
