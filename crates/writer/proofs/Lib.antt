@@ -1,0 +1,3 @@
+pub mod Bytes
+mod Counting
+mod Putting
