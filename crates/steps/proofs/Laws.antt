@@ -20,7 +20,7 @@ use Rattle.steps.specs.declared.Stop.{Stop}
 use Rattle.steps.specs.declared.Charged.{Charged}
 use Rattle.steps.specs.declared.Charged.the-variants.{Paid, Refused}
 use Rattle.steps.specs.States.{Store, stateOf, stopOf, paid, raisedTo, chargeOf, enterOf, end, Room}
-use Rattle.steps.specs.Agreement.{Later, Shape, Ended, done, refused, Gave, Agrees, gives, stops}
+use Rattle.steps.specs.Agreement.{Later, Ready, Shape, Ended, done, refused, Gave, Agrees, gives, stops}
 
 -- ---- the code's charge
 
@@ -145,6 +145,9 @@ room-later r p e = record { fits = omega (arith, r .fits, p .fits); small = omeg
 
 pub room-paid : {n : ℕ} {l : List ℕ} {s u : State} → Room l s → Went n s u → Room l u
 room-paid {l = l} r w = room-later r (later-paid l w) refl
+
+pub ready-paid : {A : Type 0} {Shows : List ℕ → ℕ → ℕ → A → Type 0} {n : ℕ} {l : List ℕ} {s u : State} {i : ℕ} → Ready Shows l s i → Went n s u → Ready Shows l u i
+ready-paid r w = rw (w .is) (record { thing = r .thing; shown = r .shown; room = rw (w .is) at (room-paid (r .room) w) })
 
 -- ---- agreement
 

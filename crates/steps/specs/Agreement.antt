@@ -11,7 +11,7 @@ use Rattle.steps.specs.declared.Stop.{Stop}
 use Rattle.steps.specs.declared.Out.{Out}
 use Rattle.steps.specs.declared.Answer.{Answer}
 use Rattle.steps.specs.declared.Answer.the-variants.{Done, Refused}
-use Rattle.steps.specs.States.{Store, stateOf, end}
+use Rattle.steps.specs.States.{Store, stateOf, end, Room}
 
 -- From table l and state s to l′ and s′, with at least n units charged. At least `spare` words of those that the units charged pay for are
 -- not used: they are for a cell that the caller adds.
@@ -21,10 +21,20 @@ pub record Later (n spare : ℕ) (l l′ : List ℕ) (s s′ : State) : Type 0 w
   pub fits : end s′ + spare ≤ end s
   pub spent : s′ .units + n ≤ s .units
 
+-- something at i, as Shows says how the table stands for it, and room for the work on it
+pub record Ready {A : Type 0} (Shows : List ℕ → ℕ → ℕ → A → Type 0) (l : List ℕ) (s : State) (i : ℕ) : Type 0 where
+  pub thing : A
+  pub shown : Shows l (s .top) i thing
+  pub room : Room l s
+
 -- how a result of the code stands for a value of the rules, and the state that it holds
 pub record Shape (A O : Type 0) : Type 1 where
   pub shows : List ℕ → O → A → Type 0
   pub state : O → State
+
+-- a result that lies in the table
+abbrev pub placed : {A : Type 0} → (List ℕ → ℕ → ℕ → A → Type 0) → Shape A Out
+placed Shows = record { shows = λ l o x. Shows l (o .state .top) (o .at) x; state = λ o. o .state }
 
 -- an answer of the code, whatever its type calls the two cases
 pub data Ended (O : Type 0) : Type 0 where

@@ -19,7 +19,7 @@ abbrev pub Store : Type 0
 Store = ℕ → List Bind
 
 abbrev pub stateOf : State → Store → m.State
-stateOf s b = record { left = s .units; names = s .names .0; scopes = s .scopes .0; binds = b (s .bindings) }
+stateOf s b = record { left = s .units; names = s .names; scopes = s .scopes; binds = b (s .bindings) }
 
 abbrev pub stopOf : Refusal → State → Stop
 stopOf r s = record { refusal = r; units = s .units }

@@ -1,8 +1,6 @@
 // Document 01, 'Expanding', its first paragraph: the state that expand, parse and evaluate hand on, what is charged, and when an entry
 // starts.
 use refusals::Refusal;
-use scopes::Name;
-use scopes::Scope;
 ghost use mathlib.Core.Path.{_≡_};
 ghost use Rattle.steps.specs.States.{raisedTo, chargeOf, enterOf};
 
@@ -11,10 +9,10 @@ pub struct State {
     pub top: u32,
     // Units not yet charged.
     pub units: u32,
-    // The next name.
-    pub names: Name,
-    // The last scope taken.
-    pub scopes: Scope,
+    // Names reached: the next one has this number.
+    pub names: u32,
+    // Scopes reached: the last one taken has this number.
+    pub scopes: u32,
     // How many bindings the store has.
     pub bindings: u32,
 }
