@@ -1,0 +1,47 @@
+use borrow.Author.Needs.{needs}
+use Prim.Native.Nat.{ℕ}
+use Rattle.evaluate.proofs.Laws.{laws}
+use Rattle.evaluate.proofs.application.Reads as application
+use Rattle.evaluate.proofs.form.Reads as form
+use Rattle.table.proofs.get_node.Reads as get-node-reads
+use Rattle.evaluate.proofs.+application+apply+apply_function+arguments+call+evaluate+form.Lts-form as lts
+use Rattle.evaluate.proofs.+application+apply+apply_function+arguments+call+evaluate+form.Proof.Measures.{form-at, application-below}
+
+module _ (t : ℕ) where
+  abbrev env : lts.Claims
+  env = (get-node-reads.Asked, get-node-reads.Learnt, application-below t, application.Post)
+
+  get-node-requires : lts.Need-get-node-requires env (form-at t) form.Post
+  get-node-requires c κs = search (laws, needs)
+
+  same-length : lts.Need-same-length env (form-at t) form.Post
+  same-length c = search (laws, needs)
+
+  returns : lts.Need-returns env (form-at t) form.Post
+  returns c = search (laws, needs)
+
+  application-requires : lts.Need-application-requires env (form-at t) form.Post
+  application-requires c κs = search (laws, needs)
+
+  same-length-2 : lts.Need-same-length-2 env (form-at t) form.Post
+  same-length-2 c = search (laws, needs)
+
+  returns-2 : lts.Need-returns-2 env (form-at t) form.Post
+  returns-2 c = search (laws, needs)
+
+  same-length-3 : lts.Need-same-length-3 env (form-at t) form.Post
+  same-length-3 c = search (laws, needs)
+
+  returns-3 : lts.Need-returns-3 env (form-at t) form.Post
+  returns-3 c = search (laws, needs)
+
+  pub closed : {M : Type 1} → lts.Closed env (form-at t) form.Post M
+  closed = lts.spec env (form-at t) form.Post
+      get-node-requires
+      same-length
+      returns
+      application-requires
+      same-length-2
+      returns-2
+      same-length-3
+      returns-3

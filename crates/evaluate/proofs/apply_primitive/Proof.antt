@@ -1,0 +1,69 @@
+use Rattle.evaluate.proofs.Working.{working}
+use borrow.Author.Needs.{needs}
+use Rattle.evaluate.proofs.apply_primitive.Statement.{statement}
+use Rattle.evaluate.proofs.apply_primitive.Tie as tie
+
+charge-requires : tie.Need-charge-requires
+charge-requires c κs = search (working, needs)
+
+enum-known-e : tie.Need-enum-known-e
+enum-known-e c = search (working, needs)
+
+enum-known-t : tie.Need-enum-known-t
+enum-known-t c = search (working, needs)
+
+primitive-requires : tie.Need-primitive-requires
+primitive-requires c κs = search (working, needs)
+
+enum-told : tie.Need-enum-told
+enum-told c = search (working, needs)
+
+enum-known-m : tie.Need-enum-known-m
+enum-known-m c = search (working, needs)
+
+measure-requires : tie.Need-measure-requires
+measure-requires c κs = search (working, needs)
+
+same-length : tie.Need-same-length
+same-length c = search (working, needs)
+
+returns : tie.Need-returns
+returns c = search (working, needs)
+
+raised-requires : tie.Need-raised-requires
+raised-requires c κs = search (working, needs)
+
+returns-2 : tie.Need-returns-2
+returns-2 c = search (working, needs)
+
+same-length-2 : tie.Need-same-length-2
+same-length-2 c = search (working, needs)
+
+returns-3 : tie.Need-returns-3
+returns-3 c = search (working, needs)
+
+same-length-3 : tie.Need-same-length-3
+same-length-3 c = search (working, needs)
+
+returns-4 : tie.Need-returns-4
+returns-4 c = search (working, needs)
+
+pub apply-primitive-spec : {M : Type 1} → statement M
+apply-primitive-spec =
+    tie.close
+    (tie.spec
+    charge-requires
+    enum-known-e
+    enum-known-t
+    primitive-requires
+    enum-told
+    enum-known-m
+    measure-requires
+    same-length
+    returns
+    raised-requires
+    returns-2
+    same-length-2
+    returns-3
+    same-length-3
+    returns-4)

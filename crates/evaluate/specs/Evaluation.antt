@@ -1,0 +1,139 @@
+-- What the functions of the cycle ask and give.
+use mathlib.Core.Path.{_≡_}
+use mathlib.Core.List.{List}
+use mathlib.Core.Bool.{true}
+use Prim.Native.Nat.{ℕ, min}
+use Rattle.model.specs.Refusals.{notApplicable}
+use Rattle.model.specs.Trees.{Tree, Trees, tnil, tcons, app, tcount, tsize, substitute}
+use Rattle.model.specs.Steps.{Step, _>>=_, _>>_, unless, charge, madeTree}
+use Rattle.model.specs.Evaluating.{evaluate, evalEntry, applicable, eachTree, apply, arity, argument, primitive, orWrongKind}
+use Rattle.table.specs.declared.Body.{Body}
+use Rattle.things.specs.Rep.{Rep, RepP}
+use Rattle.primitives.specs.Working.{Given}
+use Rattle.steps.specs.declared.State.{State}
+use Rattle.steps.specs.declared.Answer.{Answer}
+use Rattle.steps.specs.States.{Store, stateOf, Room}
+use Rattle.steps.specs.Agreement.{Shape, placed, Ended, done, refused, ended, Agrees}
+use Rattle.evaluate.specs.declared.Values.{Values}
+use Rattle.evaluate.specs.declared.Gathered.{Gathered}
+use Rattle.evaluate.specs.declared.Gathered.the-variants.{All, Refused}
+
+-- ---- what is asked
+
+-- a chain of a head and arguments
+pub record ReadyApplication (l : List ℕ) (s : State) (c : ℕ) : Type 0 where
+  pub first : Tree
+  pub others : Trees
+  pub shown : RepP l (s .top) c (tcons first others)
+  pub room : Room l s
+
+-- a value, and the trees of the arguments
+pub record ReadyCall (l : List ℕ) (s : State) (f c : ℕ) : Type 0 where
+  pub value : Tree
+  pub things : Trees
+  pub shown : Rep l (s .top) f value
+  pub shown-parts : RepP l (s .top) c things
+  pub room : Room l s
+
+-- a value, and the values of as many arguments as it takes
+pub record ReadyApply (l : List ℕ) (s : State) (f x y z : ℕ) : Type 0 where
+  pub value : Tree
+  pub values : Trees
+  pub shown : Rep l (s .top) f value
+  pub given : Given l (s .top) x y z values
+  pub able : applicable value (tcount values) ≡ true
+  pub room : Room l s
+
+-- a function's body, and the argument's value
+pub record ReadyFunction (l : List ℕ) (s : State) (body : Body) (x : ℕ) : Type 0 where
+  pub thing : Tree
+  pub value : Tree
+  pub shown : Rep l (s .top) (body .at) thing
+  pub given : Rep l (s .top) x value
+  pub sized : body .size ≡ min 4097 (tsize thing)
+  pub room : Room l s
+
+pub record ReadyPrimitive (l : List ℕ) (s : State) (p x y z : ℕ) : Type 0 where
+  pub values : Trees
+  pub given : Given l (s .top) x y z values
+  pub able : tcount values ≡ arity p
+  pub room : Room l s
+
+-- a value, and the tree of one argument
+pub record ReadyOne (l : List ℕ) (s : State) (f x : ℕ) : Type 0 where
+  pub value : Tree
+  pub thing : Tree
+  pub shown : Rep l (s .top) f value
+  pub given : Rep l (s .top) x thing
+  pub room : Room l s
+
+-- ---- parts of the rules that have no name there
+
+-- an application whose head's value is f
+unfoldable pub callOf : (Tree → Step Tree) → Tree → Trees → Step Tree
+unfolding applicable tcount eachTree apply
+callOf self f l = do
+  unless notApplicable (applicable f (tcount l))
+  vs ← eachTree self l
+  apply self f vs
+
+-- a function n of body b applied to v
+unfoldable pub functionOf : (Tree → Step Tree) → ℕ → Tree → Tree → Step Tree
+unfolding charge madeTree substitute tsize
+functionOf self n v b = do
+  charge (tsize b)
+  t ← madeTree (substitute n v b)
+  self t
+
+-- primitive p applied to values
+unfoldable pub primitiveOf : ℕ → Trees → Step Tree
+unfolding charge argument primitive orWrongKind
+primitiveOf p l = do
+  charge 1
+  orWrongKind (primitive p (argument l 0) (argument l 1) (argument l 2))
+
+-- ---- what is given
+
+-- an entry charges at least one unit, and needs none of the words that it pays for
+pub record Evaluates (left : ℕ) (l l′ : List ℕ) (s : State) (i : ℕ) (r : Answer) : Type 0 where
+  pub means : (b : Store) (t : Tree) → Rep l (s .top) i t → Agrees (placed Rep) 1 16 l l′ s b (evaluate left t (stateOf s b)) (ended r)
+
+pub record Forms (left : ℕ) (l l′ : List ℕ) (s : State) (i : ℕ) (r : Answer) : Type 0 where
+  pub means : (b : Store) (t : Tree) → Rep l (s .top) i t → Agrees (placed Rep) 0 0 l l′ s b (evalEntry (λ u. evaluate left u) t (stateOf s b)) (ended r)
+
+pub record Applies (left : ℕ) (l l′ : List ℕ) (s : State) (c : ℕ) (r : Answer) : Type 0 where
+  pub means : (b : Store) (t : Tree) (ts : Trees) → RepP l (s .top) c (tcons t ts)
+      → Agrees (placed Rep) 0 0 l l′ s b (evalEntry (λ u. evaluate left u) (app t ts) (stateOf s b)) (ended r)
+
+pub record Calls (left : ℕ) (l l′ : List ℕ) (s : State) (f c : ℕ) (r : Answer) : Type 0 where
+  pub means : (b : Store) (t : Tree) (ts : Trees) → Rep l (s .top) f t → RepP l (s .top) c ts
+      → Agrees (placed Rep) 0 0 l l′ s b (callOf (λ u. evaluate left u) t ts (stateOf s b)) (ended r)
+
+abbrev pub valued : Shape Trees Values
+valued = record { shows = λ l o ts. Given l (o .state .top) (o .x) (o .y) (o .z) ts; state = λ o. o .state }
+
+abbrev pub gathered : Gathered → Ended Values
+gathered (All v) = done v
+gathered (Refused f) = refused f
+
+pub record Gathers (left : ℕ) (l l′ : List ℕ) (s : State) (c : ℕ) (r : Gathered) : Type 0 where
+  pub means : (b : Store) (ts : Trees) → RepP l (s .top) c ts → Agrees valued 0 0 l l′ s b (eachTree (λ u. evaluate left u) ts (stateOf s b)) (gathered r)
+
+pub record Does (left : ℕ) (l l′ : List ℕ) (s : State) (f x y z : ℕ) (r : Answer) : Type 0 where
+  pub means : (b : Store) (t : Tree) (ts : Trees) → Rep l (s .top) f t → Given l (s .top) x y z ts → applicable t (tcount ts) ≡ true
+      → Agrees (placed Rep) 0 0 l l′ s b (apply (λ u. evaluate left u) t ts (stateOf s b)) (ended r)
+
+pub record DoesFunction (left : ℕ) (l l′ : List ℕ) (s : State) (n : ℕ) (body : Body) (x : ℕ) (r : Answer) : Type 0 where
+  pub means : (b : Store) (t v : Tree) → Rep l (s .top) (body .at) t → Rep l (s .top) x v → body .size ≡ min 4097 (tsize t)
+      → Agrees (placed Rep) 0 0 l l′ s b (functionOf (λ u. evaluate left u) n v t (stateOf s b)) (ended r)
+
+pub record DoesPrimitive (l l′ : List ℕ) (s : State) (p x y z : ℕ) (r : Answer) : Type 0 where
+  pub means : (b : Store) (ts : Trees) → Given l (s .top) x y z ts → tcount ts ≡ arity p → Agrees (placed Rep) 0 0 l l′ s b (primitiveOf p ts (stateOf s b)) (ended r)
+
+-- the application of t to u, evaluated
+pub record AppliesValue (left : ℕ) (l l′ : List ℕ) (s : State) (f x : ℕ) (r : Answer) : Type 0 where
+  pub means : (b : Store) (t u : Tree) → Rep l (s .top) f t → Rep l (s .top) x u → Agrees (placed Rep) 1 16 l l′ s b (evaluate left (app t (tcons u tnil)) (stateOf s b)) (ended r)
+
+pub record CallsOne (left : ℕ) (l l′ : List ℕ) (s : State) (f x : ℕ) (r : Answer) : Type 0 where
+  pub means : (b : Store) (t u : Tree) → Rep l (s .top) f t → Rep l (s .top) x u
+      → Agrees (placed Rep) 0 0 l l′ s b (callOf (λ v. evaluate left v) t (tcons u tnil) (stateOf s b)) (ended r)
