@@ -1,25 +1,24 @@
--- Making an object anew, part by part: one law for each way out.
+-- Objects and chains, copied: one law for each way out.
 use mathlib.Core.Path.{_≡_, refl, sym, ap, _∙_}
 use mathlib.Core.List.{List}
 use Prim.Native.Nat.{ℕ, _+_, _*_, _-_, _≤_, _<_}
 use native.Mathlib.Omega.{arith}
 use lib.ListN.{length}
 use Rattle.model.specs.Objects as m
-use Rattle.model.specs.Objects.{Atom, tagOf, contentOf, Stx, Stxs, atom, list, nil, cons, size, sizes, nesting, nestings, onSets, onSetsAll}
-use Rattle.model.specs.Trees.{Tree, Trees, stx, datum, lst, tnil, tcons, fromStxs, strip, stripAll}
-use Rattle.table.specs.Tags.{listTag, listValueTag, atomValueTag}
+use Rattle.model.specs.Objects.{Atom, tagOf, contentOf, Stx, Stxs, atom, list, nil, cons, size, sizes, nesting, nestings}
+use Rattle.model.specs.Trees.{stx, tnil, fromStxs}
+use Rattle.table.specs.Tags.{listTag}
 use Rattle.table.specs.Words.{getNode, getSets, getCell, Same}
 use Rattle.table.specs.declared.Node.{Node}
 use Rattle.table.specs.declared.Sets.{Sets}
 use Rattle.table.specs.declared.Cell.{Cell}
 use Rattle.table.proofs.Laws.{same-refl, same-trans}
 use Rattle.things.specs.Rep.{Rep, RepP, is-none, setsOf}
-use Rattle.things.specs.Making.{Roomy, Stored, StoredObject, Linkable, Linked}
-use Rattle.things.proofs.Frame.{below, carry, carryP, staysP}
-use Rattle.things.proofs.ByTag.{AtomAt, atom-at, list-at, stx-tag, ConsAt, cons-at, cons-some}
-use Rattle.things.proofs.Making.{made-atom, made-list, made-datum, made-lst}
-use Rattle.syntax.specs.Copying.{Copyable, Reached, ReachedP, Copy, Copied, Copying, changing, stripping, copyOf, copiesOf, CopiedBy, CopyP, CopiedP}
-use Rattle.syntax.proofs.Sizes.{size-pos, nesting-pos, size-list, nesting-list, sizes-nil, sizes-cons, nestings-cons}
+use Rattle.things.proofs.Frame.{below, carryP}
+use Rattle.things.proofs.ByTag.{atom-at, list-at, stx-tag, ConsAt, cons-at, cons-some}
+use Rattle.syntax.specs.Copying.{Reached, ReachedP, Copying, CopiedBy, Puttable, Put, Laid, laid-none, laid-one, CopiedEach, Row, Chained}
+use Rattle.syntax.proofs.Sizes.{size-pos, nesting-pos, size-atom, size-list, nesting-list, sizes-cons, nestings-cons}
+use Rattle.syntax.proofs.Rows.{laid-grows, laid-room, laid-flat, laid-stays}
 
 -- ---- what stands at an object's index
 
@@ -30,23 +29,32 @@ record ListAt (l : List ℕ) (top : ℕ) (o : Node) (c : m.Sets) (x : Stx) : Typ
   parts : Stxs
   is : x ≡ list c parts
   shown : RepP l top (o .content) (fromStxs parts)
-  low : o .content < top
+  size : size x ≡ 1 + sizes parts
+  nesting : nesting x ≡ 1 + nestings parts
 
-list-is : {l : List ℕ} {top i : ℕ} {x : Stx} {o : Node} → Rep l top i (stx x) → o ≡ getNode l i → o .tag ≡ listTag → ListAt l top o (setsOf (getSets l i)) x
-list-is r e h =
+list-is : {l : List ℕ} {top i : ℕ} {x : Stx} {o : Node} {c : Sets} → Rep l top i (stx x) → o ≡ getNode l i → c ≡ getSets l i → o .tag ≡ listTag → ListAt l top o (setsOf c) x
+list-is {c = c} r e d h =
     let p = list-at r e h in
-    record { parts = p .parts; is = rw (p .words) (same-object (p .is)); shown = p .shown; low = omega (arith, p .low, below r) }
+    let z : _ ≡ list (setsOf c) (p .parts) = same-object (p .is) ∙ ap (λ (s : m.Sets). list s (p .parts)) (sym (ap setsOf d ∙ p .words)) in
+    record { parts = p .parts; is = z; shown = p .shown; size = ap size z ∙ size-list (setsOf c) (p .parts); nesting = ap nesting z ∙ nesting-list (setsOf c) (p .parts) }
 
 record AtomIs (o : Node) (c : m.Sets) (x : Stx) : Type 0 where
   value : Atom
   is : x ≡ atom c value
   node : o ≡ record { tag = tagOf value; content = contentOf value }
+  size : size x ≡ 1
 
-atom-is : {l : List ℕ} {top i : ℕ} {x : Stx} {o : Node} → Rep l top i (stx x) → o ≡ getNode l i → ¬ (o .tag ≡ listTag) → AtomIs o (setsOf (getSets l i)) x
-atom-is {o = o} r e h =
+atom-is : {l : List ℕ} {top i : ℕ} {x : Stx} {o : Node} {c : Sets} → Rep l top i (stx x) → o ≡ getNode l i → c ≡ getSets l i → ¬ (o .tag ≡ listTag) → AtomIs o (setsOf c) x
+atom-is {o = o} {c = c} r e d h =
     let low : o .tag < listTag = omega (arith, stx-tag r e, h) in
     let p = atom-at r e low in
-    record { value = p .value; is = rw (p .words) (same-object (p .is)); node = λ j. record { tag = (p .tag) j; content = (p .content) j } }
+    let z : _ ≡ atom (setsOf c) (p .value) = same-object (p .is) ∙ ap (λ (s : m.Sets). atom s (p .value)) (sym (ap setsOf d ∙ p .words)) in
+    record {
+      value = p .value;
+      is = z;
+      size = ap size z ∙ size-atom (setsOf c) (p .value);
+      node = λ j. record { tag = (p .tag) j; content = (p .content) j };
+    }
 
 -- ---- an object
 
@@ -54,130 +62,87 @@ module _ {lv : ℕ} {l : List ℕ} {top i : ℕ} (r : Reached lv l top i) where
   pub object-inside : i + 8 ≤ length l
   object-inside = omega (arith, r .object .room, size-pos (r .object .thing), below (r .object .shown))
 
-  pub object-roomy : Roomy l top 8
-  object-roomy = record { fits = omega (arith, r .object .room, size-pos (r .object .thing)); small = r .object .small; low = r .object .low }
-
   pub levels-left : 1 ≤ lv
   levels-left = omega (arith, r .flat, nesting-pos (r .object .thing))
 
-  module _ {o : Node} (e : o ≡ getNode l i) (h : o .tag ≡ listTag) where
-    pub list-reached : ReachedP (lv - 1) l top (o .content)
-    list-reached =
-        let p = list-is (r .object .shown) e h in
-        let c = setsOf (getSets l i) in
-        let z : size (r .object .thing) ≡ 1 + sizes (p .parts) = ap size (p .is) ∙ size-list c (p .parts) in
-        let n : nesting (r .object .thing) ≡ 1 + nestings (p .parts) = ap nesting (p .is) ∙ nesting-list c (p .parts) in
+  module _ {o : Node} {c : Sets} (e : o ≡ getNode l i) (d : c ≡ getSets l i) where
+    pub atom-puttable : ¬ (o .tag ≡ listTag) → Puttable l top o
+    atom-puttable h =
         record {
-          thing = p .parts;
-          shown = p .shown;
-          room = omega (arith, r .object .room);
-          small = r .object .small;
-          low = r .object .low;
-          flat = omega (arith, r .flat);
+          room = record { fits = omega (arith, r .object .room, size-pos (r .object .thing)); small = r .object .small; low = r .object .low };
+          kind = stx-tag (r .object .shown) e;
         }
 
-    pub list-falls : {t : ℕ} → lv * 131072 ≡ t → (lv - 1) * 131072 + o .content + 1 < t
-    list-falls m =
-        let p = list-is (r .object .shown) e h in
-        omega (arith, p .low, r .object .room, r .object .small, size-pos (r .object .thing), levels-left)
+    module _ (h : o .tag ≡ listTag) where
+      pub list-reached : ReachedP (lv - 1) l top (o .content)
+      list-reached =
+          let p = list-is (r .object .shown) e d h in
+          record {
+            thing = p .parts;
+            shown = p .shown;
+            charged = omega (arith, r .object .charged, p .size);
+            room = omega (arith, r .object .room, p .size);
+            small = r .object .small;
+            low = r .object .low;
+            flat = omega (arith, r .flat, p .nesting);
+          }
 
-    pub list-roomy : {w : Copying} {l1 : List ℕ} {at top1 : ℕ} → CopiedP w l l1 top (o .content) at top1 → length l1 ≡ length l → Roomy l1 top1 8
-    list-roomy m len =
-        let p = list-is (r .object .shown) e h in
-        let c = setsOf (getSets l i) in
-        let z : size (r .object .thing) ≡ 1 + sizes (p .parts) = ap size (p .is) ∙ size-list c (p .parts) in
-        record {
-          fits = omega (arith, r .object .room, m .means (p .parts) (p .shown) .room);
-          small = omega (arith, r .object .small);
-          low = omega (arith, r .object .low, m .grows);
-        }
+      pub list-falls : {t : ℕ} → 2 * lv ≡ t → 2 * (lv - 1) + 1 < t
+      list-falls m = omega (arith, levels-left)
 
--- ---- with its sets changed
+      module _ {w : Copying} {l1 : List ℕ} {end : ℕ} (m : CopiedEach w l l1 top (o .content) end) (len : length l1 ≡ length l) where
+        pub parts-row : Row l1 top end
+        parts-row =
+            let p = list-is (r .object .shown) e d h in
+            let few : sizes (p .parts) ≤ 4096 = omega (arith, r .object .charged, p .size) in
+            record {
+              by = w;
+              thing = p .parts;
+              laid = m .means (p .parts) (p .shown) few;
+              charged = few;
+              room = omega (arith, r .object .room, p .size);
+              small = omega (arith, r .object .small);
+              low = r .object .low;
+            }
 
-changed-atom : (f : m.Sets → m.Sets) {l l1 : List ℕ} {top at top1 : ℕ} {c : m.Sets} {s : Sets} {x : Stx} {a : Atom} → x ≡ atom c a → setsOf s ≡ f c
-    → StoredObject l l1 top (record { tag = tagOf a; content = contentOf a }) s at top1 → Rep l1 top1 at (copyOf (changing f) x)
-unfolding copyOf onSets
-changed-atom f {a = a} e q s = rw e (made-atom a q s)
+        pub list-puttable : {l2 : List ℕ} {at top2 : ℕ} → Chained l1 l2 top end at top2 → length l2 ≡ length l1 → Puttable l2 top2 (record { tag = listTag; content = at })
+        list-puttable k len2 =
+            let p = list-is (r .object .shown) e d h in
+            let few : sizes (p .parts) ≤ 4096 = omega (arith, r .object .charged, p .size) in
+            let n = k .means w (p .parts) (m .means (p .parts) (p .shown) few) few in
+            record {
+              room = record {
+                fits = omega (arith, r .object .room, p .size, n .room);
+                small = omega (arith, r .object .small);
+                low = omega (arith, r .object .low, m .grows, k .grows);
+              };
+              kind = omega arith;
+            }
 
-changed-list : (f : m.Sets → m.Sets) {l l1 : List ℕ} {top at top1 k : ℕ} {c : m.Sets} {s : Sets} {x : Stx} {ps : Stxs} → x ≡ list c ps → setsOf s ≡ f c
-    → StoredObject l l1 top (record { tag = listTag; content = k }) s at top1 → RepP l top k (copiesOf (changing f) ps) → Rep l1 top1 at (copyOf (changing f) x)
-unfolding copyOf copiesOf onSets
-changed-list f e q s r = rw e (made-list q s r)
-
-read-sets : (f : m.Sets → m.Sets) {c d : Sets} {s : m.Sets} → c ≡ d → s ≡ f (setsOf c) → s ≡ f (setsOf d)
-read-sets f e q = q ∙ ap (λ (x : Sets). f (setsOf x)) e
-
-module _ (f : m.Sets → m.Sets) {l : List ℕ} {i : ℕ} {o : Node} {old s : Sets} (e : o ≡ getNode l i) (eo : old ≡ getSets l i) (q : setsOf s ≡ f (setsOf old)) where
-  pub atom-changed : {l1 : List ℕ} {top at top1 : ℕ} → ¬ (o .tag ≡ listTag) → StoredObject l l1 top o s at top1 → CopiedBy (changing f) l l1 top i at top1
-  atom-changed h st =
+module _ {l : List ℕ} {i : ℕ} {o : Node} {c : Sets} (e : o ≡ getNode l i) (d : c ≡ getSets l i) {w : Copying} where
+  pub atom-copied : {l1 : List ℕ} {top at top1 : ℕ} → ¬ (o .tag ≡ listTag) → Put w l l1 top o c at top1 → CopiedBy w l l1 top i at top1
+  atom-copied h s =
       record {
-        copied = record {
-          kept = st .stored .kept;
-          grows = omega (arith, st .stored .grows);
-          means = λ x u.
-              let p = atom-is u e h in
-              record { shown = changed-atom f (p .is) (read-sets f eo q) (rw (p .node) at st); room = omega (arith, st .stored .grows, size-pos x) };
-        };
+        kept = s .kept;
+        grows = omega (arith, s .grows);
+        last = omega (arith, s .place, s .grows);
+        means = λ x u few.
+            let p = atom-is u e d h in
+            record { shown = rw (p .is) (s .is-atom (p .value) (p .node)); room = omega (arith, s .grows, p .size) };
       }
 
-  pub list-changed : {l1 l2 : List ℕ} {top at top1 at2 top2 : ℕ} → o .tag ≡ listTag → CopiedP (changing f) l l1 top (o .content) at top1
-      → StoredObject l1 l2 top1 (record { tag = listTag; content = at }) s at2 top2 → CopiedBy (changing f) l l2 top i at2 top2
-  list-changed {l1} {l2} {top} {at} {top1} {at2} {top2} h m st =
+  pub list-copied : {l1 l2 l3 : List ℕ} {top end at2 top2 at3 top3 : ℕ} → o .tag ≡ listTag → CopiedEach w l l1 top (o .content) end → Chained l1 l2 top end at2 top2
+      → Put w l2 l3 top2 (record { tag = listTag; content = at2 }) c at3 top3 → CopiedBy w l l3 top i at3 top3
+  list-copied {l1} {l2} {l3} {top} {end} {at2} {top2} {at3} {top3} h m k s =
       record {
-        copied = record {
-          kept = same-trans top top1 l l1 l2 (m .grows) (m .kept) (st .stored .kept);
-          grows = omega (arith, st .stored .grows, m .grows);
-          means = λ x u.
-              let p = list-is u e h in
-              let n = m .means (p .parts) (p .shown) in
-              let z : size x ≡ 1 + sizes (p .parts) = ap size (p .is) ∙ size-list (setsOf (getSets l i)) (p .parts) in
-              record { shown = changed-list f (p .is) (read-sets f eo q) st (n .shown); room = omega (arith, st .stored .grows, n .room) };
-        };
-      }
-
--- ---- with its sets gone
-
-stripped-atom : {l l1 : List ℕ} {top at top1 : ℕ} {c : m.Sets} {x : Stx} {a : Atom} → x ≡ atom c a
-    → Stored l l1 top (record { tag = atomValueTag + tagOf a; content = contentOf a }) at top1 → Rep l1 top1 at (copyOf stripping x)
-unfolding copyOf strip
-stripped-atom {a = a} e s = rw e (made-datum a s)
-
-stripped-list : {l l1 : List ℕ} {top at top1 k : ℕ} {c : m.Sets} {x : Stx} {ps : Stxs} → x ≡ list c ps
-    → Stored l l1 top (record { tag = listValueTag; content = k }) at top1 → RepP l top k (copiesOf stripping ps) → Rep l1 top1 at (copyOf stripping x)
-unfolding copyOf copiesOf strip
-stripped-list e s r = rw e (made-lst s r)
-
-module _ {l : List ℕ} {i : ℕ} {o : Node} (e : o ≡ getNode l i) where
-  pub tag-fits : {lv top : ℕ} → Reached lv l top i → atomValueTag + o .tag < 4294967296
-  tag-fits r = omega (arith, stx-tag (r .object .shown) e)
-
-  pub atom-stripped : {l1 : List ℕ} {top at top1 : ℕ} → ¬ (o .tag ≡ listTag) → Stored l l1 top (record { tag = atomValueTag + o .tag; content = o .content }) at top1
-      → CopiedBy stripping l l1 top i at top1
-  atom-stripped {l1} {top} {at} {top1} h st =
-      record {
-        copied = record {
-          kept = st .kept;
-          grows = omega (arith, st .grows);
-          means = λ x u.
-              let p = atom-is u e h in
-              let sv : Stored l l1 top (record { tag = atomValueTag + tagOf (p .value); content = contentOf (p .value) }) at top1 = rw (p .node) at st in
-              record { shown = stripped-atom (p .is) sv; room = omega (arith, st .grows, size-pos x) };
-        };
-      }
-
-  pub list-stripped : {l1 l2 : List ℕ} {top at top1 at2 top2 : ℕ} → o .tag ≡ listTag → CopiedP stripping l l1 top (o .content) at top1
-      → Stored l1 l2 top1 (record { tag = listValueTag; content = at }) at2 top2 → CopiedBy stripping l l2 top i at2 top2
-  list-stripped {l1} {l2} {top} {at} {top1} {at2} {top2} h m st =
-      record {
-        copied = record {
-          kept = same-trans top top1 l l1 l2 (m .grows) (m .kept) (st .kept);
-          grows = omega (arith, st .grows, m .grows);
-          means = λ x u.
-              let p = list-is u e h in
-              let n = m .means (p .parts) (p .shown) in
-              let z : size x ≡ 1 + sizes (p .parts) = ap size (p .is) ∙ size-list (setsOf (getSets l i)) (p .parts) in
-              record { shown = stripped-list (p .is) st (n .shown); room = omega (arith, st .grows, n .room) };
-        };
+        kept = same-trans top end l l1 l3 (m .grows) (m .kept) (same-trans end top2 l1 l2 l3 (k .grows) (k .kept) (s .kept));
+        grows = omega (arith, m .grows, k .grows, s .grows);
+        last = omega (arith, s .place, s .grows);
+        means = λ x u few.
+            let p = list-is u e d h in
+            let less : sizes (p .parts) ≤ 4096 = omega (arith, p .size) in
+            let n = k .means w (p .parts) (m .means (p .parts) (p .shown) less) less in
+            record { shown = rw (p .is) (s .is-list (p .parts) refl (n .shown)); room = omega (arith, s .grows, n .room, p .size) };
       }
 
 -- ---- a chain
@@ -186,24 +151,6 @@ none-is : {l : List ℕ} {top c : ℕ} (ps : Stxs) → RepP l top c (fromStxs ps
 unfolding fromStxs
 none-is nil r h = refl
 none-is (cons x ps) r h = absurd (cons-some r h)
-
-copies-nil : (w : Copying) → copiesOf w nil ≡ tnil
-unfolding copiesOf fromStxs onSetsAll stripAll
-copies-nil (changing f) = refl
-copies-nil stripping = refl
-
-copies-cons : (w : Copying) (x : Stx) (ps : Stxs) → copiesOf w (cons x ps) ≡ tcons (copyOf w x) (copiesOf w ps)
-unfolding copyOf copiesOf fromStxs onSets strip
-copies-cons (changing f) x ps = refl
-copies-cons stripping x ps = refl
-
-pub none-copied : {w : Copying} {l : List ℕ} {top c : ℕ} → c ≡ 0 → CopiedP w l l top c 0 top
-none-copied {w} {l} {top} h =
-    record {
-      kept = same-refl top l;
-      grows = omega arith;
-      means = λ ps r. let e = none-is ps r h in record { shown = rw (e, copies-nil w) is-none; room = omega arith };
-    }
 
 no-part : {l : List ℕ} {top c : ℕ} → RepP l top c tnil → c ≡ 0
 no-part is-none = refl
@@ -219,75 +166,81 @@ unfolding fromStxs
 part-is nil r h e = absurd (h (no-part r))
 part-is (cons s ps) r h e = record { first = s; others = ps; is = refl; cell = cons-at r e }
 
-module _ {lv : ℕ} {l : List ℕ} {top c : ℕ} (r : ReachedP lv l top c) (h : ¬ (c ≡ 0)) where
-  pub cell-inside : c + 5 ≤ length l
-  cell-inside = let p = part-is {x = getCell l c} (r .thing) (r .shown) h refl in omega (arith, p .cell .inside, r .room)
+-- the parts so far are copied to `end`, and `part` is the chain of the rest
+pub record Passed (w : Copying) (l : List ℕ) (top : ℕ) (ps : Stxs) (end part : ℕ) : Type 0 where
+  pub rest : Stxs
+  pub shown : RepP l end part (fromStxs rest)
+  pub laid : Laid w l top ps end rest
 
-  module _ {x : Cell} (e : x ≡ getCell l c) where
-    pub head-reached : Reached lv l top (x .head)
+pub record Passing (w : Copying) (l l′ : List ℕ) (top c end part : ℕ) : Type 0 where
+  pub long : length l′ ≡ length l
+  pub kept : Same top l l′
+  pub grows : top ≤ end
+  pub means : (ps : Stxs) → RepP l top c (fromStxs ps) → sizes ps ≤ 4096 → Passed w l′ top ps end part
+
+pub none-passed : {w : Copying} {l : List ℕ} {top c : ℕ} → Passing w l l top c top c
+none-passed {w} {l} {top} = record { long = refl; kept = same-refl top l; grows = omega arith; means = λ ps r few. record { rest = ps; shown = r; laid = laid-none } }
+
+pub all-passed : {w : Copying} {l l1 : List ℕ} {top c end part : ℕ} → Passing w l l1 top c end part → part ≡ 0 → CopiedEach w l l1 top c end
+all-passed d h =
+    record {
+      kept = d .kept;
+      grows = d .grows;
+      means = λ ps r few. let k = d .means ps r few in rw (none-is (k .rest) (k .shown) h) at (k .laid);
+    }
+
+module _ {lv : ℕ} {w : Copying} {l l1 : List ℕ} {top c end part : ℕ} (r : ReachedP lv l top c) (d : Passing w l l1 top c end part) (h : ¬ (part ≡ 0)) where
+  pub cell-inside : part + 5 ≤ length l1
+  cell-inside =
+      let k = d .means (r .thing) (r .shown) (r .charged) in
+      let p = part-is {x = getCell l1 part} (k .rest) (k .shown) h refl in
+      omega (arith, p .cell .inside, laid-room (k .laid), r .room, d .long)
+
+  module _ {x : Cell} (e : x ≡ getCell l1 part) where
+    pub head-reached : Reached lv l1 end (x .head)
     head-reached =
-        let p = part-is (r .thing) (r .shown) h e in
-        let z : sizes (r .thing) ≡ size (p .first) + sizes (p .others) = ap sizes (p .is) ∙ sizes-cons (p .first) (p .others) in
+        let k = d .means (r .thing) (r .shown) (r .charged) in
+        let p = part-is (k .rest) (k .shown) h e in
+        let z : sizes (k .rest) ≡ size (p .first) + sizes (p .others) = ap sizes (p .is) ∙ sizes-cons (p .first) (p .others) in
         let n = ap nestings (p .is) ∙ nestings-cons (p .first) (p .others) in
         record {
-          object = record { thing = p .first; shown = p .cell .shown; room = omega (arith, r .room); small = r .small; low = r .low };
-          flat = omega (arith, r .flat, n);
+          object = record {
+            thing = p .first;
+            shown = p .cell .shown;
+            charged = omega (arith, laid-room (k .laid), laid-grows (k .laid), r .charged);
+            room = omega (arith, laid-room (k .laid), r .room, d .long);
+            small = omega (arith, r .small, d .long);
+            low = omega (arith, r .low, d .grows);
+          };
+          flat = omega (arith, r .flat, laid-flat (k .laid), n);
         }
 
-    pub head-falls : {t : ℕ} → lv * 131072 + c + 1 ≡ t → lv * 131072 < t
+    pub head-falls : {t : ℕ} → 2 * lv + 1 ≡ t → 2 * lv < t
     head-falls m = omega arith
 
-    module _ {w : Copying} {l1 : List ℕ} {at1 top1 : ℕ} (m : CopiedBy w l l1 top (x .head) at1 top1) (len : length l1 ≡ length l) where
-      pub tail-reached : ReachedP lv l1 top1 (x .tail)
-      tail-reached =
-          let p = part-is (r .thing) (r .shown) h e in
-          let z : sizes (r .thing) ≡ size (p .first) + sizes (p .others) = ap sizes (p .is) ∙ sizes-cons (p .first) (p .others) in
-          let n = ap nestings (p .is) ∙ nestings-cons (p .first) (p .others) in
-          record {
-            thing = p .others;
-            shown = carryP (p .cell .shown-others) (m .copied .kept) (m .copied .grows);
-            room = omega (arith, m .copied .means (p .first) (p .cell .shown) .room, r .room);
-            small = omega (arith, r .small);
-            low = omega (arith, r .low, m .copied .grows);
-            flat = omega (arith, r .flat, n);
-          }
+    pub tail-falls : x .tail < part
+    tail-falls =
+        let k = d .means (r .thing) (r .shown) (r .charged) in
+        let p = part-is (k .rest) (k .shown) h e in
+        omega (arith, p .cell .low)
 
-      pub tail-falls : {t : ℕ} → lv * 131072 + c + 1 ≡ t → lv * 131072 + x .tail + 1 < t
-      tail-falls q = let p = part-is (r .thing) (r .shown) h e in omega (arith, p .cell .low)
-
-      module _ {l2 : List ℕ} {at2 top2 : ℕ} (n : CopiedP w l1 l2 top1 (x .tail) at2 top2) (len2 : length l2 ≡ length l1) where
-        pub part-linkable : Linkable l2 top2 at1 at2
-        part-linkable =
-            let p = part-is (r .thing) (r .shown) h e in
-            let z : sizes (r .thing) ≡ size (p .first) + sizes (p .others) = ap sizes (p .is) ∙ sizes-cons (p .first) (p .others) in
-            let a = m .copied .means (p .first) (p .cell .shown) in
-            let b = n .means (p .others) (carryP (p .cell .shown-others) (m .copied .kept) (m .copied .grows)) in
-            record {
-              thing = copyOf w (p .first);
-              others = copiesOf w (p .others);
-              shown = carry (a .shown) (n .kept) (n .grows);
-              shown-others = b .shown;
-              room = record {
-                fits = omega (arith, a .room, b .room, r .room);
-                small = omega (arith, r .small);
-                low = omega (arith, r .low, m .copied .grows, n .grows);
+    pub part-passed : {l2 : List ℕ} {at end2 : ℕ} → CopiedBy w l1 l2 end (x .head) at end2 → length l2 ≡ length l1 → Passing w l l2 top c end2 (x .tail)
+    part-passed {l2} {at} {end2} m len =
+        record {
+          long = len ∙ d .long;
+          kept = same-trans top end l l1 l2 (d .grows) (d .kept) (m .kept);
+          grows = omega (arith, d .grows, m .grows);
+          means = λ ps u few.
+              let k = d .means ps u few in
+              let p = part-is (k .rest) (k .shown) h e in
+              let z : sizes (k .rest) ≡ size (p .first) + sizes (p .others) = ap sizes (p .is) ∙ sizes-cons (p .first) (p .others) in
+              let less : size (p .first) ≤ 4096 = omega (arith, laid-room (k .laid), laid-grows (k .laid)) in
+              let a = m .means (p .first) (p .cell .shown) less in
+              record {
+                rest = p .others;
+                shown = carryP (p .cell .shown-others) (m .kept) (m .grows);
+                laid = laid-one (laid-stays (rw (p .is) at (k .laid)) (m .kept)) (m .last) (a .room) (a .shown);
               };
-            }
+        }
 
-        pub part-copied : {l3 : List ℕ} {at3 top3 : ℕ} → Linked l2 l3 top2 at1 at2 at3 top3 → CopiedP w l l3 top c at3 top3
-        part-copied {l3} {at3} {top3} k =
-            record {
-              kept = same-trans top top1 l l1 l3 (m .copied .grows) (m .copied .kept) (same-trans top1 top2 l1 l2 l3 (n .grows) (n .kept) (k .kept));
-              grows = omega (arith, m .copied .grows, n .grows, k .grows);
-              means = λ ps u.
-                  let p = part-is ps u h e in
-                  let z : sizes ps ≡ size (p .first) + sizes (p .others) = ap sizes (p .is) ∙ sizes-cons (p .first) (p .others) in
-                  let a = m .copied .means (p .first) (p .cell .shown) in
-                  let b = n .means (p .others) (carryP (p .cell .shown-others) (m .copied .kept) (m .copied .grows)) in
-                  record {
-                    shown = rw (p .is, copies-cons w (p .first) (p .others)) (k .means (copyOf w (p .first)) (copiesOf w (p .others)) (carry (a .shown) (n .kept) (n .grows)) (b .shown));
-                    room = omega (arith, a .room, b .room, k .grows);
-                  };
-            }
-
-pub ruleset laws = (object-inside, object-roomy, levels-left, list-reached, list-falls, list-roomy, atom-changed, list-changed, tag-fits, atom-stripped, list-stripped, none-copied, cell-inside, head-reached, head-falls, tail-reached, tail-falls, part-linkable, part-copied)
+pub ruleset laws = (object-inside, levels-left, atom-puttable, list-reached, list-falls, parts-row, list-puttable, atom-copied, list-copied, none-passed, all-passed, cell-inside, head-reached, head-falls, tail-falls, part-passed)

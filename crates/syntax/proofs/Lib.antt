@@ -1,4 +1,5 @@
 pub mod Sizes
-pub mod Changing
+pub mod Working
+pub mod Rows
 pub mod Copying
 pub mod Whole

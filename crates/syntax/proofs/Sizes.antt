@@ -2,7 +2,8 @@
 use mathlib.Core.Path.{_≡_, refl, ap, ap₂}
 use Prim.Native.Nat.{ℕ, suc, _+_, _≤_, max}
 use native.Mathlib.Omega.{arith}
-use Rattle.model.specs.Objects.{Sets, Stx, Stxs, atom, list, nil, cons, size, sizes, nesting, nestings, onSets, onSetsAll, addScope, flipScope, pruneScopes}
+use Rattle.model.specs.Objects.{Atom, Sets, Stx, Stxs, atom, list, nil, cons, size, sizes, nesting, nestings, onSets, onSetsAll, addScope, flipScope, pruneScopes}
+use Rattle.things.specs.Weights.{weight}
 use Rattle.model.specs.Trees.{tsize, tsizeBy, tsizesBy, tnesting, tnestings, strip, stripAll}
 
 -- ---- by the outermost part
@@ -16,6 +17,10 @@ pub nesting-pos : (x : Stx) → 1 ≤ nesting x
 unfolding nesting
 nesting-pos (atom c a) = omega arith
 nesting-pos (list c ps) = omega arith
+
+pub size-atom : (c : Sets) (a : Atom) → size (atom c a) ≡ 1
+unfolding size
+size-atom c a = refl
 
 pub size-list : (c : Sets) (ps : Stxs) → size (list c ps) ≡ 1 + sizes ps
 unfolding size
@@ -108,3 +113,8 @@ mutual
   pub nestings-strip : (ps : Stxs) → tnestings (stripAll ps) ≡ nestings ps
   nestings-strip nil = refl
   nestings-strip (cons x ps) = ap₂ max (nesting-strip x) (nestings-strip ps)
+
+pub weight-strip : (x : Stx) → weight (strip x) ≡ 0
+unfolding weight strip
+weight-strip (atom c a) = refl
+weight-strip (list c ps) = refl

@@ -1,4 +1,4 @@
-use Rattle.syntax.proofs.Changing.{laws}
+use Rattle.syntax.proofs.Working.{laws}
 use borrow.Author.Needs.{needs}
 use Rattle.syntax.proofs.change_sets.Statement.{statement}
 use Rattle.syntax.proofs.change_sets.Tie as tie

@@ -1,16 +1,16 @@
-use Rattle.syntax.proofs.Whole.{laws}
+use Rattle.syntax.proofs.Whole.{laws, scopes-pruned}
 use borrow.Author.Needs.{needs}
 use Rattle.syntax.proofs.prune_scopes.Statement.{statement}
 use Rattle.syntax.proofs.prune_scopes.Tie as tie
 
-change-all-requires : tie.Need-change-all-requires
-change-all-requires c κs = search (laws, needs)
+copy-all-requires : tie.Need-copy-all-requires
+copy-all-requires c κs = search (laws, needs)
 
 same-length : tie.Need-same-length
 same-length c = search (laws, needs)
 
 returns : tie.Need-returns
-returns c = search (laws, needs)
+returns c = scopes-pruned (c .before .before .before .before .before .pre) _ _ (c .before .before .copy-all .ensures)
 
 pub prune-scopes-spec : {M : Type 1} → statement M
-prune-scopes-spec = tie.close (tie.spec change-all-requires same-length returns)
+prune-scopes-spec = tie.close (tie.spec copy-all-requires same-length returns)
