@@ -12,7 +12,8 @@ use Rattle.model.specs.Trees.{stx}
 use Rattle.model.specs.Resolving as res
 use Rattle.model.specs.Resolving.{Bind, several, resolve}
 use Rattle.model.specs.Steps.{State, Step, ok, no, after, nameOf, resolveAt, identifier}
-use Rattle.model.specs.Parsing.{headForm, formOf}
+use Rattle.model.specs.Parsing as p
+use Rattle.model.specs.Parsing.{formOf}
 use Rattle.scopes.specs.Sets.{scopesOf}
 use Rattle.scopes.specs.declared.ScopeSet.{ScopeSet}
 use Rattle.store.specs.Words.{bindsOf}
@@ -132,4 +133,30 @@ module _ (ph : ℕ) (y : State) where
   identifier-unnamed (atom c (rung s)) f h = refl
   identifier-unnamed (list c s) f h = refl
 
-pub ruleset laws = (node-inside, set-at-0, set-at-1, set-at-2, unnamed, named, unclear)
+-- ---- the core form of a name
+
+pub form-0 : (n : ℕ) → n ≡ 0 → some p.lambda ≡ formOf n
+unfolding formOf
+form-0 n h = rw h refl
+
+pub form-1 : (n : ℕ) → n ≡ 1 → some p.letSyntax ≡ formOf n
+unfolding formOf
+form-1 n h = rw h refl
+
+pub form-2 : (n : ℕ) → n ≡ 2 → some p.quote ≡ formOf n
+unfolding formOf
+form-2 n h = rw h refl
+
+pub form-3 : (n : ℕ) → n ≡ 3 → some p.syntax ≡ formOf n
+unfolding formOf
+form-3 n h = rw h refl
+
+pub form-none : (n : ℕ) → ¬ (n ≡ 0) → ¬ (n ≡ 1) → ¬ (n ≡ 2) → ¬ (n ≡ 3) → none ≡ formOf n
+unfolding formOf
+form-none zero a b c d = absurd (a refl)
+form-none (suc zero) a b c d = absurd (b refl)
+form-none (suc (suc zero)) a b c d = absurd (c refl)
+form-none (suc (suc (suc zero))) a b c d = absurd (d refl)
+form-none (suc (suc (suc (suc n)))) a b c d = refl
+
+pub ruleset laws = (form-0, form-1, form-2, form-3, form-none, node-inside, set-at-0, set-at-1, set-at-2, unnamed, named, unclear)

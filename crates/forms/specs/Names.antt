@@ -1,4 +1,4 @@
--- The name of an object at a phase, where it is an identifier.
+-- The name of an object at a phase, where it is an identifier, and the core form of a name.
 use mathlib.Core.Path.{_≡_}
 use mathlib.Core.List.{List}
 use mathlib.Core.Option.{Option, none, some}
@@ -7,8 +7,11 @@ use Rattle.model.specs.Objects.{Atom, symbol, number, point, prim, rung, Stx, a
 use Rattle.model.specs.Trees.{stx}
 use Rattle.model.specs.Resolving as m
 use Rattle.model.specs.Resolving.{Bind, Found, several, resolve}
+use Rattle.model.specs.Parsing as p
 use Rattle.store.specs.Words.{bindsOf}
 use Rattle.things.specs.Rep.{Rep}
+use Rattle.forms.specs.declared.Form.{Form}
+use Rattle.forms.specs.declared.Form.the-variants.{Lambda, LetSyntax, Quote, Syntax, Other}
 use Rattle.forms.specs.declared.Naming.{Naming}
 use Rattle.forms.specs.declared.Naming.the-variants.{Named, Unclear, Unnamed}
 
@@ -28,3 +31,10 @@ namingOf Unnamed = none
 -- by the first n bindings of the store st
 pub record Names (ph : ℕ) (st : List ℕ) (n : ℕ) (l : List ℕ) (i : ℕ) (r : Naming) : Type 0 where
   pub means : (top : ℕ) (x : Stx) → Rep l top i (stx x) → namingOf r ≡ nameFound ph (bindsOf st n) x
+
+abbrev pub formed : Form → Option p.Form
+formed Lambda = some p.lambda
+formed LetSyntax = some p.letSyntax
+formed Quote = some p.quote
+formed Syntax = some p.syntax
+formed Other = none

@@ -10,11 +10,12 @@ ghost use mathlib.Core.Path.{_≡_};
 ghost use Prim.Native.Nat.{ℕ, _*_, _≤_};
 ghost use lib.ListN.{length};
 ghost use Rattle.model.specs.Objects.{setAt};
+ghost use Rattle.model.specs.Parsing.{formOf};
 ghost use Rattle.scopes.specs.Sets.{scopesOf};
 ghost use Rattle.things.specs.Rep.{setsOf};
 ghost use Rattle.things.specs.Measuring.{Seen, SeenP};
 ghost use Rattle.forms.specs.Shapes.{Single, Double, Triple, Identifies};
-ghost use Rattle.forms.specs.Names.{Names};
+ghost use Rattle.forms.specs.Names.{Names, formed};
 
 // ---- a chain of exactly so many parts, or not
 
@@ -119,5 +120,29 @@ pub fn name_of(table: &[u32], store: &[u64], count: u32, i: u32, phase: u32) -> 
     match resolving::resolve(store, count as usize, Symbol(n.content), set) {
         Found::Means(name) => Naming::Named(name),
         Found::Several => Naming::Unclear,
+    }
+}
+
+// ---- the core forms
+
+pub enum Form {
+    Lambda,
+    LetSyntax,
+    Quote,
+    Syntax,
+    // No core form.
+    Other,
+}
+
+pub fn form_of(name: Name) -> Form
+    ensures { λ r. ⌜ formed r ≡ formOf (name .0) ⌝ }
+{
+    let n = name.0;
+    match n {
+        0 => Form::Lambda,
+        1 => Form::LetSyntax,
+        2 => Form::Quote,
+        3 => Form::Syntax,
+        _ => Form::Other,
     }
 }

@@ -1,0 +1,718 @@
+-- One law for each way through the functions of parsing.
+use mathlib.Core.Path.{_≡_, refl, sym, ap, _∙_}
+use mathlib.Core.List.{List}
+use mathlib.Core.Option.{Option, none, some}
+use Prim.Native.Nat.{ℕ, zero, suc, _+_, _-_, _*_, _^_, _≤_, _<_, min}
+use native.Mathlib.Omega.{arith}
+use lib.ListN.{length}
+use Rattle.model.specs.Objects as ob
+use Rattle.model.specs.Steps as m
+use Rattle.model.specs.Objects.{Atom, symbol, tagOf, contentOf, Stx, atom, list, Stxs, nil, cons, size, count}
+use Rattle.model.specs.Trees.{Tree, var, app, fun, datum, stx, Trees, tnil, tcons, fromStxs, strip}
+use Rattle.model.specs.Steps.{ok, no, charge, parts1, parts2, identifier}
+use Rattle.model.specs.Parsing as p
+use Rattle.model.specs.Parsing.{formOf, parseAll, parseForm, parseEntry, parse}
+use Rattle.refusals.specs.declared.Refusal.the-variants.{Ambiguous, NoRule}
+use Rattle.scopes.specs.declared.Name.{Name}
+use Rattle.store.specs.Words.{bindsOf}
+use Rattle.steps.specs.States.{Store, stateOf, stopOf, paid, raisedTo, chargeOf, enterOf, end, Room}
+use Rattle.steps.specs.Agreement.{Later, Ended, ended, done, refused, Gave, Agrees, gives, stops}
+use Rattle.steps.specs.declared.State.{State}
+use Rattle.steps.specs.declared.Stop.{Stop}
+use Rattle.steps.specs.declared.Out.{Out}
+use Rattle.steps.specs.declared.Answer.{Answer}
+use Rattle.steps.specs.declared.Answer.the-variants.{Done, Refused}
+use Rattle.steps.specs.declared.Charged.{Charged}
+use Rattle.steps.specs.declared.Charged.the-variants as charged
+use Rattle.steps.proofs.Laws.{Went, charge-went, charge-failed, enter-left, enter-went, entry-refused, entry-goes, charge-ok, charge-no, then-ok, then-no, later-refl, later-trans, later-paid, room-later, on-done, on-refused, since}
+use Rattle.table.specs.Tags.{listTag, variableTag, applicationTag, atomValueTag}
+use Rattle.table.specs.Words.{getNode, getCell, Same}
+use Rattle.table.specs.declared.Node.{Node}
+use Rattle.table.specs.declared.Cell.{Cell}
+use Rattle.table.proofs.Laws.{same-trans}
+use Rattle.things.specs.Rep.{Rep, RepP, is-none, is-atom, is-list}
+use Rattle.things.specs.Weights.{weight}
+use Rattle.things.specs.Measuring.{Seen, SeenP, Extends, Measured}
+use Rattle.things.specs.Making.{Roomy, Stored, Closable, Closed, Linkable, Linked}
+use Rattle.things.specs.declared.Extent.{Extent}
+use Rattle.things.specs.declared.Made.{Made}
+use Rattle.things.proofs.Frame.{below, belowP, carry, carryP}
+use Rattle.things.proofs.ByTag.{tag-is, tag-low, atom-at, list-at, stx-tag, cons-at}
+use Rattle.things.proofs.Making.{made-var, made-app, made-datum}
+use Rattle.forms.specs.Shapes.{Single, Double}
+use Rattle.forms.specs.Names.{Names, formed}
+use Rattle.forms.specs.declared.One.{One}
+use Rattle.forms.specs.declared.One.the-variants as one
+use Rattle.forms.specs.declared.Two.{Two}
+use Rattle.forms.specs.declared.Two.the-variants as two
+use Rattle.forms.specs.declared.Form.{Form}
+use Rattle.forms.specs.declared.Form.the-variants as form
+use Rattle.forms.specs.declared.Naming.{Naming}
+use Rattle.forms.specs.declared.Naming.the-variants.{Named, Unclear, Unnamed}
+use Rattle.forms.proofs.Shapes.{nil-at, first-at, on-one, on-not-one, on-two, on-not-two, not-parts1, not-parts2}
+use Rattle.forms.proofs.Names.{on-named, on-unclear, on-unnamed, identifier-named, identifier-unclear, identifier-unnamed}
+use Rattle.syntax.specs.Copying.{Copyable, Copied}
+use Rattle.parse.specs.Shown.{Held, ShownTree, ShownChain, trees, chains}
+use Rattle.parse.specs.Parsing.{unpaid, Ready, ReadyParts, ReadyForm, ReadyPair, ReadyRest, ReadyChain, ReadyData, nameRule, functionRule, lambdaRule, dataRule, quoteRule, syntaxRule, restRule, applicationRule, Parsed, ParsedEntry, ParsedName, ParsedList, ParsedForm, ParsedLambda, ParsedFunction, ParsedQuote, ParsedData, ParsedSyntax, ParsedApplication, ParsedParts, ParsedPair, ParsedRest}
+use Rattle.parse.proofs.Rules.{parse-entry, entry-atom, entry-symbol, entry-empty, list-named, list-unclear, list-unnamed, form-lambda, form-let-syntax, form-quote, form-syntax, form-other, application-is, application-no}
+
+stx-is : {a b : Stx} → stx a ≡ stx b → a ≡ b
+stx-is e = cc
+
+-- ---- the state before the entry was charged
+
+unpaid-is : {s u : State} → Went 1 s u → unpaid u ≡ s
+unfolding unpaid
+unpaid-is {s} {u} w =
+    let n : s .units - 1 + 1 ≡ s .units = omega (arith, w .enough) in
+    rw (w .is) (λ j. record { top = s .top; units = n j; names = s .names; scopes = s .scopes; bindings = s .bindings })
+
+top-is : {s u : State} → Went 1 s u → u .top ≡ s .top
+top-is w = ap (λ (y : State). y .top) (w .is)
+
+-- what an entry makes of one node
+node-later : {l l1 : List ℕ} {top1 : ℕ} (s : State) → Same (s .top) l l1 → top1 ≡ s .top + 8 → Later 1 5 l l1 (unpaid s) (raisedTo top1 s)
+unfolding unpaid
+node-later s k g = record { kept = k; grows = omega (arith, g); fits = omega (arith, g); spent = omega arith }
+
+-- after at least a later state
+later-unpaid : {n v : ℕ} {l l1 : List ℕ} {s s1 : State} → Later n v l l1 s s1 → Later (n + 1) (v + 16) l l1 (unpaid s) s1
+unfolding unpaid
+later-unpaid p = record { kept = p .kept; grows = p .grows; fits = omega (arith, p .fits); spent = omega (arith, p .spent) }
+
+-- ---- what is read
+
+pub node-inside : {l st : List ℕ} (s : State) {i : ℕ} → Ready l st (unpaid s) i → i + 8 ≤ length l
+unfolding unpaid
+node-inside s r = omega (arith, below (r .shown), r .room .fits)
+
+pub node-seen : {l st : List ℕ} (s : State) {i : ℕ} → Ready l st (unpaid s) i → Seen l i
+unfolding unpaid
+node-seen s r = record { top = s .top; thing = stx (r .thing); shown = r .shown; inside = omega (arith, r .room .fits); small = r .room .small }
+
+pub node-held : {l st : List ℕ} (s : State) {i : ℕ} → Ready l st (unpaid s) i → s .bindings * 3 ≤ length st
+unfolding unpaid
+node-held s r = omega (arith, r .held .few, r .held .wide)
+
+pub node-roomy : {l st : List ℕ} (s : State) {i : ℕ} → Ready l st (unpaid s) i → Roomy l (s .top) 8
+unfolding unpaid
+node-roomy s r = record { fits = omega (arith, r .room .fits); small = r .room .small; low = r .room .low }
+
+-- ---- parse
+
+module _ (left : ℕ) (s : State) {u : State} {x : Charged} (h : x ≡ enterOf left s) (e : x ≡ charged.Paid u) where
+  pub enter-one : 1 ≤ left
+  enter-one = enter-left left s h e
+
+  pub enter-less : {T : ℕ} → s .units * 8 ≡ T → u .units * 8 + 6 < T
+  enter-less k = let q = enter-went left s h e in omega (arith, q .enough, ap (λ (y : State). y .units) (q .is))
+
+  pub enter-ready : {l st : List ℕ} {i : ℕ} → Ready l st s i → Ready l st (unpaid u) i
+  enter-ready r = rw (unpaid-is (enter-went left s h e)) r
+
+  pub enter-goes : {ph : ℕ} {st l l1 : List ℕ} {i : ℕ} {r : Answer} → ParsedEntry (left - 1) ph st l l1 u i r → Parsed left ph st l l1 s i r
+  enter-goes {ph} {st} {l} {l1} {i} {r} f =
+      let w = enter-went left s h e in
+      record {
+        means = λ y q.
+            let a = f .means y (rw (top-is w) q) in
+            let d : Agrees trees 1 5 l l1 s (bindsOf st) (parseEntry (λ z. parse (left - 1) ph z) ph y (stateOf u (bindsOf st))) (ended r) = rw (unpaid-is w) at a in
+            rw (entry-goes (parse-entry ph y) left s (bindsOf st) h e) d;
+      }
+
+pub enter-stops : {left ph : ℕ} {st : List ℕ} {s : State} {x : Charged} {f : Stop} {l : List ℕ} {i : ℕ} → x ≡ enterOf left s → x ≡ charged.Refused f
+    → Parsed left ph st l l s i (Refused f)
+enter-stops {left} {ph} {st} {s} {f = f} h e = record { means = λ y q. stops f (entry-refused (parse-entry ph y) left s (bindsOf st) h e) }
+
+-- ---- an entry by its tag
+
+symbol-at : {l : List ℕ} {top i : ℕ} {o : Node} {x : Stx} → Rep l top i (stx x) → o ≡ getNode l i → o .tag ≡ 0 → (c : ob.Sets) × ((n : ℕ) × (x ≡ atom c (symbol n)))
+unfolding tagOf
+symbol-at (is-atom {s = c} {a = ob.symbol n} a q y) e h = (c, (n, refl))
+symbol-at (is-atom {a = ob.number n} a q y) e h = absurd (omega (arith, tag-is e q, h))
+symbol-at (is-atom {a = ob.point n} a q y) e h = absurd (omega (arith, tag-is e q, h))
+symbol-at (is-atom {a = ob.prim n} a q y) e h = absurd (omega (arith, tag-is e q, h))
+symbol-at (is-atom {a = ob.rung n} a q y) e h = absurd (omega (arith, tag-is e q, h))
+symbol-at (is-list a q y r) e h = absurd (omega (arith, tag-is e q, h))
+
+module _ {st l : List ℕ} (s : State) {i : ℕ} {o : Node} (e : o ≡ getNode l i) where
+  pub entry-list-ready : Ready l st (unpaid s) i → o .tag ≡ listTag → ReadyParts l st (unpaid s) (o .content)
+  entry-list-ready r h = let q = list-at (r .shown) e h in record { thing = q .parts; shown = q .shown; room = r .room; held = r .held }
+
+  pub entry-list : {left ph : ℕ} {l1 : List ℕ} {r : Answer} → o .tag ≡ listTag → ParsedList left ph st l l1 s (o .content) r → ParsedEntry left ph st l l1 s i r
+  entry-list h a = record { means = λ x w. let q = list-at w e h in rw (stx-is (q .is)) (a .means (q .sets) (q .parts) (q .shown)) }
+
+  pub entry-name : {left ph : ℕ} {l1 : List ℕ} {r : Answer} → o .tag ≡ 0 → ParsedName ph st l l1 s i r → ParsedEntry left ph st l l1 s i r
+  entry-name {left} {ph} h a =
+      record {
+        means = λ x w.
+            let q = symbol-at w e h in
+            let same : parseEntry (λ y. parse left ph y) ph x (stateOf s (bindsOf st)) ≡ nameRule ph x (stateOf s (bindsOf st)) =
+            rw (q .1 .1) (entry-symbol (λ y. parse left ph y) ph (stateOf s (bindsOf st)) (q .0) (q .1 .0)) in
+            rw same (a .means x w);
+      }
+
+  pub entry-value-tag : Ready l st (unpaid s) i → atomValueTag + o .tag < 2 ^ 32
+  entry-value-tag r = omega (arith, stx-tag (r .shown) e)
+
+  pub entry-value : {left ph : ℕ} {l1 : List ℕ} {k : Made} {z : State} → Ready l st (unpaid s) i → ¬ (o .tag ≡ listTag) → ¬ (o .tag ≡ 0)
+      → Stored l l1 (s .top) (record { tag = atomValueTag + o .tag; content = o .content }) (k .at) (k .top) → z ≡ raisedTo (k .top) s
+      → ParsedEntry left ph st l l1 s i (Done (record { at = k .at; state = z }))
+  unfolding unpaid
+  entry-value {left} {ph} {l1} {k} {z} r n5 n0 d g =
+      record {
+        means = λ x w.
+            let q = atom-at w e (omega (arith, stx-tag w e, n5)) in
+            let node : _≡_ {A = Node} (record { tag = atomValueTag + o .tag; content = o .content }) (record { tag = atomValueTag + tagOf (q .value); content = contentOf (q .value) }) =
+            λ j. record { tag = atomValueTag + (q .tag) j; content = (q .content) j } in
+            let d2 : Stored l l1 (s .top) (record { tag = atomValueTag + tagOf (q .value); content = contentOf (q .value) }) (k .at) (k .top) = rw node at d in
+            let rule : parseEntry (λ y. parse left ph y) ph x (stateOf s (bindsOf st)) ≡ ok (datum (q .value)) (stateOf s (bindsOf st)) =
+            ap (λ (v : Stx). parseEntry (λ y. parse left ph y) ph v (stateOf s (bindsOf st))) (stx-is (q .is))
+            ∙ entry-atom (λ y. parse left ph y) ph (stateOf s (bindsOf st)) (q .sets) (q .value) (λ t. n0 (q .tag ∙ t)) in
+            rw g (gives (record { at = k .at; state = raisedTo (k .top) s }) (record {
+              value = datum (q .value);
+              is = rule;
+              shown = record { rep = made-datum (q .value) d2; few = r .held .few };
+              later = node-later s (d .kept) (d .grows);
+            }));
+      }
+
+-- ---- a variable
+
+module _ {ph : ℕ} {st l : List ℕ} (s : State) {i : ℕ} {n : Naming} (p : Names ph st (s .bindings) l i n) where
+  pub name-unnamed : n ≡ Unnamed → ParsedName ph st l l s i (Refused (record { refusal = NoRule; units = s .units }))
+  unfolding nameRule
+  name-unnamed e = record { means = λ x w. stops _ (identifier-unnamed ph (stateOf s (bindsOf st)) x _ (on-unnamed p w e)) }
+
+  pub name-unclear : n ≡ Unclear → ParsedName ph st l l s i (Refused (record { refusal = Ambiguous; units = s .units }))
+  unfolding nameRule
+  name-unclear e = record { means = λ x w. stops _ (identifier-unclear ph (stateOf s (bindsOf st)) (λ k. λ z. ok (var k) z) x (on-unclear p w e)) }
+
+  pub name-var : {v : Name} {l1 : List ℕ} {k : Made} {z : State} → Ready l st (unpaid s) i → n ≡ Named v
+      → Stored l l1 (s .top) (record { tag = variableTag; content = v .0 }) (k .at) (k .top) → z ≡ raisedTo (k .top) s
+      → ParsedName ph st l l1 s i (Done (record { at = k .at; state = z }))
+  unfolding nameRule unpaid
+  name-var {v} {l1} {k} {z} r e d g =
+      record {
+        means = λ x w.
+            rw g (gives (record { at = k .at; state = raisedTo (k .top) s }) (record {
+              value = var (v .0);
+              is = identifier-named ph (stateOf s (bindsOf st)) (λ k. λ z. ok (var k) z) x (on-named p w e);
+              shown = record { rep = made-var d; few = r .held .few };
+              later = node-later s (d .kept) (d .grows);
+            }));
+      }
+
+-- ---- a list
+
+pub list-empty : {left ph : ℕ} {st l : List ℕ} {s : State} {c : ℕ} → c ≡ 0 → ParsedList left ph st l l s c (Refused (record { refusal = NoRule; units = s .units }))
+list-empty {left} {ph} {st} {l} {s} h =
+    record { means = λ k ps w. rw (nil-at ps w h) (stops _ (entry-empty (λ y. parse left ph y) ph (stateOf s (bindsOf st)) k)) }
+
+pub list-inside : {l st : List ℕ} (s : State) {c : ℕ} → ReadyParts l st (unpaid s) c → ¬ (c ≡ 0) → c + 5 ≤ length l
+unfolding unpaid
+list-inside s r h = omega (arith, first-at (r .thing) (r .shown) h refl .cell .inside, r .room .fits)
+
+module _ {st l : List ℕ} (s : State) {c : ℕ} {x : Cell} (h : ¬ (c ≡ 0)) (e : x ≡ getCell l c) where
+  pub list-head-seen : ReadyParts l st (unpaid s) c → Seen l (x .head)
+  unfolding unpaid
+  list-head-seen r =
+      let q = first-at (r .thing) (r .shown) h e in
+      record { top = s .top; thing = stx (q .first); shown = q .cell .shown; inside = omega (arith, r .room .fits); small = r .room .small }
+
+  pub list-form-ready : ReadyParts l st (unpaid s) c → ReadyForm l st (unpaid s) c (x .tail)
+  unfolding fromStxs
+  list-form-ready r =
+      let q = first-at (r .thing) (r .shown) h e in
+      let all : RepP l (unpaid s .top) c (tcons (stx (q .first)) (fromStxs (q .others))) = rw (q .is) at (r .shown) in
+      record { first = q .first; others = q .others; shown = all; shown-others = q .cell .shown-others; room = r .room; held = r .held }
+
+  module _ {left ph : ℕ} {n : Naming} (p : Names ph st (s .bindings) l (x .head) n) where
+    pub list-is-unclear : n ≡ Unclear → ParsedList left ph st l l s c (Refused (record { refusal = Ambiguous; units = s .units }))
+    list-is-unclear z =
+        record {
+          means = λ k ps w.
+              let q = first-at ps w h e in
+              rw (q .is) (stops _ (list-unclear (λ y. parse left ph y) ph (stateOf s (bindsOf st)) k (q .first) (q .others) (on-unclear p (q .cell .shown) z)));
+        }
+
+    pub list-applied : {l1 : List ℕ} {r : Answer} → n ≡ Unnamed → ParsedApplication left ph st l l1 s c r → ParsedList left ph st l l1 s c r
+    unfolding fromStxs
+    list-applied z a =
+        record {
+          means = λ k ps w.
+              let q = first-at ps w h e in
+              let all : RepP l (s .top) c (tcons (stx (q .first)) (fromStxs (q .others))) = rw (q .is) at w in
+              rw (q .is, list-unnamed (λ y. parse left ph y) ph (stateOf s (bindsOf st)) k (q .first) (q .others) (on-unnamed p (q .cell .shown) z))
+              (a .means (q .first) (q .others) all);
+        }
+
+    pub list-formed : {v : Name} {l1 : List ℕ} {r : Answer} → n ≡ Named v → ParsedForm left ph st l l1 s (v .0) c (x .tail) r → ParsedList left ph st l l1 s c r
+    unfolding fromStxs
+    list-formed z a =
+        record {
+          means = λ k ps w.
+              let q = first-at ps w h e in
+              let all : RepP l (s .top) c (tcons (stx (q .first)) (fromStxs (q .others))) = rw (q .is) at w in
+              rw (q .is, list-named (λ y. parse left ph y) ph (stateOf s (bindsOf st)) k (q .first) (q .others) (on-named p (q .cell .shown) z))
+              (a .means (q .first) (q .others) all (q .cell .shown-others));
+        }
+
+-- ---- forms
+
+module _ {left ph : ℕ} {st l : List ℕ} {s : State} {n : ℕ} {c tail : ℕ} {f : Form} (h : formed f ≡ formOf n) where
+  pub form-is-lambda : {l1 : List ℕ} {r : Answer} → f ≡ form.Lambda → ParsedLambda left ph st l l1 s tail r → ParsedForm left ph st l l1 s n c tail r
+  form-is-lambda z a =
+      record { means = λ x ps u w. rw (form-lambda (λ y. parse left ph y) ph (stateOf s (bindsOf st)) x ps (sym (ap formed z) ∙ h)) (a .means ps w) }
+
+  pub form-is-let-syntax : f ≡ form.LetSyntax → ParsedForm left ph st l l s n c tail (Refused (record { refusal = NoRule; units = s .units }))
+  form-is-let-syntax z = record { means = λ x ps u w. stops _ (form-let-syntax (λ y. parse left ph y) ph (stateOf s (bindsOf st)) x ps (sym (ap formed z) ∙ h)) }
+
+  pub form-is-quote : {l1 : List ℕ} {r : Answer} → f ≡ form.Quote → ParsedQuote l l1 s tail r → ParsedForm left ph st l l1 s n c tail r
+  form-is-quote z a =
+      record { means = λ x ps u w. rw (form-quote (λ y. parse left ph y) ph (stateOf s (bindsOf st)) x ps (sym (ap formed z) ∙ h)) (a .means (bindsOf st) ps w) }
+
+  pub form-is-syntax : {r : Answer} → f ≡ form.Syntax → ParsedSyntax l s tail r → ParsedForm left ph st l l s n c tail r
+  form-is-syntax z a =
+      record { means = λ x ps u w. rw (form-syntax (λ y. parse left ph y) ph (stateOf s (bindsOf st)) x ps (sym (ap formed z) ∙ h)) (a .means (bindsOf st) ps w) }
+
+  pub form-is-other : {l1 : List ℕ} {r : Answer} → f ≡ form.Other → ParsedApplication left ph st l l1 s c r → ParsedForm left ph st l l1 s n c tail r
+  form-is-other z a =
+      record { means = λ x ps u w. rw (form-other (λ y. parse left ph y) ph (stateOf s (bindsOf st)) x ps (sym (ap formed z) ∙ h)) (a .means x ps u) }
+
+module _ {l st : List ℕ} (s : State) {c tail : ℕ} (r : ReadyForm l st (unpaid s) c tail) where
+  pub form-tail-ready : ReadyParts l st (unpaid s) tail
+  form-tail-ready = record { thing = r .others; shown = r .shown-others; room = r .room; held = r .held }
+
+  pub form-chain-ready : ReadyChain l (unpaid s) tail
+  form-chain-ready = record { thing = r .others; shown = r .shown-others; room = r .room; few = r .held .few }
+
+  pub form-all-ready : ReadyParts l st (unpaid s) c
+  unfolding fromStxs
+  form-all-ready = record { thing = cons (r .first) (r .others); shown = r .shown; room = r .room; held = r .held }
+
+-- ---- lambda
+
+pub lambda-seen : {l st : List ℕ} (s : State) {c : ℕ} → ReadyParts l st (unpaid s) c → SeenP l c
+unfolding unpaid
+lambda-seen s r = record { top = s .top; thing = fromStxs (r .thing); shown = r .shown; inside = omega (arith, r .room .fits); small = r .room .small }
+
+pub parts-held : {l st : List ℕ} (s : State) {c : ℕ} → ReadyParts l st (unpaid s) c → s .bindings * 3 ≤ length st
+unfolding unpaid
+parts-held s r = omega (arith, r .held .few, r .held .wide)
+
+module _ {st l : List ℕ} (s : State) {c : ℕ} {d : Two} (h : Double l c d) where
+  pub lambda-shape : {left ph : ℕ} → d ≡ two.Not → ParsedLambda left ph st l l s c (Refused (record { refusal = NoRule; units = s .units }))
+  unfolding lambdaRule
+  lambda-shape e = record { means = λ ps w. stops _ (not-parts2 ps _ (stateOf s (bindsOf st)) (on-not-two (h .means (s .top) ps w) e)) }
+
+  module _ {i j : ℕ} (e : d ≡ two.Are i j) where
+    pub lambda-id-seen : ReadyParts l st (unpaid s) c → Seen l i
+    unfolding unpaid
+    lambda-id-seen r =
+        let q = on-two (h .means (s .top) (r .thing) (r .shown)) e in
+        record { top = s .top; thing = stx (q .first); shown = q .shown; inside = omega (arith, r .room .fits); small = r .room .small }
+
+    pub lambda-body-ready : ReadyParts l st (unpaid s) c → Ready l st (unpaid s) j
+    lambda-body-ready r = let q = on-two (h .means (unpaid s .top) (r .thing) (r .shown)) e in record { thing = q .second; shown = q .shown-second; room = r .room; held = r .held }
+
+    module _ {left ph : ℕ} {n : Naming} (p : Names ph st (s .bindings) l i n) where
+      pub lambda-unnamed : n ≡ Unnamed → ParsedLambda left ph st l l s c (Refused (record { refusal = NoRule; units = s .units }))
+      unfolding lambdaRule parts2
+      lambda-unnamed z =
+          record {
+            means = λ ps w.
+                let q = on-two (h .means (s .top) ps w) e in
+                rw (q .is) (stops _ (identifier-unnamed ph (stateOf s (bindsOf st)) (q .first) _ (on-unnamed p (q .shown) z)));
+          }
+
+      pub lambda-unclear : n ≡ Unclear → ParsedLambda left ph st l l s c (Refused (record { refusal = Ambiguous; units = s .units }))
+      unfolding lambdaRule parts2
+      lambda-unclear z =
+          record {
+            means = λ ps w.
+                let q = on-two (h .means (s .top) ps w) e in
+                rw (q .is) (stops _ (identifier-unclear ph (stateOf s (bindsOf st)) (λ k. functionRule (λ y. parse left ph y) k (q .second)) (q .first) (on-unclear p (q .shown) z)));
+          }
+
+      pub lambda-function : {v : Name} {l1 : List ℕ} {r : Answer} → n ≡ Named v → ParsedFunction left ph st l l1 s (v .0) j r → ParsedLambda left ph st l l1 s c r
+      unfolding lambdaRule parts2
+      lambda-function z a =
+          record {
+            means = λ ps w.
+                let q = on-two (h .means (s .top) ps w) e in
+                rw (q .is, identifier-named ph (stateOf s (bindsOf st)) (λ k. functionRule (λ y. parse left ph y) k (q .second)) (q .first) (on-named p (q .shown) z))
+                (a .means (q .second) (q .shown-second));
+          }
+
+-- ---- function
+
+-- an entry's unit is not needed for what follows
+pub later-ready : {l st : List ℕ} (s : State) {i : ℕ} → Ready l st (unpaid s) i → Ready l st s i
+unfolding unpaid
+later-ready s r = record { thing = r .thing; shown = r .shown; room = record { fits = omega (arith, r .room .fits); small = r .room .small; low = r .room .low }; held = record { few = r .held .few; wide = r .held .wide } }
+
+module _ {left ph : ℕ} {st l l1 : List ℕ} (s : State) {body : ℕ} {a : Answer} (v : Parsed left ph st l l1 s body a) where
+  pub function-refused : {n : ℕ} {f : Stop} → a ≡ Refused f → ParsedFunction left ph st l l1 s n body (Refused f)
+  unfolding functionRule
+  function-refused e = record { means = λ x w. stops _ (then-no _ (on-refused (v .means x w) (ap ended e))) }
+
+  module _ {o : Out} (e : a ≡ Done o) where
+    function-gave : (x : Stx) → Rep l (s .top) body (stx x) → Gave trees 1 5 l l1 s (bindsOf st) (parse left ph x (stateOf s (bindsOf st))) o
+    function-gave x w = on-done (v .means x w) (ap ended e)
+
+    pub function-ready : Ready l st (unpaid s) body → length l1 ≡ length l → Closable l1 (o .state .top) (o .at)
+    unfolding unpaid
+    function-ready r len =
+        let g = function-gave (r .thing) (r .shown) in
+        record {
+          thing = g .value;
+          shown = g .shown .rep;
+          room = record { fits = omega (arith, g .later .fits, r .room .fits, len); small = omega (arith, r .room .small, len); low = omega (arith, r .room .low, g .later .grows) };
+        }
+
+    pub function-made : {n : ℕ} {l2 : List ℕ} {k : Made} {z : State} → Closed l1 l2 (o .state .top) n (o .at) (k .at) (k .top) → z ≡ raisedTo (k .top) (o .state)
+        → ParsedFunction left ph st l l2 s n body (Done (record { at = k .at; state = z }))
+    unfolding functionRule unpaid
+    function-made {n} {l2} {k} d g =
+        record {
+          means = λ x w.
+              let q = function-gave x w in
+              rw g (gives (record { at = k .at; state = raisedTo (k .top) (o .state) }) (record {
+                value = fun n (q .value);
+                is = then-ok _ (q .is);
+                shown = record { rep = d .means (q .value) (q .shown .rep); few = q .shown .few };
+                later = record {
+                  kept = same-trans (s .top) (o .state .top) l l1 l2 (q .later .grows) (q .later .kept) (d .kept);
+                  grows = omega (arith, q .later .grows, d .grows);
+                  fits = omega (arith, q .later .fits, d .grows);
+                  spent = omega (arith, q .later .spent);
+                };
+              }));
+        }
+
+-- ---- quote and syntax
+
+pub chain-seen : {l : List ℕ} (s : State) {c : ℕ} → ReadyChain l (unpaid s) c → SeenP l c
+unfolding unpaid
+chain-seen s r = record { top = s .top; thing = fromStxs (r .thing); shown = r .shown; inside = omega (arith, r .room .fits); small = r .room .small }
+
+module _ {l : List ℕ} (s : State) {c : ℕ} {d : One} (h : Single l c d) where
+  pub syntax-shape : d ≡ one.Not → ParsedSyntax l s c (Refused (record { refusal = NoRule; units = s .units }))
+  unfolding syntaxRule
+  syntax-shape e = record { means = λ b ps w. stops _ (not-parts1 ps _ (stateOf s b) (on-not-one (h .means (s .top) ps w) e)) }
+
+  pub quote-shape : d ≡ one.Not → ParsedQuote l l s c (Refused (record { refusal = NoRule; units = s .units }))
+  unfolding quoteRule
+  quote-shape e = record { means = λ b ps w. stops _ (not-parts1 ps _ (stateOf s b) (on-not-one (h .means (s .top) ps w) e)) }
+
+  module _ {i : ℕ} (e : d ≡ one.Is i) where
+    pub syntax-is : ReadyChain l (unpaid s) c → ParsedSyntax l s c (Done (record { at = i; state = s }))
+    unfolding syntaxRule parts1 unpaid
+    syntax-is r =
+        record {
+          means = λ b ps w.
+              let q = on-one (h .means (s .top) ps w) e in
+              rw (q .is) (gives _ (record {
+                value = stx (q .first);
+                is = refl;
+                shown = record { rep = q .shown; few = r .few };
+                later = record { kept = later-refl l s .kept; grows = omega arith; fits = omega arith; spent = omega arith };
+              }));
+        }
+
+    pub quote-ready : ReadyChain l (unpaid s) c → ReadyData l (unpaid s) i
+    quote-ready r = let q = on-one (h .means (unpaid s .top) (r .thing) (r .shown)) e in record { thing = q .first; shown = q .shown; room = r .room; few = r .few }
+
+    pub quote-is : {l1 : List ℕ} {r : Answer} → ParsedData l l1 s i r → ParsedQuote l l1 s c r
+    unfolding quoteRule parts1
+    quote-is a = record { means = λ b ps w. let q = on-one (h .means (s .top) ps w) e in rw (q .is) (a .means b (q .first) (q .shown)) }
+
+pub data-seen : {l : List ℕ} (s : State) {i : ℕ} → ReadyData l (unpaid s) i → Seen l i
+unfolding unpaid
+data-seen s r = record { top = s .top; thing = stx (r .thing); shown = r .shown; inside = omega (arith, r .room .fits); small = r .room .small }
+
+module _ {l : List ℕ} (s : State) {i : ℕ} {ex : Extent} (k : Measured l i ex) {y : Charged} (f : y ≡ chargeOf (ex .weight) s) (r : ReadyData l (unpaid s) i) where
+  measured : (x : Stx) {top : ℕ} → Rep l top i (stx x) → ex .weight ≡ min 4097 (size x)
+  unfolding weight
+  measured x {top} w = k .means top (stx x) w .weight
+
+  few-units : s .units < 4097
+  unfolding unpaid
+  few-units = omega (arith, r .room .fits, r .room .small)
+
+  pub data-short : {t : Stop} → y ≡ charged.Refused t → ParsedData l l s i (Refused t)
+  unfolding dataRule
+  data-short {t} g =
+      let q = charge-failed (ex .weight) s f g in
+      record { means = λ b x w. rw (q .is) (stops _ (then-no _ (charge-no (size x) s b (omega (arith, q .short, few-units, measured x w))))) }
+
+  module _ {u : State} (g : y ≡ charged.Paid u) where
+    went : Went (ex .weight) s u
+    went = charge-went (ex .weight) s f g
+
+    exactly : (x : Stx) → Rep l (s .top) i (stx x) → ex .weight ≡ size x
+    exactly x w = omega (arith, measured x w, few-units, went .enough)
+
+    pub strip-ready : Copyable l (u .top) i
+    unfolding unpaid
+    strip-ready =
+        let n : ex .weight ≡ size (r .thing) = exactly (r .thing) (r .shown) in
+        rw (went .is) (record { thing = r .thing; shown = r .shown; room = omega (arith, r .room .fits, went .enough, n); small = r .room .small; low = r .room .low })
+
+    pub data-made : {l1 : List ℕ} {at : Made} {z : State} → Copied strip l l1 (u .top) i (at .at) (at .top) → z ≡ raisedTo (at .top) u
+        → ParsedData l l1 s i (Done (record { at = at .at; state = z }))
+    unfolding dataRule unpaid
+    data-made {l1} {at} {z} v j =
+        let ut : u .top ≡ s .top = ap (λ (y : State). y .top) (went .is) in
+        let uu : u .units ≡ s .units - ex .weight = ap (λ (y : State). y .units) (went .is) in
+        let ub : u .bindings ≡ s .bindings = ap (λ (y : State). y .bindings) (went .is) in
+        let v2 : Copied strip l l1 (s .top) i (at .at) (at .top) = rw ut at v in
+        record {
+          means = λ b x w.
+              let n : ex .weight ≡ size x = exactly x w in
+              let q = v2 .means x w in
+              let same : stateOf (paid (size x) s) b ≡ stateOf u b = rw (went .is) (ap (λ (k : ℕ). stateOf (paid k s) b) (sym n)) in
+              rw j (gives (record { at = at .at; state = raisedTo (at .top) u }) (record {
+                value = strip x;
+                is = then-ok _ (charge-ok (size x) s b (omega (arith, n, went .enough))) ∙ ap (ok (strip x)) same;
+                shown = record { rep = q .shown; few = omega (arith, ub, r .few) };
+                later = record { kept = v2 .kept; grows = v2 .grows; fits = omega (arith, q .room, uu, n, went .enough); spent = omega (arith, uu) };
+              }));
+        }
+
+-- ---- application
+
+pub parts-ready : {l st : List ℕ} (s : State) {c : ℕ} → ReadyParts l st (unpaid s) c → ReadyParts l st s c
+unfolding unpaid
+parts-ready s r = record { thing = r .thing; shown = r .shown; room = record { fits = omega (arith, r .room .fits); small = r .room .small; low = r .room .low }; held = record { few = r .held .few; wide = r .held .wide } }
+
+module _ {left ph : ℕ} {st l l1 : List ℕ} (s : State) {c : ℕ} {a : Answer} (v : ParsedParts left ph st l l1 s c a) where
+  pub application-refused : {f : Stop} → a ≡ Refused f → ParsedApplication left ph st l l1 s c (Refused f)
+  unfolding fromStxs
+  application-refused e =
+      record { means = λ h ps w. stops _ (application-no (λ y. parse left ph y) h ps (stateOf s (bindsOf st)) (on-refused (v .means (cons h ps) w) (ap ended e))) }
+
+  module _ {o : Out} (e : a ≡ Done o) where
+    pub application-roomy : ReadyParts l st (unpaid s) c → length l1 ≡ length l → Roomy l1 (o .state .top) 8
+    unfolding unpaid
+    application-roomy r len =
+        let g = on-done (v .means (r .thing) (r .shown)) (ap ended e) in
+        record { fits = omega (arith, g .later .fits, r .room .fits, len); small = omega (arith, r .room .small, len); low = omega (arith, r .room .low, g .later .grows) }
+
+    pub application-made : {l2 : List ℕ} {k : Made} {z : State} → Stored l1 l2 (o .state .top) (record { tag = applicationTag; content = o .at }) (k .at) (k .top)
+        → z ≡ raisedTo (k .top) (o .state) → ParsedApplication left ph st l l2 s c (Done (record { at = k .at; state = z }))
+    unfolding fromStxs unpaid
+    application-made {l2} {k} d g =
+        record {
+          means = λ h ps w.
+              let q = on-done (v .means (cons h ps) w) (ap ended e) in
+              let f = application-is (λ y. parse left ph y) h ps (stateOf s (bindsOf st)) (q .is) in
+              let shown : RepP l1 (o .state .top) (o .at) (tcons (f .first) (f .others)) = rw (f .is) at (q .shown .rep) in
+              rw g (gives (record { at = k .at; state = raisedTo (k .top) (o .state) }) (record {
+                value = app (f .first) (f .others);
+                is = f .rule;
+                shown = record { rep = made-app d shown; few = q .shown .few };
+                later = record {
+                  kept = same-trans (s .top) (o .state .top) l l1 l2 (q .later .grows) (q .later .kept) (d .kept);
+                  grows = omega (arith, q .later .grows, d .grows);
+                  fits = omega (arith, q .later .fits, d .grows);
+                  spent = omega (arith, q .later .spent);
+                };
+              }));
+        }
+
+-- ---- parts
+
+pub parts-none : {left ph : ℕ} {st l : List ℕ} {s : State} {c : ℕ} → ReadyParts l st s c → c ≡ 0 → ParsedParts left ph st l l s c (Done (record { at = 0; state = s }))
+unfolding parseAll
+parts-none {left} {ph} {st} {l} {s} r h =
+    record { means = λ ps w. rw (nil-at ps w h) (gives _ (record { value = tnil; is = refl; shown = record { rep = is-none; few = r .held .few }; later = later-refl l s })) }
+
+pub parts-inside : {l st : List ℕ} {s : State} {c : ℕ} → ReadyParts l st s c → ¬ (c ≡ 0) → c + 5 ≤ length l
+parts-inside r h = omega (arith, first-at (r .thing) (r .shown) h refl .cell .inside, r .room .fits)
+
+module _ {st l : List ℕ} {s : State} {c : ℕ} {x : Cell} (h : ¬ (c ≡ 0)) (e : x ≡ getCell l c) where
+  pub parts-pair-ready : ReadyParts l st s c → ReadyPair l st s (x .head) (x .tail)
+  parts-pair-ready r =
+      let q = first-at (r .thing) (r .shown) h e in
+      record { first = q .first; others = q .others; shown = q .cell .shown; shown-others = q .cell .shown-others; room = r .room; held = r .held }
+
+  pub parts-paired : {left ph : ℕ} {l1 : List ℕ} {r : Answer} → ParsedPair left ph st l l1 s (x .head) (x .tail) r → ParsedParts left ph st l l1 s c r
+  parts-paired a = record { means = λ ps w. let q = first-at ps w h e in rw (q .is) (a .means (q .first) (q .others) (q .cell .shown) (q .cell .shown-others)) }
+
+-- ---- pair
+
+-- the part before has left the cell's room
+since-cell : {l l1 l2 : List ℕ} {s s1 : State} {b : Store} {q q′ : m.Out Trees} {x : Ended Out} → Later 1 5 l l1 s s1 → q ≡ q′ → Agrees chains 1 11 l1 l2 (unpaid s1) b q′ x → Agrees chains 0 0 l l2 s b q x
+unfolding unpaid
+since-cell {l} {l1} {l2} {s} {s1} p e (gives o a) =
+    gives o (record {
+      value = a .value;
+      is = e ∙ a .is;
+      shown = a .shown;
+      later = record {
+        kept = same-trans (s .top) (s1 .top) l l1 l2 (p .grows) (p .kept) (a .later .kept);
+        grows = omega (arith, p .grows, a .later .grows);
+        fits = omega (arith, p .fits, a .later .fits);
+        spent = omega (arith, p .spent, a .later .spent);
+      };
+    })
+since-cell p e (stops f a) = stops f (e ∙ a)
+
+pub pair-first-ready : {l st : List ℕ} {s : State} {i c : ℕ} → ReadyPair l st s i c → Ready l st s i
+pair-first-ready r = record { thing = r .first; shown = r .shown; room = r .room; held = r .held }
+
+module _ {left ph : ℕ} {st l l1 : List ℕ} {s : State} {i : ℕ} {a : Answer} (v : Parsed left ph st l l1 s i a) where
+  pub pair-first-refused : {c : ℕ} {f : Stop} → a ≡ Refused f → ParsedPair left ph st l l1 s i c (Refused f)
+  unfolding parseAll
+  pair-first-refused k = record { means = λ x ps w y. stops _ (then-no _ (on-refused (v .means x w) (ap ended k))) }
+
+  module _ {o : Out} (k : a ≡ Done o) where
+    first-gave : (x : Stx) → Rep l (s .top) i (stx x) → Gave trees 1 5 l l1 s (bindsOf st) (parse left ph x (stateOf s (bindsOf st))) o
+    first-gave x w = on-done (v .means x w) (ap ended k)
+
+    pub pair-rest-ready : {c : ℕ} → ReadyPair l st s i c → length l1 ≡ length l → ReadyRest l1 st (o .state) (o .at) c
+    pair-rest-ready r len =
+        let g = first-gave (r .first) (r .shown) in
+        record {
+          first = g .value;
+          others = r .others;
+          shown = g .shown .rep;
+          shown-others = carryP (r .shown-others) (g .later .kept) (g .later .grows);
+          room = room-later (r .room) (g .later) len;
+          cell = omega (arith, g .later .fits, r .room .fits, len);
+          held = record { few = g .shown .few; wide = r .held .wide };
+        }
+
+    pub pair-less : {c T : ℕ} → ReadyPair l st s i c → s .units * 8 + 1 ≡ T → o .state .units * 8 + 3 < T
+    pair-less r z = let g = first-gave (r .first) (r .shown) in omega (arith, g .later .spent)
+
+    pub pair-rest : {c : ℕ} {l2 : List ℕ} {d : Answer} → ParsedRest left ph st l1 l2 (o .state) (o .at) c d → ParsedPair left ph st l l2 s i c d
+    unfolding parseAll restRule
+    pair-rest w =
+        record {
+          means = λ x ps p q.
+              let g = first-gave x p in
+              since-cell (g .later) (then-ok _ (g .is)) (w .means (g .value) ps (g .shown .rep) (carryP q (g .later .kept) (g .later .grows)));
+        }
+
+-- ---- rest
+
+module _ {l st : List ℕ} {s : State} {i c : ℕ} (r : ReadyRest l st s i c) where
+  pub rest-ready : ReadyParts l st s c
+  rest-ready = record { thing = r .others; shown = r .shown-others; room = r .room; held = r .held }
+
+module _ {left ph : ℕ} {st l l1 : List ℕ} (s : State) {c : ℕ} {a : Answer} (w : ParsedParts left ph st l l1 s c a) where
+  pub rest-refused : {i : ℕ} {f : Stop} → a ≡ Refused f → ParsedRest left ph st l l1 s i c (Refused f)
+  unfolding restRule
+  rest-refused z = record { means = λ t ps p q. stops _ (then-no _ (on-refused (w .means ps q) (ap ended z))) }
+
+  module _ {o : Out} (z : a ≡ Done o) where
+    others-gave : (ps : Stxs) → RepP l (s .top) c (fromStxs ps) → Gave chains 0 0 l l1 s (bindsOf st) (parseAll (λ y. parse left ph y) ps (stateOf s (bindsOf st))) o
+    others-gave ps q = on-done (w .means ps q) (ap ended z)
+
+    pub rest-link-ready : {i : ℕ} → ReadyRest l st s i c → length l1 ≡ length l → Linkable l1 (o .state .top) i (o .at)
+    rest-link-ready r len =
+        let j = others-gave (r .others) (r .shown-others) in
+        record {
+          thing = r .first;
+          others = j .value;
+          shown = carry (r .shown) (j .later .kept) (j .later .grows);
+          shown-others = j .shown .rep;
+          room = record { fits = omega (arith, j .later .fits, r .cell, len); small = omega (arith, r .room .small, len); low = omega (arith, r .room .low, j .later .grows) };
+        }
+
+    pub rest-linked : {i : ℕ} {l2 : List ℕ} {n : Made} {u : State} → Linked l1 l2 (o .state .top) i (o .at) (n .at) (n .top) → u ≡ raisedTo (n .top) (o .state)
+        → ParsedRest left ph st l l2 s i c (Done (record { at = n .at; state = u }))
+    unfolding restRule unpaid
+    rest-linked {i} {l2} {n} y e =
+        record {
+          means = λ t ps p q.
+              let j = others-gave ps q in
+              rw e (gives (record { at = n .at; state = raisedTo (n .top) (o .state) }) (record {
+                value = tcons t (j .value);
+                is = then-ok _ (j .is);
+                shown = record { rep = y .means t (j .value) (carry p (j .later .kept) (j .later .grows)) (j .shown .rep); few = j .shown .few };
+                later = record {
+                  kept = same-trans (s .top) (o .state .top) l l1 l2 (j .later .grows) (j .later .kept) (y .kept);
+                  grows = omega (arith, j .later .grows, y .grows);
+                  fits = omega (arith, j .later .fits, y .grows);
+                  spent = omega (arith, j .later .spent);
+                };
+              }));
+        }
+
+pub ruleset laws = (
+  node-inside,
+  node-seen,
+  node-held,
+  node-roomy,
+  enter-one,
+  enter-less,
+  enter-ready,
+  enter-goes,
+  enter-stops,
+  entry-list-ready,
+  entry-list,
+  entry-name,
+  entry-value-tag,
+  entry-value,
+  name-unnamed,
+  name-unclear,
+  name-var,
+  list-empty,
+  list-inside,
+  list-head-seen,
+  list-form-ready,
+  list-is-unclear,
+  list-applied,
+  list-formed,
+  form-is-lambda,
+  form-is-let-syntax,
+  form-is-quote,
+  form-is-syntax,
+  form-is-other,
+  form-tail-ready,
+  form-chain-ready,
+  form-all-ready,
+  lambda-seen,
+  parts-held,
+  lambda-shape,
+  lambda-id-seen,
+  lambda-body-ready,
+  lambda-unnamed,
+  lambda-unclear,
+  lambda-function,
+  later-ready,
+  function-refused,
+  function-ready,
+  function-made,
+  chain-seen,
+  syntax-shape,
+  quote-shape,
+  syntax-is,
+  quote-ready,
+  quote-is,
+  data-seen,
+  data-short,
+  strip-ready,
+  data-made,
+  parts-ready,
+  application-refused,
+  application-roomy,
+  application-made,
+  parts-none,
+  parts-inside,
+  parts-pair-ready,
+  parts-paired,
+  pair-first-ready,
+  pair-first-refused,
+  pair-rest-ready,
+  pair-less,
+  pair-rest,
+  rest-ready,
+  rest-refused,
+  rest-link-ready,
+  rest-linked,
+)

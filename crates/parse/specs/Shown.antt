@@ -1,0 +1,28 @@
+-- How an answer stands for a tree or a chain, and what the store is to a state.
+use mathlib.Core.List.{List}
+use Prim.Native.Nat.{ℕ, _+_, _≤_}
+use lib.ListN.{length}
+use Rattle.model.specs.Trees.{Tree, Trees}
+use Rattle.steps.specs.Agreement.{Shape}
+use Rattle.steps.specs.declared.State.{State}
+use Rattle.steps.specs.declared.Out.{Out}
+use Rattle.things.specs.Rep.{Rep, RepP}
+
+-- the store has the words of 128 bindings
+pub record Held (st : List ℕ) (s : State) : Type 0 where
+  pub few : s .bindings ≤ 128
+  pub wide : 384 ≤ length st
+
+pub record ShownTree (l : List ℕ) (o : Out) (t : Tree) : Type 0 where
+  pub rep : Rep l (o .state .top) (o .at) t
+  pub few : o .state .bindings ≤ 128
+
+pub record ShownChain (l : List ℕ) (o : Out) (ts : Trees) : Type 0 where
+  pub rep : RepP l (o .state .top) (o .at) ts
+  pub few : o .state .bindings ≤ 128
+
+abbrev pub trees : Shape Tree Out
+trees = record { shows = λ l o t. ShownTree l o t; state = λ o. o .state }
+
+abbrev pub chains : Shape Trees Out
+chains = record { shows = λ l o ts. ShownChain l o ts; state = λ o. o .state }
