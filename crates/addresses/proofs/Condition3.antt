@@ -1,199 +1,321 @@
--- Condition 3, from the image's bytes to the tree.
+-- Condition 3, one name is one address, from image bytes to image bytes. What it says is in specs/OneNameOneAddress.
 use mathlib.Core.Path.{_≡_, refl, sym, ap, _∙_, subst}
-use Prim.Native.Nat.{ℕ, zero, suc, _+_, _-_, _^_, _≤_, _<_}
+use mathlib.Core.Logic.{_≢_}
+use Prim.Native.Nat.{ℕ, zero, suc, _+_, _-_, _≤_, _<_}
 use native.Mathlib.Nat.{le-refl, le-trans, le-of-eq}
 use native.Mathlib.Omega.{arith}
-use mathlib.Core.Bool.{Bool, true, false, _&&_, _||_, true≢false, false≢true}
-use mathlib.Core.List.{List, [], _∷_}
-use lib.Dec.{eqb, ltb, leb}
-use lib.Pow.{pow-pos}
-use lib.ListN.{length}
+use mathlib.Core.Bool.{Bool, true, false, _&&_, false≢true}
+use mathlib.Core.List.{List, [], _∷_, _++_}
+use lib.Dec.{eqb, leb}
+use lib.ListN.{length, take, drop}
 use Rattle.model.specs.Choice.{if_then_else_}
-use Rattle.model.specs.Limits.{mostScopes, mostEntries, mostNames, mostNesting, mostBindings, mostImage}
-use Rattle.model.specs.Refusals.{layout, overLimit, wrongKind}
-use Rattle.model.specs.Scopes.{Scopes, add}
-use Rattle.model.specs.Objects.{Atom, Sets, Stx, atom, list, Stxs, nil, cons, size}
-use Rattle.model.specs.Trees.{Tree}
-use Rattle.model.specs.Reading.{Read, got, fault, Reader, next, need, num, numUpTo, numBelow, readMembers, readSet, readSets, readAtom, readParts, readContent, readStx, Head, symbols, readWords, coreWords, readHead, readBind, readBindsAfter, readSomeBinds, readBinds, atEnd, Image, readSyntax, readImage}
-use Rattle.model.specs.Resolving.{Bind, bindBefore}
-use Rattle.model.specs.Steps.{State, Out, ok, no, charge}
+use Rattle.model.specs.Limits.{mostEntries, mostImage, lastPhase}
+use Rattle.model.specs.Refusals.{overBudget, codeOf, noPhase, tooLong, unowned}
+use Rattle.model.specs.Objects.{Stx, size}
+use Rattle.model.specs.Trees.{Tree, loadSize}
+use Rattle.model.specs.Resolving.{Bind}
+use Rattle.model.specs.Reading.{Read, got, fault, symbols, Image, readSyntax, readTreeImage, readImage}
+use Rattle.model.specs.Writing.{syntaxBytes, treeImageBytes}
+use Rattle.model.specs.Steps.{State, Out, ok, no, after, charge}
 use Rattle.model.specs.Parsing.{parse}
-use Rattle.model.specs.Expanding.{expand, coreOnly}
-use Rattle.model.specs.Jobs.{closed, start, expandRoot, parseRoot}
-use Rattle.laws.proofs.Members.{SetsIn}
-use Rattle.laws.proofs.Tests.{leb-le}
-use Rattle.codec_laws.proofs.Sequence.{next-got, need-got}
-use Rattle.codec_laws.proofs.NumberTrip.{got-value, fault≢got}
-use Rattle.laws.proofs.Order.{Ascending, Sorted, sorted-keys}
-use Rattle.laws.proofs.StepLaws.{both-ok, spend, charge-ok, charge-is}
+use Rattle.model.specs.Evaluating.{evaluate}
+use Rattle.model.specs.Expanding.{coreOnly}
+use Rattle.model.specs.Jobs.{Ending, refused, named, written, answerOf, outputAfter, cleared, Result, budgetFits, lent, atPhase, withImage, start, worked, fitted, reached, expandRoot, parseRoot, evaluateRoot, isAmong, closed, expandEnding, parseEnding, evaluateEnding, expandJob, parseJob, evaluateJob}
+use Rattle.laws.proofs.Tests.{leb-le, eqb-false}
 use Rattle.laws.proofs.Stable.{Later, same}
-use Rattle.addresses.proofs.Scoped.{InS, InL, add-in, Kept, kept-charge, stx-more}
-use Rattle.addresses.proofs.Sound.{Good, Grows, Done, expand-good, Rise, rise-lower, funs, vars, kept-grows, grows-trans, good-grows, spend-spend, spend-binds, right-part}
+use Rattle.laws.proofs.StepLaws.{spend}
+use Rattle.codec_laws.specs.WellFormed.{Bytes, SyntaxFits, TreeImageFits}
+use Rattle.codec_laws.proofs.Sequence.{and-both}
+use Rattle.codec_laws.proofs.ImageLaws.{syntax-read-keeps-limits, syntax-read-then-written, syntax-written-then-read, tree-written-then-read}
+use Rattle.addresses.specs.Charge.{entryCharge, parseCharge}
+use Rattle.addresses.specs.OneNameOneAddress.{functionNames, AllDifferent, NoneBelow, imageWritten, OneNameOneAddress}
+use Rattle.addresses.proofs.Outcomes.{Outcome, chain, charge-out}
+use Rattle.addresses.proofs.Evaluated.{TreeGood, Gave, since, evaluate-good}
+use Rattle.addresses.proofs.Meanings.{vars}
+use Rattle.addresses.proofs.Costs.{Costs, charge-costs, costs-then, costs-enough, costs-short}
+use Rattle.addresses.proofs.Shorter.{image-shorter}
+use Rattle.addresses.proofs.Results.{Expanded, Rise, rise-lower}
+use Rattle.addresses.proofs.ParseCharge.{parse-spends, cost-is-charge}
+use Rattle.addresses.proofs.Endings.{parseRoot-is, evaluateRoot-is, expandWork, parseWork, evaluateWork, expandEnding-is, parseEnding-is, evaluateEnding-is, expandJob-is, parseJob-is, evaluateJob-is, with-read, worked-ok, worked-no, fitted-is, lent-code, Ended, lent-ended}
+use Rattle.addresses.proofs.ExpandJob.{expand-root-good, outcome-ok, limits-kept, Fine, worked-fine, fitted-fine, lent-fine}
 
--- ---- what is read has only declared scopes
+-- ---- names that rise are all different, and none is below where they start
 
-and-both : (x y : Bool) → (x && y) ≡ true → (x ≡ true) × (y ≡ true)
-and-both true y e = (refl, e)
-and-both false y e = absurd (false≢true e)
-
-members-in : (c n p : ℕ) (m v : Scopes) (s rest : List ℕ) → m < 2 ^ n → readMembers c n p m s ≡ got v rest → v < 2 ^ n
-unfolding readMembers
-members-in zero n p m v s rest h e = subst (λ (z : ℕ). z < 2 ^ n) (got-value m v s rest e) h
-members-in (suc c) n p m v s rest h e =
-    let g = next-got (num s) _ v rest e in
-    let t = next-got (need layout (ltb p (g .0) && leb (g .0) n) (g .1)) _ v rest (g .3) in
-    let q = need-got layout (ltb p (g .0) && leb (g .0) n) (t .0) (g .1) (t .1) (t .2) in
-    members-in c n (g .0) (add (g .0) m) v (t .1) rest
-    (add-in (g .0) n (leb-le (g .0) n (and-both (ltb p (g .0)) (leb (g .0) n) (q .0) .1)) m h) (t .3)
-
-set-in : (n : ℕ) (v : Scopes) (s rest : List ℕ) → readSet n s ≡ got v rest → v < 2 ^ n
-unfolding readSet
-set-in n v s rest e =
-    let g = next-got (num s) _ v rest e in
-    members-in (g .0) n 0 0 v (g .1) rest (pow-pos n) (g .3)
-
-sets-in : (n : ℕ) (c : Sets) (s rest : List ℕ) → readSets n s ≡ got c rest → SetsIn n c
-unfolding readSets
-sets-in n c s rest e =
-    let a = next-got (readSet n s) _ c rest e in
-    let b = next-got (readSet n (a .1)) _ c rest (a .3) in
-    let d = next-got (readSet n (b .1)) _ c rest (b .3) in
-    subst (λ (z : Sets). SetsIn n z) (got-value (record { at0 = a .0; at1 = b .0; at2 = d .0 }) c (d .1) rest (d .3))
-    (set-in n (a .0) s (a .1) (a .2), set-in n (b .0) (a .1) (b .1) (b .2), set-in n (d .0) (b .1) (d .1) (d .2))
-
-parts-in : (n c : ℕ) (part : Reader Stx) → ((x : Stx) (s rest : List ℕ) → part s ≡ got x rest → InS n x)
-    → (l : Stxs) (s rest : List ℕ) → readParts c part s ≡ got l rest → InL n l
-unfolding readParts
-parts-in n zero part h l s rest e = subst (λ (z : Stxs). InL n z) (got-value nil l s rest e) tt
-parts-in n (suc c) part h l s rest e =
-    let a = next-got (part s) _ l rest e in
-    let b = next-got (readParts c part (a .1)) _ l rest (a .3) in
-    subst (λ (z : Stxs). InL n z) (got-value (cons (a .0) (b .0)) l (b .1) rest (b .3))
-    (h (a .0) s (a .1) (a .2), parts-in n c part h (b .0) (a .1) (b .1) (b .2))
-
-content-in : (h : Head) (part : Reader Stx) → ((y : Stx) (s rest : List ℕ) → part s ≡ got y rest → InS (h .scopes) y)
-    → (c : Sets) → SetsIn (h .scopes) c → (t : ℕ) (b : Bool) (x : Stx) (s rest : List ℕ) → readContent h part c t b s ≡ got x rest → InS (h .scopes) x
-unfolding readContent
-content-in h part below c i t true x s rest q =
-    let n = next-got (num s) _ x rest q in
-    let r = next-got (readParts (n .0) part (n .1)) _ x rest (n .3) in
-    subst (λ (z : Stx). InS (h .scopes) z) (got-value (list c (r .0)) x (r .1) rest (r .3))
-    (i, parts-in (h .scopes) (n .0) part below (r .0) (n .1) (r .1) (r .2))
-content-in h part below c i t false x s rest q =
-    let a = next-got (readAtom h t s) _ x rest q in
-    subst (λ (z : Stx). InS (h .scopes) z) (got-value (atom c (a .0)) x (a .1) rest (a .3)) i
-
-stx-in : (l : ℕ) (h : Head) (x : Stx) (s rest : List ℕ) → readStx l h s ≡ got x rest → InS (h .scopes) x
-unfolding readStx
-stx-in zero h x s rest e = absurd (fault≢got overLimit x rest e)
-stx-in (suc l) h x s rest e =
-    let t = next-got (numUpTo layout 5 s) _ x rest e in
-    let c = next-got (readSets (h .scopes) (t .1)) _ x rest (t .3) in
-    content-in h (readStx l h) (stx-in l h) (c .0) (sets-in (h .scopes) (c .0) (t .1) (c .1) (c .2)) (t .0) (eqb (t .0) 5) x (c .1) rest (c .3)
-
--- ---- bindings are read in ascending order
-
-after-in : (h : Head) (c : ℕ) (p : Bind) (l : List Bind) (s rest : List ℕ) → readBindsAfter h c p s ≡ got l rest → Ascending p l
-unfolding readBindsAfter
-after-in h zero p l s rest e = subst (λ (z : List Bind). Ascending p z) (got-value [] l s rest e) tt
-after-in h (suc c) p l s rest e =
-    let a = next-got (readBind h s) _ l rest e in
-    let b = next-got (need layout (bindBefore p (a .0)) (a .1)) _ l rest (a .3) in
-    let t = need-got layout (bindBefore p (a .0)) (b .0) (a .1) (b .1) (b .2) in
-    let r = next-got (readBindsAfter h c (a .0) (b .1)) _ l rest (b .3) in
-    subst (λ (z : List Bind). Ascending p z) (got-value (a .0 ∷ r .0) l (r .1) rest (r .3))
-    (t .0, after-in h c (a .0) (r .0) (b .1) (r .1) (r .2))
-
-some-in : (h : Head) (c : ℕ) (l : List Bind) (s rest : List ℕ) → readSomeBinds h c s ≡ got l rest → Sorted l
-unfolding readSomeBinds
-some-in h zero l s rest e = subst (λ (z : List Bind). Sorted z) (got-value [] l s rest e) tt
-some-in h (suc c) l s rest e =
-    let a = next-got (readBind h s) _ l rest e in
-    let r = next-got (readBindsAfter h c (a .0) (a .1)) _ l rest (a .3) in
-    subst (λ (z : List Bind). Sorted z) (got-value (a .0 ∷ r .0) l (r .1) rest (r .3)) (after-in h c (a .0) (r .0) (a .1) (r .1) (r .2))
-
-binds-in : (h : Head) (l : List Bind) (s rest : List ℕ) → readBinds h s ≡ got l rest → Sorted l
-unfolding readBinds
-binds-in h l s rest e =
-    let c = next-got (numUpTo overLimit mostBindings s) _ l rest e in
-    some-in h (c .0) l (c .1) rest (c .3)
-
-head-in : (k : ℕ) (h : Head) (s rest : List ℕ) → readHead k s ≡ got h rest → 4 ≤ h .names
-unfolding readHead
-head-in k h s rest e =
-    let a = next-got (num s) _ h rest e in
-    let b = next-got (need layout (eqb (a .0) 1 || eqb (a .0) 2) (a .1)) _ h rest (a .3) in
-    let c = next-got (need wrongKind (eqb (a .0) k) (b .1)) _ h rest (b .3) in
-    let w = next-got (numUpTo overLimit (mostNames - 4) (c .1)) _ h rest (c .3) in
-    let ws = next-got (readWords (w .0) coreWords (w .1)) _ h rest (w .3) in
-    let m = next-got (numUpTo overLimit (mostNames - 4 - w .0) (ws .1)) _ h rest (ws .3) in
-    let n = next-got (numUpTo overLimit mostScopes (m .1)) _ h rest (m .3) in
-    subst (λ (z : Head). 4 ≤ z .names) (got-value (record { words = ws .0; names = 4 + w .0 + m .0; scopes = n .0 }) h (n .1) rest (n .3)) (most (w .0) (m .0))
+not-below : (n lo hi : ℕ) (l : List ℕ) → n < lo → Rise lo hi l → isAmong n l ≡ false
+unfolding isAmong
+not-below n lo hi [] h r = refl
+not-below n lo hi (m ∷ l) h r = rw (eqb-false n m (apart h (r .0))) (not-below n (suc m) hi l (after h (r .0)) (r .1))
   where
-    most : (a b : ℕ) → 4 ≤ 4 + a + b
-    most a b = omega arith
+    apart : n < lo → lo ≤ m → n ≢ m
+    apart p q = omega arith
 
--- what is read is fit to be expanded
-pub record Fit (i : Image Stx) : Type 0 where
-  pub sorted : Sorted (i .binds)
-  pub names-le : 4 ≤ i .head .names
-  pub root-in : InS (i .head .scopes) (i .root)
+    after : n < lo → lo ≤ m → n < suc m
+    after p q = omega arith
 
-pub syntax-fit : (i : Image Stx) (s rest : List ℕ) → readSyntax s ≡ got i rest → Fit i
-unfolding readSyntax
-syntax-fit i s rest e =
-    let h = next-got (readHead 1 s) _ i rest e in
-    let b = next-got (readBinds (h .0) (h .1)) _ i rest (h .3) in
-    let r = next-got (readStx mostNesting (h .0) (b .1)) _ i rest (b .3) in
-    let z = next-got (atEnd (r .1)) _ i rest (r .3) in
-    subst Fit (got-value (record { head = h .0; binds = b .0; root = r .0 }) i (z .1) rest (z .3))
-    (record {
-      sorted = binds-in (h .0) (b .0) (h .1) (b .1) (b .2);
-      names-le = head-in 1 (h .0) s (h .1) (h .2);
-      root-in = stx-in mostNesting (h .0) (r .0) (b .1) (r .1) (r .2);
-    })
+rise-different : (lo hi : ℕ) (l : List ℕ) → Rise lo hi l → AllDifferent l
+rise-different lo hi [] r = tt
+rise-different lo hi (n ∷ l) r = (not-below n (suc n) hi l (le-refl (suc n)) (r .1), rise-different (suc n) hi l (r .1))
+
+rise-none-below : (least lo hi : ℕ) (l : List ℕ) → least ≤ lo → Rise lo hi l → NoneBelow least l
+rise-none-below least lo hi [] h r = tt
+rise-none-below least lo hi (n ∷ l) h r = (le-trans h (r .0), rise-none-below least (suc n) hi l (le-trans (le-trans h (r .0)) (up n)) (r .1))
+  where
+    up : (m : ℕ) → m ≤ suc m
+    up m = omega arith
+
+-- ---- what a run of the expand job that writes b at phase 0 was
+
+record Ran (image : List ℕ) (budget : ℕ) (b : List ℕ) : Type 0 where
+  i : Image Stx
+  rest : List ℕ
+  read : readImage readSyntax image ≡ got i rest
+  r : Stx
+  s : State
+  work : expandRoot 0 (i .root) (start budget i) ≡ ok r s
+  bytes : syntaxBytes (reached (i .head) s) (s .binds) r ≡ b
+  short : length b ≤ mostImage
+
+-- of an ending: where it has written, it was such a run
+abbrev Wrote : List ℕ → ℕ → Ending → Type 0
+Wrote image budget (refused r u) = Unit {0}
+Wrote image budget (named n u) = ⊥
+Wrote image budget (written b u) = Ran image budget b
+
+fitted-wrote : (image : List ℕ) (budget room : ℕ) (b : List ℕ) (u : ℕ) → (length b ≤ mostImage → Ran image budget b) → Wrote image budget (fitted room b u)
+unfolding fitted
+fitted-wrote image budget room b u h = go (leb (length b) room && leb (length b) mostImage) refl
+  where
+    go : (t : Bool) → (leb (length b) room && leb (length b) mostImage) ≡ t → Wrote image budget (if t then written b u else refused tooLong u)
+    go true e = h (leb-le (length b) mostImage (and-both (leb (length b) room) (leb (length b) mostImage) e .1))
+    go false e = tt
+
+worked-wrote : (image : List ℕ) (budget budget′ : ℕ) (o : Out Stx) (f : Stx → State → Ending) → ((r : Stx) (s : State) → o ≡ ok r s → Wrote image budget (f r s))
+    → Wrote image budget (worked budget′ o f)
+unfolding worked
+worked-wrote image budget budget′ (ok r s) f h = h r s refl
+worked-wrote image budget budget′ (no r u) f h = tt
+
+image-wrote : (image : List ℕ) (budget : ℕ) (o : Read (Image Stx)) (f : Image Stx → Ending) → ((i : Image Stx) (rest : List ℕ) → o ≡ got i rest → Wrote image budget (f i))
+    → Wrote image budget (withImage o f)
+unfolding withImage
+image-wrote image budget (got i rest) f h = h i rest refl
+image-wrote image budget (fault r) f h = tt
+
+phase-wrote : (image : List ℕ) (budget ph : ℕ) (e : Ending) → Wrote image budget e → Wrote image budget (atPhase ph e)
+unfolding atPhase
+phase-wrote image budget ph e h = go (leb ph lastPhase)
+  where
+    go : (t : Bool) → Wrote image budget (if t then e else refused noPhase 0)
+    go true = h
+    go false = tt
+
+expand-wrote : (image : List ℕ) (budget room : ℕ) → Wrote image budget (expandEnding image 0 budget room)
+expand-wrote image budget room =
+    subst (Wrote image budget) (sym (expandEnding-is image 0 budget room))
+    (phase-wrote image budget 0 (withImage (readImage readSyntax image) (expandWork 0 budget room))
+    (image-wrote image budget (readImage readSyntax image) (expandWork 0 budget room) (λ i rest e.
+    worked-wrote image budget budget (expandRoot 0 (i .root) (start budget i)) _ (λ r s q.
+    fitted-wrote image budget room (syntaxBytes (reached (i .head) s) (s .binds) r) (budget - s .left) (λ n.
+    record { i = i; rest = rest; read = e; r = r; s = s; work = q; bytes = refl; short = n })))))
+
+-- ---- the parse job on what was written, and the evaluate job on what that writes
+
+module _ (image : List ℕ) (is-bytes : Bytes image) (budget : ℕ) (b : List ℕ) (run : Ran image budget b) where
+  given : Image Stx
+  given = run .i
+
+  fits : SyntaxFits (run .i .head) (run .i .binds) (run .i .root)
+  fits = syntax-read-keeps-limits image (run .rest) (run .i) is-bytes (run .read)
+
+  k : ℕ
+  k = symbols (run .i .head)
+
+  x : Expanded k mostEntries 0 coreOnly (start budget (run .i)) (run .r) (run .s)
+  unfolding k
+  x = outcome-ok (subst (Outcome Stx (Expanded k mostEntries 0 coreOnly (start budget (run .i)))) (run .work) (expand-root-good 0 budget (run .i) fits))
+
+  -- the image that was written
+  result : Image Stx
+  result = record { head = reached (run .i .head) (run .s); binds = run .s .binds; root = run .r }
+
+  result-fits : SyntaxFits (result .head) (result .binds) (result .root)
+  unfolding result k
+  result-fits =
+      limits-kept 0 budget (run .i) (run .r) (run .s) fits x (subst (λ (z : List ℕ). length z ≤ mostImage) (sym (run .bytes)) (run .short))
+
+  result-is : readImage readSyntax b ≡ got result []
+  unfolding result
+  result-is =
+      subst (λ (z : List ℕ). readImage readSyntax z ≡ got result []) (run .bytes) (syntax-written-then-read (result .head) (result .binds) (result .root) result-fits)
+
+  given-is : readImage readSyntax image ≡ got given []
+  unfolding given
+  given-is =
+      subst (λ (z : List ℕ). readImage readSyntax z ≡ got (run .i) []) (syntax-read-then-written image (run .rest) (run .i) is-bytes (run .read))
+      (syntax-written-then-read (run .i .head) (run .i .binds) (run .i .root) fits)
+
+  tree : Tree
+  unfolding k
+  tree = x .tree
+
+  -- ---- parse
+
+  -- the cost is the charge
+  cost-is : x .cost ≡ entryCharge 0 (run .s .binds) (run .r)
+  cost-is =
+      cost-is-charge (x .tree) (x .cost) (entryCharge 0 (run .s .binds) (run .r)) st (x .parses mostEntries (le-refl mostEntries) st same)
+      (parse-spends mostEntries 0 (run .s .binds) (run .r) st refl) refl
+    where
+      st : State
+      st = record { left = x .cost; names = run .s .names; scopes = run .s .scopes; binds = run .s .binds }
+
+  parse-costs : (st : State) → st .binds ≡ run .s .binds → Costs Tree tree (parseCharge (run .s .binds) (run .r)) st (parseRoot (run .r) st)
+  unfolding tree parseCharge spend
+  parse-costs st q =
+      subst (λ (n : ℕ). Costs Tree (x .tree) (size (run .r) + n) st (parseRoot (run .r) st)) cost-is
+      (subst (Costs Tree (x .tree) (size (run .r) + x .cost) st) (sym (parseRoot-is (run .r) st))
+      (costs-then (λ v. parse mostEntries 0 (run .r)) (charge-costs (size (run .r)) st)
+      (x .parses mostEntries (le-refl mostEntries) (spend (size (run .r)) st)
+      (subst (λ (z : List Bind). Later (run .s .scopes) (run .s .binds) z) (sym q) same))))
+
+  charged : ℕ
+  charged = parseCharge (result .binds) (result .root)
+
+  no-longer : length (treeImageBytes (result .head) tree) ≤ length b
+  unfolding result tree
+  no-longer =
+      subst (λ (z : List ℕ). length (treeImageBytes (result .head) (x .tree)) ≤ length z) (run .bytes)
+      (image-shorter (result .head) (run .s .binds) (run .r) (x .tree) (x .tree-shorter))
+
+  start-binds : (n : ℕ) → (start n result) .binds ≡ run .s .binds
+  unfolding start result
+  start-binds n = refl
+
+  parse-work : (n room : ℕ) → parseCharge (result .binds) (result .root) ≤ n → length (treeImageBytes (result .head) tree) ≤ room
+      → parseWork n room result ≡ written (treeImageBytes (result .head) tree) (parseCharge (result .binds) (result .root))
+  unfolding result start spend reached charged
+  parse-work n room h q =
+      worked-ok n (parseRoot (run .r) (start n result)) _ tree (spend charged (start n result)) (costs-enough (parse-costs (start n result) refl) h)
+      ∙ fitted-is room (treeImageBytes (result .head) tree) (n - (n - charged)) q (le-trans no-longer (run .short))
+      ∙ ap (written (treeImageBytes (result .head) tree)) (back n charged h)
+    where
+      back : (a c : ℕ) → c ≤ a → a - (a - c) ≡ c
+      back a c p = omega arith
+
+  parse-short : (n room : ℕ) → n < parseCharge (result .binds) (result .root) → (u : ℕ) × (parseWork n room result ≡ refused overBudget u)
+  unfolding result start
+  parse-short n room h =
+      let e = costs-short (parse-costs (start n result) refl) h in
+      (n - e .0, worked-no n (parseRoot (run .r) (start n result)) _ overBudget (e .0) (e .1))
+
+  parse-ending : (n room : ℕ) → parseEnding b n room ≡ parseWork n room result
+  parse-ending n room = parseEnding-is b n room ∙ with-read (readImage readSyntax b) (parseWork n room) result [] result-is
+
+  parses : (n : ℕ) (table output : List ℕ) → budgetFits n (length table) ≡ true → length (treeImageBytes (result .head) tree) ≤ length output
+      → parseCharge (result .binds) (result .root) ≤ n
+      → parseJob b n table output ≡ lent n table output (written (treeImageBytes (result .head) tree) (parseCharge (result .binds) (result .root)))
+  parses n table output f q h =
+      parseJob-is b n table output ∙ ap (lent n table output) (parse-ending n (length output) ∙ parse-work n (length output) h q)
+
+  parses-no-less : (n : ℕ) (table output : List ℕ) → budgetFits n (length table) ≡ true → n < parseCharge (result .binds) (result .root)
+      → (parseJob b n table output) .answer .code ≡ 19
+  parses-no-less n table output f h =
+      let e = parse-short n (length output) h in
+      ap (λ (z : Result). z .answer .code) (parseJob-is b n table output ∙ ap (lent n table output) (parse-ending n (length output) ∙ e .1))
+      ∙ lent-code n table output overBudget (e .0) f
+
+  -- ---- evaluate
+
+  tree-fits : TreeImageFits (result .head) tree
+  unfolding result tree k reached symbols
+  tree-fits = record {
+    head-fits = result-fits .head-fits;
+    root-fits = x .tree-fits;
+    shallow = le-trans (x .tree-shallow) (x .shallow);
+    short = le-trans no-longer (run .short);
+  }
+
+  tree-read : Image Tree
+  tree-read = record { head = result .head; binds = []; root = tree }
+
+  tree-is : readImage readTreeImage (treeImageBytes (result .head) tree) ≡ got tree-read []
+  unfolding tree-read
+  tree-is = tree-written-then-read (result .head) tree tree-fits
+
+  owned : closed [] tree ≡ true
+  unfolding tree vars
+  owned = x .owned
+
+  tree-good : TreeGood k (run .s .names) (run .s .scopes) tree
+  unfolding tree k
+  tree-good = record { fits = x .tree-fits; owned = owned; shallow = le-trans (x .tree-shallow) (x .shallow) }
+
+  evaluate-fine : (n room : ℕ) → Fine (evaluateWork n room tree-read)
+  unfolding tree-read
+  evaluate-fine n room = go (closed [] tree) owned
+    where
+      s₀ : State
+      s₀ = start n tree-read
+
+      work : Outcome Tree (Gave k (run .s .names) (run .s .scopes) s₀) (evaluateRoot tree s₀)
+      work =
+          subst (Outcome Tree (Gave k (run .s .names) (run .s .scopes) s₀)) (sym (evaluateRoot-is tree s₀))
+          (chain (λ v. evaluate mostEntries tree) (charge-out (loadSize tree) s₀) (λ v t kp.
+          since k (run .s .names) (run .s .scopes) s₀ t kp (evaluate-good k (run .s .names) (run .s .scopes) mostEntries tree tree-good t)))
+
+      go : (t : Bool) → t ≡ true
+          → Fine (if t then worked n (evaluateRoot tree s₀) (λ r s. fitted room (treeImageBytes (reached (result .head) s) r) (n - s .left)) else refused unowned 0)
+      go true e = worked-fine n _ (λ r s. fitted-fine room (treeImageBytes (reached (result .head) s) r) (n - s .left)) work
+      go false e = absurd (false≢true e)
+
+  never-unowned : (n : ℕ) (table output : List ℕ) → (evaluateJob (treeImageBytes (result .head) tree) n table output) .answer .code ≡ 3 → ⊥
+  never-unowned n table output q =
+      lent-fine n table output (evaluateEnding treeImage′ n (length output))
+      (subst Fine (sym (evaluateEnding-is treeImage′ n (length output) ∙ with-read (readImage readTreeImage treeImage′) (evaluateWork n (length output)) tree-read [] tree-is))
+      (evaluate-fine n (length output))) .0
+      (ap (λ (z : Result). z .answer .code) (sym (evaluateJob-is treeImage′ n table output)) ∙ q)
+    where
+      treeImage′ : List ℕ
+      treeImage′ = treeImageBytes (result .head) tree
+
+  start-names : (start budget (run .i)) .names ≡ given .head .names
+  unfolding start given
+  start-names = refl
+
+  holds : OneNameOneAddress image b
+  unfolding k tree
+  holds = record {
+    given = given;
+    given-is = given-is;
+    result = result;
+    result-is = result-is;
+    tree = tree;
+    parses = parses;
+    parses-no-less = parses-no-less;
+    no-longer = no-longer;
+    owned = owned;
+    different = rise-different ((start budget (run .i)) .names) (run .s .names) (functionNames tree) (x .rises);
+    fresh = rise-none-below (given .head .names) ((start budget (run .i)) .names) (run .s .names) (functionNames tree) (le-of-eq (sym start-names)) (x .rises);
+    never-unowned = never-unowned;
+  }
 
 -- ---- the theorem
 
--- what parsing gives of r, expanded from a state with n names to the state s
-pub record Parsed (n : ℕ) (s : State) (r : Stx) : Type 0 where
-  pub tree : Tree
-  pub cost : ℕ
-  -- with those bindings and enough units it is never refused
-  pub parses : (st : State) → st .binds ≡ s .binds → cost ≤ st .left → parseRoot r st ≡ ok tree (spend cost st)
-  -- every variable is inside a function of its name
-  pub closed-is : closed [] tree ≡ true
-  -- the functions' names, in order of their places, rise from n: all different, and none below n
-  pub rises : Rise n (s .names) (funs tree)
+take-whole : (b l : List ℕ) → take (length b) (b ++ l) ≡ b
+take-whole [] l = refl
+take-whole (n ∷ b) l = ap (λ (z : List ℕ). n ∷ z) (take-whole b l)
 
-pub condition-3 : (img : List ℕ) (i : Image Stx) (rest : List ℕ) (budget : ℕ) (r : Stx) (s : State) → readImage readSyntax img ≡ got i rest
-    → expandRoot 0 (i .root) (start budget i) ≡ ok r s → Parsed (i .head .names) s r
-unfolding expandRoot parseRoot start readImage vars
-condition-3 img i rest budget r s rd ex = go (syntax-fit i img rest (read-whole (leb (length img) mostImage) rd))
+pub one-name-one-address : (image : List ℕ) → Bytes image → (budget : ℕ) (table output : List ℕ)
+    → (expandJob image 0 budget table output) .answer .code ≡ 0 → OneNameOneAddress image (imageWritten (expandJob image 0 budget table output))
+unfolding imageWritten answerOf outputAfter
+one-name-one-address image is-bytes budget table output q =
+    let e = expandEnding image 0 budget (length output) in
+    let p = lent-ended budget table output e (ap (λ (z : Result). z .answer .code) (sym (expandJob-is image 0 budget table output)) ∙ q) in
+    subst (λ (z : Result). OneNameOneAddress image (imageWritten z)) (sym (expandJob-is image 0 budget table output ∙ p .1))
+    (go e (p .0) (expand-wrote image budget (length output)))
   where
-    read-whole : (b : Bool) → (if b then readSyntax img else fault overLimit) ≡ got i rest → readSyntax img ≡ got i rest
-    read-whole true e = e
-    read-whole false e = absurd (fault≢got overLimit i rest e)
-
-    first : (a b n : ℕ) → a + b ≤ n → a ≤ n
-    first a b n h = omega arith
-
-    go : Fit i → Parsed (i .head .names) s r
-    go f =
-        let s₀ = start budget i in
-        let a = both-ok (charge (size (i .root)) s₀) _ r s ex in
-        let t = a .1 in
-        let kp = kept-charge (size (i .root)) (a .0) s₀ t (a .2) in
-        let w = kept-grows s₀ t kp in
-        let g₀ : Good s₀ = record { keys = sorted-keys (i .binds) (f .sorted); core-names = f .names-le } in
-        let d = expand-good mostEntries 0 coreOnly 0 (i .root) t r s (good-grows s₀ t g₀ w) tt (stx-more (w .scopes-le) (i .root) (f .root-in)) (a .3) in
-        record {
-          tree = d .tree;
-          cost = size r + d .cost;
-          parses = λ st q n.
-              rw (charge-is (size r) st (first (size r) (d .cost) (st .left) n))
-              (d .parses mostEntries (le-refl mostEntries) (s .binds) same (spend (size r) st) (spend-binds (size r) st (s .binds) q) (right-part (size r) (d .cost) st n)
-              ∙ ap (ok (d .tree)) (spend-spend (size r) (d .cost) st));
-          closed-is = d .closed-in;
-          rises = rise-lower (i .head .names) (t .names) (s .names) (funs (d .tree)) (w .names-le) (d .rises);
-        }
+    go : (e : Ending) → Ended e → Wrote image budget e
+        → OneNameOneAddress image (imageWritten (record { answer = answerOf e; output = outputAfter e output; table = cleared budget table }))
+    go (refused r u) d w = absurd d
+    go (named n u) d w = absurd w
+    go (written b u) d w = subst (OneNameOneAddress image) (sym (take-whole b (drop (length b) output))) (holds image is-bytes budget b w)

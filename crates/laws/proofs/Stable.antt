@@ -139,7 +139,7 @@ or-false : (x y : Bool) → (x || y) ≡ false → (x ≡ false) × (y ≡ false
 or-false true y e = absurd (true≢false e)
 or-false false y e = (refl, e)
 
-unbound : (b : Bind) (l : List Bind) → bound b l ≡ false → (c : Bind) → In c l → b .symb ≡ c .symb → b .set ≡ c .set → ⊥
+pub unbound : (b : Bind) (l : List Bind) → bound b l ≡ false → (c : Bind) → In c l → b .symb ≡ c .symb → b .set ≡ c .set → ⊥
 unfolding bound sameKey
 unbound b [] e c i p q = i
 unbound b (d ∷ l) e c (inl r) p q =

@@ -1,0 +1,156 @@
+-- How the jobs end, taken apart: each as its work's parts say.
+use mathlib.Core.Path.{_≡_, refl, sym, ap, ap₂, _∙_, subst}
+use Prim.Native.Nat.{ℕ, zero, suc, _+_, _-_, _≤_, _<_}
+use native.Mathlib.Omega.{arith}
+use mathlib.Core.Bool.{Bool, true, false, _&&_}
+use mathlib.Core.List.{List, [], _∷_, _++_}
+use lib.Dec.{leb}
+use lib.ListN.{length, take, drop}
+use Rattle.model.specs.Choice.{if_then_else_}
+use Rattle.model.specs.Limits.{mostImage, lastPhase, mostEntries}
+use Rattle.model.specs.Refusals.{Refusal, layout, overLimit, unowned, wrongKind, smallTable, ambiguous, noMeaning, noRule, noSyntax, notApplicable, wrongArgument, noPhase, noNameLeft, noScopeLeft, noBindingLeft, boundAlready, tooDeep, tooManyEntries, overBudget, tooLong, codeOf}
+use Rattle.model.specs.Objects.{Stx, size}
+use Rattle.model.specs.Trees.{Tree, loadSize}
+use Rattle.model.specs.Reading.{Read, got, fault, Head, Image, readSyntax, readTreeImage, readImage}
+use Rattle.model.specs.Writing.{syntaxBytes, treeImageBytes}
+use Rattle.model.specs.Steps.{State, Out, ok, no, Step, after, charge}
+use Rattle.model.specs.Parsing.{parse}
+use Rattle.model.specs.Evaluating.{evaluate}
+use Rattle.model.specs.Expanding.{expand, coreOnly}
+use Rattle.model.specs.Jobs.{Ending, refused, named, written, Answer, answerOf, outputAfter, Result, budgetFits, lent, cleared, atPhase, withImage, start, worked, fitted, reached, expandRoot, parseRoot, evaluateRoot, closed, expandEnding, parseEnding, evaluateEnding, expandJob, parseJob, evaluateJob}
+use Rattle.laws.proofs.Tests.{leb-true, leb-le}
+use Rattle.codec_laws.proofs.Sequence.{and-both}
+use Rattle.addresses.specs.OneNameOneAddress.{imageWritten}
+use Rattle.addresses.proofs.Outcomes.{Possible, Outcome, gives, stops}
+use Rattle.addresses.proofs.Faults.{Reads, reads, faults}
+
+-- ---- the definitions, one step open
+
+pub expandRoot-is : (ph : ℕ) (x : Stx) (s : State) → expandRoot ph x s ≡ after (charge (size x) s) (λ v. expand mostEntries ph coreOnly 0 x)
+unfolding expandRoot
+expandRoot-is ph x s = refl
+
+pub parseRoot-is : (x : Stx) (s : State) → parseRoot x s ≡ after (charge (size x) s) (λ v. parse mostEntries 0 x)
+unfolding parseRoot
+parseRoot-is x s = refl
+
+pub evaluateRoot-is : (t : Tree) (s : State) → evaluateRoot t s ≡ after (charge (loadSize t) s) (λ v. evaluate mostEntries t)
+unfolding evaluateRoot
+evaluateRoot-is t s = refl
+
+-- what each job does with an image that it has read
+abbrev pub expandWork : ℕ → ℕ → ℕ → Image Stx → Ending
+expandWork ph budget room i =
+    worked budget (expandRoot ph (i .root) (start budget i)) (λ r s. fitted room (syntaxBytes (reached (i .head) s) (s .binds) r) (budget - s .left))
+
+abbrev pub parseWork : ℕ → ℕ → Image Stx → Ending
+parseWork budget room i =
+    worked budget (parseRoot (i .root) (start budget i)) (λ r s. fitted room (treeImageBytes (reached (i .head) s) r) (budget - s .left))
+
+abbrev pub evaluateWork : ℕ → ℕ → Image Tree → Ending
+evaluateWork budget room i =
+    if closed [] (i .root)
+    then worked budget (evaluateRoot (i .root) (start budget i)) (λ r s. fitted room (treeImageBytes (reached (i .head) s) r) (budget - s .left))
+    else refused unowned 0
+
+pub expandEnding-is : (image : List ℕ) (ph budget room : ℕ)
+    → expandEnding image ph budget room ≡ atPhase ph (withImage (readImage readSyntax image) (expandWork ph budget room))
+unfolding expandEnding
+expandEnding-is image ph budget room = refl
+
+pub parseEnding-is : (image : List ℕ) (budget room : ℕ) → parseEnding image budget room ≡ withImage (readImage readSyntax image) (parseWork budget room)
+unfolding parseEnding
+parseEnding-is image budget room = refl
+
+pub evaluateEnding-is : (image : List ℕ) (budget room : ℕ)
+    → evaluateEnding image budget room ≡ withImage (readImage readTreeImage image) (evaluateWork budget room)
+unfolding evaluateEnding
+evaluateEnding-is image budget room = refl
+
+pub expandJob-is : (image : List ℕ) (ph budget : ℕ) (table output : List ℕ)
+    → expandJob image ph budget table output ≡ lent budget table output (expandEnding image ph budget (length output))
+unfolding expandJob
+expandJob-is image ph budget table output = refl
+
+pub parseJob-is : (image : List ℕ) (budget : ℕ) (table output : List ℕ)
+    → parseJob image budget table output ≡ lent budget table output (parseEnding image budget (length output))
+unfolding parseJob
+parseJob-is image budget table output = refl
+
+pub evaluateJob-is : (image : List ℕ) (budget : ℕ) (table output : List ℕ)
+    → evaluateJob image budget table output ≡ lent budget table output (evaluateEnding image budget (length output))
+unfolding evaluateJob
+evaluateJob-is image budget table output = refl
+
+pub with-read : {R : Type 0} (o : Read (Image R)) (f : Image R → Ending) (i : Image R) (rest : List ℕ) → o ≡ got i rest → withImage o f ≡ f i
+unfolding withImage
+with-read o f i rest e = rw e
+
+pub worked-ok : {A : Type 0} (budget : ℕ) (o : Out A) (f : A → State → Ending) (a : A) (s : State) → o ≡ ok a s → worked budget o f ≡ f a s
+unfolding worked
+worked-ok budget o f a s e = rw e
+
+pub worked-no : {A : Type 0} (budget : ℕ) (o : Out A) (f : A → State → Ending) (r : Refusal) (u : ℕ) → o ≡ no r u → worked budget o f ≡ refused r (budget - u)
+unfolding worked
+worked-no budget o f r u e = rw e
+
+pub fitted-is : (room : ℕ) (b : List ℕ) (u : ℕ) → length b ≤ room → length b ≤ mostImage → fitted room b u ≡ written b u
+unfolding fitted
+fitted-is room b u h k = rw (leb-true (length b) room h, leb-true (length b) mostImage k)
+
+pub lent-code : (budget : ℕ) (table output : List ℕ) (r : Refusal) (u : ℕ) → budgetFits budget (length table) ≡ true
+    → (lent budget table output (refused r u)) .answer .code ≡ codeOf r
+unfolding lent answerOf
+lent-code budget table output r u e = rw e
+
+-- ---- code 0
+
+-- no refusal has code 0
+code-some : (r : Refusal) → codeOf r ≡ 0 → ⊥
+code-some layout e = omega arith
+code-some overLimit e = omega arith
+code-some unowned e = omega arith
+code-some wrongKind e = omega arith
+code-some smallTable e = omega arith
+code-some ambiguous e = omega arith
+code-some noMeaning e = omega arith
+code-some noRule e = omega arith
+code-some noSyntax e = omega arith
+code-some notApplicable e = omega arith
+code-some wrongArgument e = omega arith
+code-some noPhase e = omega arith
+code-some noNameLeft e = omega arith
+code-some noScopeLeft e = omega arith
+code-some noBindingLeft e = omega arith
+code-some boundAlready e = omega arith
+code-some tooDeep e = omega arith
+code-some tooManyEntries e = omega arith
+code-some overBudget e = omega arith
+code-some tooLong e = omega arith
+
+-- a job that answers 0 ended with a name or with an image that was written
+abbrev pub Ended : Ending → Type 0
+Ended (refused r u) = ⊥
+Ended (named n u) = Unit {0}
+Ended (written b u) = Unit {0}
+
+ended-code : (e : Ending) → (answerOf e) .code ≡ 0 → Ended e
+unfolding answerOf
+ended-code (refused r u) q = code-some r q
+ended-code (named n u) q = tt
+ended-code (written b u) q = tt
+
+pub lent-ended : (budget : ℕ) (table output : List ℕ) (e : Ending) → (lent budget table output e) .answer .code ≡ 0
+    → Ended e × (lent budget table output e ≡ record { answer = answerOf e; output = outputAfter e output; table = cleared budget table })
+unfolding lent answerOf
+lent-ended budget table output e q = go (budgetFits budget (length table)) q
+  where
+    went : Result
+    went = record { answer = answerOf e; output = outputAfter e output; table = cleared budget table }
+
+    small : Result
+    small = record { answer = answerOf (refused smallTable 0); output = output; table = table }
+
+    go : (b : Bool) → (if b then went else small) .answer .code ≡ 0 → Ended e × ((if b then went else small) ≡ went)
+    go true p = (ended-code e p, refl)
+    go false p = absurd (code-some smallTable p)

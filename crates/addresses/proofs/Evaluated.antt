@@ -1,0 +1,352 @@
+-- Evaluating keeps every limit and leaves no variable without its function; so it never comes to a free variable (code 3).
+use mathlib.Core.Path.{_≡_, refl, sym, ap, _∙_, subst}
+use Prim.Native.Nat.{ℕ, zero, suc, _+_, _≤_, _<_, max}
+use native.Mathlib.Nat.{le-refl, le-trans, le-max-left, le-max-right, le-of-suc-le-suc}
+use native.Mathlib.Omega.{arith}
+use mathlib.Core.Bool.{Bool, true, false, _&&_, false≢true}
+use mathlib.Core.Option.{Option, none, some}
+use mathlib.Core.List.{List, [], _∷_}
+use lib.Dec.{eqb}
+use Rattle.model.specs.Choice.{if_then_else_, given}
+use Rattle.model.specs.Limits.{mostNesting}
+use Rattle.model.specs.Refusals.{unowned, notApplicable, wrongArgument, tooManyEntries}
+use Rattle.model.specs.Objects.{Atom, symbol, number, point, prim, rung, Sets, Stx, atom, list, Stxs, nil, cons, sameAtom}
+use Rattle.model.specs.Trees.{Tree, var, app, fun, datum, lst, stx, Trees, tnil, tcons, tcount, tsize, tnesting, tnestings, substitute, substituteAll, asStx, asAtom, asList, asNumber, fromStxs, toStxs}
+use Rattle.model.specs.Steps.{State, Out, ok, no, Step, after, charge, madeTree, unless}
+use Rattle.model.specs.Evaluating.{content, setsOf, remade, firstOf, restOf, picked, primitive, applicable, eachTree, argument, orWrongKind, apply, evalEntry, evaluate}
+use Rattle.model.specs.Jobs.{isAmong, closed, closedAll}
+use Rattle.laws.proofs.Members.{SetsIn}
+use Rattle.codec_laws.specs.WellFormed.{AtomFits, StxFits, StxsFit, IsValue, TreeFits, TreesFit, ValuesFit}
+use Rattle.codec_laws.proofs.Sequence.{and-both}
+use Rattle.addresses.proofs.Outcomes.{Outcome, gives, stops, chain, Kept, kept-refl, kept-same, kept-trans, charge-out, unless-out, madeTree-out}
+use Rattle.addresses.proofs.Owned.{both-true, closed-substitute}
+
+-- ---- what may be absent
+
+none≢some : {A : Type 0} (a : A) → none ≡ some a → ⊥
+none≢some a e = subst code e tt
+  where
+    code : {A : Type 0} → Option A → Type 0
+    code none = Unit {0}
+    code (some b) = ⊥
+
+pub some-value : {A : Type 0} (a b : A) → some a ≡ some b → a ≡ b
+some-value a b e = cc
+
+given-some : {A B : Type 0} (o : Option A) (f : A → Option B) (b : B) → given o f ≡ some b → (a : A) × (o ≡ some a) × (f a ≡ some b)
+given-some none f b e = absurd (none≢some b e)
+given-some (some a) f b e = (a, refl, e)
+
+-- the objects and lists that values are
+pub stx-is : (t : Tree) (s : Stx) → asStx t ≡ some s → t ≡ stx s
+unfolding asStx
+stx-is (var x) s e = absurd (none≢some s e)
+stx-is (app h l) s e = absurd (none≢some s e)
+stx-is (fun x b) s e = absurd (none≢some s e)
+stx-is (datum a) s e = absurd (none≢some s e)
+stx-is (lst l) s e = absurd (none≢some s e)
+stx-is (stx x) s e = ap stx (some-value x s e)
+
+list-is : (t : Tree) (l : Trees) → asList t ≡ some l → t ≡ lst l
+unfolding asList
+list-is (var x) l e = absurd (none≢some l e)
+list-is (app h p) l e = absurd (none≢some l e)
+list-is (fun x b) l e = absurd (none≢some l e)
+list-is (datum a) l e = absurd (none≢some l e)
+list-is (lst p) l e = ap lst (some-value p l e)
+list-is (stx s) l e = absurd (none≢some l e)
+
+-- ---- where k symbols, n names and m scopes are declared
+
+module _ (k n m : ℕ) where
+  -- a tree that keeps the limits and whose variables all have their functions
+  pub record TreeGood (t : Tree) : Type 0 where
+    pub fits : TreeFits k n m t
+    pub owned : closed [] t ≡ true
+    pub shallow : tnesting t ≤ mostNesting
+
+  abbrev pub ValueGood : Tree → Type 0
+  ValueGood t = TreeGood t × IsValue t
+
+  abbrev pub TreesGood : Trees → Type 0
+  TreesGood tnil = Unit {0}
+  TreesGood (tcons t l) = TreeGood t × TreesGood l
+
+  abbrev ValuesGood : Trees → Type 0
+  ValuesGood tnil = Unit {0}
+  ValuesGood (tcons t l) = ValueGood t × ValuesGood l
+
+  -- ---- parts
+
+  trees-good : (l : Trees) → TreesFit k n m l → closedAll [] l ≡ true → tnestings l ≤ mostNesting → TreesGood l
+  unfolding closed tnesting
+  trees-good tnil f c s = tt
+  trees-good (tcons t l) f c s =
+      let w = and-both (closed [] t) (closedAll [] l) c in (
+        record { fits = f .0; owned = w .0; shallow = le-trans (le-max-left (tnesting t) (tnestings l)) s },
+        trees-good l (f .1) (w .1) (le-trans (le-max-right (tnesting t) (tnestings l)) s),
+      )
+
+  app-parts : (f : Tree) (l : Trees) → TreeGood (app f l) → TreeGood f × TreesGood l
+  unfolding closed tnesting mostNesting
+  app-parts f l g =
+      let w = and-both (closed [] f) (closedAll [] l) (g .owned) in
+      let s : max (tnesting f) (tnestings l) ≤ 64 = le-trans (up (max (tnesting f) (tnestings l))) (g .shallow) in (
+        record { fits = g .fits .0; owned = w .0; shallow = le-trans (le-max-left (tnesting f) (tnestings l)) s },
+        trees-good l (g .fits .1) (w .1) (le-trans (le-max-right (tnesting f) (tnestings l)) s),
+      )
+    where
+      up : (a : ℕ) → a ≤ suc a
+      up a = omega arith
+
+  -- ---- substitution
+
+  if-fits : (b : Bool) (t u : Tree) → TreeFits k n m t → TreeFits k n m u → TreeFits k n m (if b then t else u)
+  if-fits true t u i j = i
+  if-fits false t u i j = j
+
+  if-value : (b : Bool) (t u : Tree) → IsValue t → IsValue u → IsValue (if b then t else u)
+  if-value true t u i j = i
+  if-value false t u i j = j
+
+  substitute-value : (x : ℕ) (v t : Tree) → IsValue t → IsValue (substitute x v t)
+  unfolding substitute
+  substitute-value x v (var y) i = absurd i
+  substitute-value x v (app h l) i = absurd i
+  substitute-value x v (fun y b) i = if-value (eqb y x) (fun y b) (fun y (substitute x v b)) tt tt
+  substitute-value x v (datum a) i = tt
+  substitute-value x v (lst l) i = tt
+  substitute-value x v (stx s) i = tt
+
+  mutual
+    unfolding substitute
+
+    substitute-fits : (x : ℕ) (v : Tree) → TreeFits k n m v → (t : Tree) → TreeFits k n m t → TreeFits k n m (substitute x v t)
+    substitute-fits x v i (var y) j = if-fits (eqb y x) v (var y) i j
+    substitute-fits x v i (app h l) j = (substitute-fits x v i h (j .0), substituteAll-fits x v i l (j .1))
+    substitute-fits x v i (fun y b) j =
+        if-fits (eqb y x) (fun y b) (fun y (substitute x v b)) j (j .0, substitute-fits x v i b (j .1))
+    substitute-fits x v i (datum a) j = j
+    substitute-fits x v i (lst l) j = substituteValues-fits x v i l j
+    substitute-fits x v i (stx s) j = j
+
+    substituteAll-fits : (x : ℕ) (v : Tree) → TreeFits k n m v → (l : Trees) → TreesFit k n m l → TreesFit k n m (substituteAll x v l)
+    substituteAll-fits x v i tnil j = tt
+    substituteAll-fits x v i (tcons t l) j = (substitute-fits x v i t (j .0), substituteAll-fits x v i l (j .1))
+
+    substituteValues-fits : (x : ℕ) (v : Tree) → TreeFits k n m v → (l : Trees) → ValuesFit k n m l → ValuesFit k n m (substituteAll x v l)
+    substituteValues-fits x v i tnil j = tt
+    substituteValues-fits x v i (tcons t l) j =
+        (substitute-value x v t (j .0), substitute-fits x v i t (j .1), substituteValues-fits x v i l (j .2))
+
+  -- ---- primitives
+
+  -- what a primitive makes, before it is tested for 17
+  abbrev Made : Tree → Type 0
+  Made v = TreeFits k n m v × (closed [] v ≡ true) × IsValue v
+
+  fromStxs-fits : (l : Stxs) → StxsFit k m l → ValuesFit k n m (fromStxs l)
+  unfolding fromStxs
+  fromStxs-fits nil i = tt
+  fromStxs-fits (cons s l) i = (tt, i .0, fromStxs-fits l (i .1))
+
+  fromStxs-closed : (l : Stxs) → closedAll [] (fromStxs l) ≡ true
+  unfolding fromStxs closed
+  fromStxs-closed nil = refl
+  fromStxs-closed (cons s l) = fromStxs-closed l
+
+  content-made : (s : Stx) → StxFits k m s → Made (content s)
+  unfolding content closed
+  content-made (atom c a) i = (i .1, refl, tt)
+  content-made (list c l) i = (fromStxs-fits l (i .1), fromStxs-closed l, tt)
+
+  toStxs-fits : (l : Trees) (r : Stxs) → ValuesFit k n m l → toStxs l ≡ some r → StxsFit k m r
+  unfolding toStxs
+  toStxs-fits tnil r i e = subst (λ (z : Stxs). StxsFit k m z) (some-value nil r e) tt
+  toStxs-fits (tcons t l) r i e =
+      let g = given-some (asStx t) _ r e in
+      let h = given-some (toStxs l) _ r (g .2) in
+      subst (λ (z : Stxs). StxsFit k m z) (some-value (cons (g .0) (h .0)) r (h .2))
+      (subst (λ (z : Tree). TreeFits k n m z) (stx-is t (g .0) (g .1)) (i .1), toStxs-fits l (h .0) (i .2) (h .1))
+
+  setsOf-in : (s : Stx) → StxFits k m s → SetsIn m (setsOf s)
+  unfolding setsOf
+  setsOf-in (atom c a) i = i .0
+  setsOf-in (list c l) i = i .0
+
+  remade-fits : (c : Sets) (t : Tree) (r : Stx) → SetsIn m c → TreeFits k n m t → remade c t ≡ some r → StxFits k m r
+  unfolding remade
+  remade-fits c (var x) r i j e = absurd (none≢some r e)
+  remade-fits c (app h l) r i j e = absurd (none≢some r e)
+  remade-fits c (fun x b) r i j e = absurd (none≢some r e)
+  remade-fits c (datum a) r i j e = subst (λ (z : Stx). StxFits k m z) (some-value (atom c a) r e) (i, j)
+  remade-fits c (lst l) r i j e =
+      let g = given-some (toStxs l) _ r e in
+      subst (λ (z : Stx). StxFits k m z) (some-value (list c (g .0)) r (g .2)) (i, toStxs-fits l (g .0) j (g .1))
+  remade-fits c (stx s) r i j e = absurd (none≢some r e)
+
+  value-made : (v : Tree) → ValueGood v → Made v
+  value-made v g = (g .0 .fits, g .0 .owned, g .1)
+
+  picked-made : (j : ℕ) (a b : Tree) → ValueGood a → ValueGood b → Made (picked j a b)
+  unfolding picked
+  picked-made zero a b g h = value-made b h
+  picked-made (suc j) a b g h = value-made a g
+
+  first-made : (l : Trees) (v : Tree) → ValuesFit k n m l → closedAll [] l ≡ true → firstOf l ≡ some v → Made v
+  unfolding firstOf closed
+  first-made tnil v i c e = absurd (none≢some v e)
+  first-made (tcons t l) v i c e = subst Made (some-value t v e) (i .1, and-both (closed [] t) (closedAll [] l) c .0, i .0)
+
+  rest-made : (l : Trees) (v : Tree) → ValuesFit k n m l → closedAll [] l ≡ true → restOf l ≡ some v → Made v
+  unfolding restOf closed
+  rest-made tnil v i c e = absurd (none≢some v e)
+  rest-made (tcons t l) v i c e = subst Made (some-value (lst l) v e) (i .2, and-both (closed [] t) (closedAll [] l) c .1, tt)
+
+  -- the object, or the list, that a good value is
+  stx-fits : (t : Tree) (s : Stx) → ValueGood t → asStx t ≡ some s → StxFits k m s
+  stx-fits t s g e = subst (λ (z : Tree). TreeFits k n m z) (stx-is t s e) (g .0 .fits)
+
+  list-fits : (t : Tree) (l : Trees) → ValueGood t → asList t ≡ some l → ValuesFit k n m l
+  list-fits t l g e = subst (λ (z : Tree). TreeFits k n m z) (list-is t l e) (g .0 .fits)
+
+  list-closed : (t : Tree) (l : Trees) → ValueGood t → asList t ≡ some l → closedAll [] l ≡ true
+  unfolding closed
+  list-closed t l g e = subst (λ (z : Tree). closed [] z ≡ true) (list-is t l e) (g .0 .owned)
+
+  one-or-none : (b : Bool) → (if b then 1 else 0) < 4294967296
+  one-or-none true = omega arith
+  one-or-none false = omega arith
+
+  primitive-made : (p : ℕ) (a b c v : Tree) → ValueGood a → ValueGood b → ValueGood c → primitive p a b c ≡ some v → Made v
+  unfolding primitive closed
+  primitive-made zero a b c v i j l e =
+      let g = given-some (asStx a) _ v e in
+      subst Made (some-value (content (g .0)) v (g .2)) (content-made (g .0) (stx-fits a (g .0) i (g .1)))
+  primitive-made (suc zero) a b c v i j l e =
+      let g = given-some (asStx b) _ v e in
+      let h = given-some (remade (setsOf (g .0)) a) _ v (g .2) in
+      subst Made (some-value (stx (h .0)) v (h .2))
+      (remade-fits (setsOf (g .0)) a (h .0) (setsOf-in (g .0) (stx-fits b (g .0) j (g .1))) (i .0 .fits) (h .1), refl, tt)
+  primitive-made (suc (suc zero)) a b c v i j l e =
+      let g = given-some (asList a) _ v e in
+      first-made (g .0) v (list-fits a (g .0) i (g .1)) (list-closed a (g .0) i (g .1)) (g .2)
+  primitive-made (suc (suc (suc zero))) a b c v i j l e =
+      let g = given-some (asList a) _ v e in
+      rest-made (g .0) v (list-fits a (g .0) i (g .1)) (list-closed a (g .0) i (g .1)) (g .2)
+  primitive-made (suc (suc (suc (suc zero)))) a b c v i j l e =
+      let g = given-some (asList b) _ v e in
+      subst Made (some-value (lst (tcons a (g .0))) v (g .2)) (
+        (i .1, i .0 .fits, list-fits b (g .0) j (g .1)),
+        both-true (closed [] a) (closedAll [] (g .0)) (i .0 .owned) (list-closed b (g .0) j (g .1)),
+        tt,
+      )
+  primitive-made (suc (suc (suc (suc (suc zero))))) a b c v i j l e =
+      let g = given-some (asAtom a) _ v e in
+      let h = given-some (asAtom b) _ v (g .2) in
+      subst Made (some-value (datum (number (if sameAtom (g .0) (h .0) then 1 else 0))) v (h .2)) (one-or-none (sameAtom (g .0) (h .0)), refl, tt)
+  primitive-made (suc (suc (suc (suc (suc (suc p)))))) a b c v i j l e =
+      let g = given-some (asAtom a) _ v e in
+      let h = given-some (asNumber (g .0)) _ v (g .2) in
+      subst Made (some-value (picked (h .0) b c) v (h .2)) (picked-made (h .0) b c j l)
+
+  -- ---- evaluating
+
+  -- a value that is good, where no more than units were charged
+  abbrev pub Gave : State → Tree → State → Type 0
+  Gave s v u = ValueGood v × Kept s u
+
+  abbrev EvalGood : (Tree → Step Tree) → Type 0
+  EvalGood self = (t : Tree) → TreeGood t → (s : State) → Outcome Tree (Gave s) (self t s)
+
+  each-good : (self : Tree → Step Tree) → EvalGood self → (l : Trees) → TreesGood l → (s : State)
+      → Outcome Trees (λ r u. ValuesGood r × Kept s u) (eachTree self l s)
+  unfolding eachTree
+  each-good self h tnil g s = gives tnil s (tt, kept-refl s)
+  each-good self h (tcons t l) g s =
+      chain _ (h t (g .0) s) (λ v u a. chain _ (each-good self h l (g .1) u) (λ r w b. gives (tcons v r) w ((a .0, b .0), kept-trans (a .1) (b .1))))
+
+  argument-good : (l : Trees) (i : ℕ) → ValuesGood l → ValueGood (argument l i)
+  unfolding argument closed tnesting mostNesting
+  argument-good tnil i h = (record { fits = tt; owned = refl; shallow = omega arith }, tt)
+  argument-good (tcons t l) zero h = h .0
+  argument-good (tcons t l) (suc i) h = argument-good l i (h .1)
+
+  made-good : (v : Tree) → Made v → tnesting v ≤ mostNesting → ValueGood v
+  made-good v g s = (record { fits = g .0; owned = g .1; shallow = s }, g .2)
+
+  wrong-good : (o : Option Tree) → ((w : Tree) → o ≡ some w → Made w) → (s : State) → Outcome Tree (Gave s) (orWrongKind o s)
+  unfolding orWrongKind
+  wrong-good none h s = stops wrongArgument (s .left) tt
+  wrong-good (some w) h s = checked (madeTree-out w s)
+    where
+      checked : {o : Out Tree} → Outcome Tree (λ y t. (w ≡ y) × (s ≡ t) × (tnesting w ≤ mostNesting)) o → Outcome Tree (Gave s) o
+      checked (gives y t p) =
+          gives y t (subst ValueGood (p .0) (made-good w (h w refl) (p .2)), kept-same (p .1))
+      checked (stops r u p) = stops r u p
+
+  -- what came before is kept too
+  pub since : (s u : State) → Kept s u → {o : Out Tree} → Outcome Tree (Gave u) o → Outcome Tree (Gave s) o
+  since s u kp (gives v z p) = gives v z (p .0, kept-trans kp (p .1))
+  since s u kp (stops r z p) = stops r z p
+
+  function-good : (self : Tree → Step Tree) → EvalGood self → (x : ℕ) (b v : Tree) → TreeGood (fun x b) → ValueGood v → (s : State)
+      → Outcome Tree (Gave s) (after (charge (tsize b) s) (λ a. λ u. after (madeTree (substitute x v b) u) (λ t. self t)))
+  unfolding closed
+  function-good self h x b v g i s =
+      chain _ (charge-out (tsize b) s) (λ a u kp. chain _ (madeTree-out (substitute x v b) u) (λ t w p.
+      since s w (kept-trans kp (kept-same (p .1))) (h t (subst TreeGood (p .0) (body u (p .2))) w)))
+    where
+      body : (u : State) → tnesting (substitute x v b) ≤ mostNesting → TreeGood (substitute x v b)
+      body u q = record {
+        fits = substitute-fits x v (i .0 .fits) b (g .fits .1);
+        owned = closed-substitute x v (i .0 .owned) b (g .owned);
+        shallow = q;
+      }
+
+  apply-good : (self : Tree → Step Tree) → EvalGood self → (f : Tree) → ValueGood f → (l : Trees) → ValuesGood l → (s : State)
+      → Outcome Tree (Gave s) (apply self f l s)
+  unfolding apply
+  apply-good self h (var x) g l i s = stops notApplicable (s .left) tt
+  apply-good self h (app f p) g l i s = stops notApplicable (s .left) tt
+  apply-good self h (fun x b) g l i s = function-good self h x b (argument l 0) (g .0) (argument-good l 0 i) s
+  apply-good self h (datum (symbol x)) g l i s = stops notApplicable (s .left) tt
+  apply-good self h (datum (number x)) g l i s = stops notApplicable (s .left) tt
+  apply-good self h (datum (point x)) g l i s = stops notApplicable (s .left) tt
+  apply-good self h (datum (prim p)) g l i s =
+      chain _ (charge-out 1 s) (λ a u kp. since s u kp
+      (wrong-good (primitive p (argument l 0) (argument l 1) (argument l 2))
+      (λ w e. primitive-made p (argument l 0) (argument l 1) (argument l 2) w (argument-good l 0 i) (argument-good l 1 i) (argument-good l 2 i) e) u))
+  apply-good self h (datum (rung x)) g l i s = stops notApplicable (s .left) tt
+  apply-good self h (lst p) g l i s = stops notApplicable (s .left) tt
+  apply-good self h (stx x) g l i s = stops notApplicable (s .left) tt
+
+  -- an application, whose nesting need not be within the limit
+  application-good : (self : Tree → Step Tree) → EvalGood self → (f : Tree) (l : Trees) → TreeGood f → TreesGood l → (s : State)
+      → Outcome Tree (Gave s) (evalEntry self (app f l) s)
+  unfolding evalEntry
+  application-good self h f l g i s =
+      chain _ (h f g s) (λ v u a. chain _ (unless-out notApplicable tt (applicable v (tcount l)) u) (λ b w c.
+      chain _ (each-good self h l i w) (λ vs z d. since s z (kept-trans (a .1) (kept-trans (kept-same (c .1)) (d .1)))
+      (apply-good self h v (a .0) vs (d .0) z))))
+
+  entry-good : (self : Tree → Step Tree) → EvalGood self → EvalGood (evalEntry self)
+  unfolding evalEntry closed isAmong
+  entry-good self h (var x) g s = absurd (false≢true (g .owned))
+  entry-good self h (app f l) g s = let p = app-parts f l g in application-good self h f l (p .0) (p .1) s
+  entry-good self h (fun x b) g s = gives (fun x b) s ((g, tt), kept-refl s)
+  entry-good self h (datum a) g s = gives (datum a) s ((g, tt), kept-refl s)
+  entry-good self h (lst l) g s = gives (lst l) s ((g, tt), kept-refl s)
+  entry-good self h (stx x) g s = gives (stx x) s ((g, tt), kept-refl s)
+
+  pub evaluate-good : (d : ℕ) → EvalGood (evaluate d)
+  unfolding evaluate
+  evaluate-good zero t g s = stops tooManyEntries (s .left) tt
+  evaluate-good (suc d) t g s = chain _ (charge-out 1 s) (λ a u kp. since s u kp (entry-good (λ v. evaluate d v) (evaluate-good d) t g u))
+
+  -- a value applied to a value, as a macro use does
+  pub application-of : (d : ℕ) (f : Tree) (l : Trees) → TreeGood f → TreesGood l → (s : State) → Outcome Tree (Gave s) (evaluate d (app f l) s)
+  unfolding evaluate
+  application-of zero f l g i s = stops tooManyEntries (s .left) tt
+  application-of (suc d) f l g i s =
+      chain _ (charge-out 1 s) (λ a u kp. since s u kp (application-good (λ v. evaluate d v) (evaluate-good d) f l g i u))

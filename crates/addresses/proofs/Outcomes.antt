@@ -1,0 +1,171 @@
+-- What a step gives or refuses: what holds where it succeeds, and that it is refused neither by 3 nor by 16.
+use mathlib.Core.Path.{_≡_, refl, sym, ap, _∙_, subst}
+use mathlib.Core.Logic.{_≢_}
+use Prim.Native.Nat.{ℕ, zero, suc, _+_, _-_, _≤_, _<_}
+use native.Mathlib.Nat.{le-refl, le-trans, le-of-eq, sub-le}
+use mathlib.Core.Bool.{Bool, true, false}
+use mathlib.Core.Option.{Option, none, some}
+use lib.Dec.{leb, ltb}
+use Rattle.model.specs.Choice.{if_then_else_}
+use Rattle.model.specs.Limits.{mostNesting}
+use Rattle.model.specs.Refusals.{Refusal, layout, overLimit, unowned, wrongKind, smallTable, ambiguous, noMeaning, noRule, noSyntax, notApplicable, wrongArgument, noPhase, noNameLeft, noScopeLeft, noBindingLeft, boundAlready, tooDeep, tooManyEntries, overBudget, tooLong}
+use Rattle.model.specs.Scopes.{Scopes}
+use Rattle.model.specs.Objects.{Atom, symbol, number, point, prim, rung, Sets, setAt, Stx, atom, list, Stxs, nil, cons, size, nesting, addScope, flipScope, pruneScopes}
+use Rattle.model.specs.Trees.{Tree, tnesting}
+use Rattle.model.specs.Resolving.{Bind, Found, means, several, resolve}
+use Rattle.model.specs.Steps.{State, Out, ok, no, Step, after, unless, charge, made, madeTree, addTo, flipIn, pruneFrom, nameOf, resolveAt, parts1, parts2, parts3, identifier}
+use Rattle.laws.proofs.Tests.{leb-le}
+use Rattle.laws.proofs.StepLaws.{spend}
+
+-- all but 3 and 16
+abbrev pub Possible : Refusal → Type 0
+Possible layout = Unit {0}
+Possible overLimit = Unit {0}
+Possible unowned = ⊥
+Possible wrongKind = Unit {0}
+Possible smallTable = Unit {0}
+Possible ambiguous = Unit {0}
+Possible noMeaning = Unit {0}
+Possible noRule = Unit {0}
+Possible noSyntax = Unit {0}
+Possible notApplicable = Unit {0}
+Possible wrongArgument = Unit {0}
+Possible noPhase = Unit {0}
+Possible noNameLeft = Unit {0}
+Possible noScopeLeft = Unit {0}
+Possible noBindingLeft = Unit {0}
+Possible boundAlready = ⊥
+Possible tooDeep = Unit {0}
+Possible tooManyEntries = Unit {0}
+Possible overBudget = Unit {0}
+Possible tooLong = Unit {0}
+
+-- P of what is given and the state after it
+pub data Outcome (A : Type 0) (P : A → State → Type 0) : Out A → Type 0 where
+  gives : (a : A) (t : State) → P a t → Outcome A P (ok a t)
+  stops : (r : Refusal) (u : ℕ) → Possible r → Outcome A P (no r u)
+
+pub chain : {A B : Type 0} {P : A → State → Type 0} {Q : B → State → Type 0} {o : Out A} (f : A → Step B) → Outcome A P o
+    → ((a : A) (t : State) → P a t → Outcome B Q (f a t)) → Outcome B Q (after o f)
+chain f (gives a t p) h = h a t p
+chain f (stops r u p) h = stops r u p
+
+-- ---- counts and bindings are kept, units are only charged
+
+pub record Kept (s t : State) : Type 0 where
+  pub names-is : s .names ≡ t .names
+  pub scopes-is : s .scopes ≡ t .scopes
+  pub binds-is : s .binds ≡ t .binds
+  pub left-le : t .left ≤ s .left
+
+pub kept-refl : (s : State) → Kept s s
+kept-refl s = record { names-is = refl; scopes-is = refl; binds-is = refl; left-le = le-refl (s .left) }
+
+pub kept-same : {s t : State} → s ≡ t → Kept s t
+kept-same {s} e = subst (λ (z : State). Kept s z) e (kept-refl s)
+
+pub kept-trans : {s t u : State} → Kept s t → Kept t u → Kept s u
+kept-trans p q = record {
+  names-is = p .names-is ∙ q .names-is;
+  scopes-is = p .scopes-is ∙ q .scopes-is;
+  binds-is = p .binds-is ∙ q .binds-is;
+  left-le = le-trans (q .left-le) (p .left-le);
+}
+
+pub kept-spend : (n : ℕ) (s : State) → Kept s (spend n s)
+unfolding spend
+kept-spend n s = record { names-is = refl; scopes-is = refl; binds-is = refl; left-le = sub-le (s .left) n }
+
+-- ---- the steps
+
+pub charge-out : (n : ℕ) (s : State) → Outcome (Unit {0}) (λ v t. Kept s t) (charge n s)
+unfolding charge spend
+charge-out n s = go (leb n (s .left))
+  where
+    go : (b : Bool) → Outcome (Unit {0}) (λ v t. Kept s t) (if b then ok tt (spend n s) else no overBudget (s .left))
+    go true = gives tt (spend n s) (kept-spend n s)
+    go false = stops overBudget (s .left) tt
+
+pub unless-out : (r : Refusal) → Possible r → (b : Bool) (s : State) → Outcome (Unit {0}) (λ v t. (b ≡ true) × (s ≡ t)) (unless r b s)
+unless-out r p true s = gives tt s (refl, refl)
+unless-out r p false s = stops r (s .left) p
+
+pub made-out : (x : Stx) (s : State) → Outcome Stx (λ y t. (x ≡ y) × (s ≡ t) × (nesting x ≤ mostNesting)) (made x s)
+unfolding made
+made-out x s = go (leb (nesting x) mostNesting) refl
+  where
+    go : (b : Bool) → leb (nesting x) mostNesting ≡ b
+        → Outcome Stx (λ y t. (x ≡ y) × (s ≡ t) × (nesting x ≤ mostNesting)) (after (unless tooDeep b s) (λ v. λ t. ok x t))
+    go true e = gives x s (refl, refl, leb-le (nesting x) mostNesting e)
+    go false e = stops tooDeep (s .left) tt
+
+pub madeTree-out : (x : Tree) (s : State) → Outcome Tree (λ y t. (x ≡ y) × (s ≡ t) × (tnesting x ≤ mostNesting)) (madeTree x s)
+unfolding madeTree
+madeTree-out x s = go (leb (tnesting x) mostNesting) refl
+  where
+    go : (b : Bool) → leb (tnesting x) mostNesting ≡ b
+        → Outcome Tree (λ y t. (x ≡ y) × (s ≡ t) × (tnesting x ≤ mostNesting)) (after (unless tooDeep b s) (λ v. λ t. ok x t))
+    go true e = gives x s (refl, refl, leb-le (tnesting x) mostNesting e)
+    go false e = stops tooDeep (s .left) tt
+
+-- what a piece becomes when its scopes are changed
+changed : (n : ℕ) (y : Stx) (s : State) → Outcome Stx (λ z t. (y ≡ z) × Kept s t) (after (charge n s) (λ v. λ t. ok y t))
+changed n y s = chain _ (charge-out n s) (λ v t k. gives y t (refl, k))
+
+pub addTo-out : (k ph : ℕ) (x : Stx) (s : State) → Outcome Stx (λ y t. (addScope k ph x ≡ y) × Kept s t) (addTo k ph x s)
+unfolding addTo
+addTo-out k ph x s = changed (size x) (addScope k ph x) s
+
+pub flipIn-out : (k ph : ℕ) (x : Stx) (s : State) → Outcome Stx (λ y t. (flipScope k ph x ≡ y) × Kept s t) (flipIn k ph x s)
+unfolding flipIn
+flipIn-out k ph x s = changed (size x) (flipScope k ph x) s
+
+pub pruneFrom-out : (p : Scopes) (ph : ℕ) (x : Stx) (s : State) → Outcome Stx (λ y t. (pruneScopes p ph x ≡ y) × Kept s t) (pruneFrom p ph x s)
+unfolding pruneFrom
+pruneFrom-out p ph x s = changed (size x) (pruneScopes p ph x) s
+
+pub resolveAt-out : (ph : ℕ) (c : Sets) (x : ℕ) (s : State)
+    → Outcome ℕ (λ n t. (resolve x (setAt ph c) (s .binds) ≡ means n) × (s ≡ t)) (resolveAt ph c x s)
+unfolding resolveAt nameOf
+resolveAt-out ph c x s = go (resolve x (setAt ph c) (s .binds)) refl
+  where
+    go : (f : Found) → resolve x (setAt ph c) (s .binds) ≡ f
+        → Outcome ℕ (λ n t. (resolve x (setAt ph c) (s .binds) ≡ means n) × (s ≡ t)) (nameOf f s)
+    go (means n) e = gives n s (e, refl)
+    go several e = stops ambiguous (s .left) tt
+
+-- ---- shapes
+
+pub parts1-out : {A : Type 0} {P : A → State → Type 0} (l : Stxs) (f : Stx → Step A) (s : State)
+    → ((a : Stx) → l ≡ cons a nil → Outcome A P (f a s)) → Outcome A P (parts1 l f s)
+unfolding parts1
+parts1-out nil f s h = stops noRule (s .left) tt
+parts1-out (cons a nil) f s h = h a refl
+parts1-out (cons a (cons b l)) f s h = stops noRule (s .left) tt
+
+pub parts2-out : {A : Type 0} {P : A → State → Type 0} (l : Stxs) (f : Stx → Stx → Step A) (s : State)
+    → ((a b : Stx) → l ≡ cons a (cons b nil) → Outcome A P (f a b s)) → Outcome A P (parts2 l f s)
+unfolding parts2
+parts2-out nil f s h = stops noRule (s .left) tt
+parts2-out (cons a nil) f s h = stops noRule (s .left) tt
+parts2-out (cons a (cons b nil)) f s h = h a b refl
+parts2-out (cons a (cons b (cons c l))) f s h = stops noRule (s .left) tt
+
+pub parts3-out : {A : Type 0} {P : A → State → Type 0} (l : Stxs) (f : Stx → Stx → Stx → Step A) (s : State)
+    → ((a b c : Stx) → l ≡ cons a (cons b (cons c nil)) → Outcome A P (f a b c s)) → Outcome A P (parts3 l f s)
+unfolding parts3
+parts3-out nil f s h = stops noRule (s .left) tt
+parts3-out (cons a nil) f s h = stops noRule (s .left) tt
+parts3-out (cons a (cons b nil)) f s h = stops noRule (s .left) tt
+parts3-out (cons a (cons b (cons c nil))) f s h = h a b c refl
+parts3-out (cons a (cons b (cons c (cons d l)))) f s h = stops noRule (s .left) tt
+
+pub identifier-out : {A : Type 0} {P : A → State → Type 0} (x : Stx) (f : Sets → ℕ → Step A) (s : State)
+    → ((c : Sets) (n : ℕ) → x ≡ atom c (symbol n) → Outcome A P (f c n s)) → Outcome A P (identifier x f s)
+unfolding identifier
+identifier-out (atom c (symbol n)) f s h = h c n refl
+identifier-out (atom c (number n)) f s h = stops noRule (s .left) tt
+identifier-out (atom c (point n)) f s h = stops noRule (s .left) tt
+identifier-out (atom c (prim n)) f s h = stops noRule (s .left) tt
+identifier-out (atom c (rung n)) f s h = stops noRule (s .left) tt
+identifier-out (list c l) f s h = stops noRule (s .left) tt
