@@ -1,7 +1,17 @@
-// The bytes of an image's words.
+// The words of an image: their bytes, and that all are different and none a core word.
+use numbers::Cursor;
+use numbers::Number;
+use numbers::Place;
+use refusals::Refusal;
 ghost use mathlib.Core.Path.{_≡_};
+ghost use Prim.Native.Nat.{ℕ, _+_, _≤_};
 ghost use lib.ListN.{length};
 ghost use Rattle.model.specs.Reading.{wordByte, firstByte, allWordBytes, goodWord, sameBytes, among, coreWords};
+ghost use Rattle.numbers.specs.Answers.{numberAt};
+ghost use Rattle.words.specs.Section.{wordLength, Old, Stands, Midway, WordsRead};
+
+// Bytes of a word.
+const MOST_LENGTH: u32 = 32;
 
 // 33 to 126, but not ( ) ; ' #
 fn word_byte(b: u8) -> bool
@@ -100,4 +110,91 @@ pub fn is_core(w: &[u8]) -> bool
         return true;
     }
     same_bytes(w, b"syntax")
+}
+
+// ---- the section
+
+// A word's length at a cursor, where `s` is the image from there on.
+fn word_length(c: Cursor, s: &[u8]) -> Number
+    requires { ⌜ c .at + length (now s) ≤ 65536 ⌝ }
+    ensures { λ r. ⌜ r ≡ numberAt (c .at + length (now (s .entry))) (wordLength (now (s .entry))) ⌝ }
+{
+    match c.number(s) {
+        Number::Read(n, past) => {
+            if n == 0 {
+                return Number::Fault(Refusal::Layout);
+            }
+            if MOST_LENGTH < n {
+                return Number::Fault(Refusal::OverLimit);
+            }
+            Number::Read(n, past)
+        }
+        Number::Fault(f) => Number::Fault(f),
+    }
+}
+
+// Whether w is one of the first k words of the section: they are looked up where they lie, so nothing has to be stored.
+fn is_old(section: &[u8], k: u32, w: &[u8]) -> bool
+    requires { ⌜ length (now section) ≤ 65536 ⌝ }
+    ensures { λ r. ⌜ Old (now (section .entry)) k (now (w .entry)) r ⌝ }
+{
+    if k == 0 {
+        return false;
+    }
+    match word_length(Cursor { at: 0 }, section) {
+        Number::Read(n, past) => {
+            let from = past.at;
+            let to = from + n as usize;
+            if section.len() < to {
+                return false;
+            }
+            if same_bytes(w, &section[from..to]) {
+                return true;
+            }
+            is_old(&section[to..], k - 1, w)
+        }
+        Number::Fault(_) => false,
+    }
+}
+
+// Whether w may stand behind the first `done` words of the section.
+fn may_stand(section: &[u8], done: u32, w: &[u8]) -> bool
+    requires { ⌜ length (now section) ≤ 65536 ⌝ }
+    ensures { λ r. ⌜ Stands (now (section .entry)) done (now (w .entry)) r ⌝ }
+{
+    if good_word(w) {
+        if is_core(w) {
+            return false;
+        }
+        if is_old(section, done, w) {
+            return false;
+        }
+        return true;
+    }
+    false
+}
+
+// `left` words at the place `at` of the image s, behind `done` words of the section that begins at `start`; the place past them, or
+// the fault.
+pub fn read_words(s: &[u8], start: usize, at: usize, done: u32, left: u32) -> Place
+    requires { ⌜ Midway (now s) start at done left ⌝ }
+    ensures { λ r. ⌜ WordsRead (now (s .entry)) start at done left r ⌝ }
+{
+    if left == 0 {
+        return Place::At(Cursor { at });
+    }
+    match word_length(Cursor { at }, &s[at..]) {
+        Number::Read(n, past) => {
+            let from = past.at;
+            let to = from + n as usize;
+            if s.len() < to {
+                return Place::Fault(Refusal::Layout);
+            }
+            if may_stand(&s[start..], done, &s[from..to]) {
+                return read_words(s, start, to, done + 1, left - 1);
+            }
+            Place::Fault(Refusal::Layout)
+        }
+        Number::Fault(f) => Place::Fault(f),
+    }
 }

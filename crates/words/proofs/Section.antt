@@ -1,0 +1,362 @@
+-- Laws of the word section, by the tests that the code makes.
+use Prim.Native.Nat.{ℕ, zero, suc, _+_, _-_, _≤_, _<_}
+use mathlib.Core.Path.{_≡_, refl, sym, ap, _∙_, subst}
+use mathlib.Core.List.{List, [], _∷_, _++_}
+use mathlib.Core.Bool.{Bool, true, false, not, _&&_, _||_}
+use native.Mathlib.Omega.{arith}
+use native.Mathlib.Nat.{le-refl, not-suc-le-zero}
+use native.Mathlib.Numerals.{add-one}
+use lib.ListN.{length, take, drop, length-drop}
+use lib.Seq.{drop-drop, take-all}
+use lib.Dec.{eqb, leb}
+use mir.Syntax.{w64}
+use mir.Val.{Fits}
+use borrow.Author.Tests.{le-leb, lt-leb, leb-true, eq-eqb, ne-eqb}
+use Rattle.model.specs.Limits.{mostWordLength}
+use Rattle.model.specs.Refusals as m
+use Rattle.model.specs.Refusals.{layout, overLimit}
+use Rattle.model.specs.Reading.{Read, Reader, got, fault, next, need, byte, bytes, num, goodWord, sameBytes, among, coreWords, readWords}
+use Rattle.refusals.specs.declared.Refusal.{Refusal}
+use Rattle.refusals.specs.declared.Refusal.the-variants.{Layout, OverLimit}
+use Rattle.refusals.specs.Refusing.{refusalOf}
+use Rattle.refusals.proofs.Cases.{case-back}
+use Rattle.numbers.specs.declared.Cursor.{Cursor}
+use Rattle.numbers.specs.declared.Number.{Number}
+use Rattle.numbers.specs.declared.Number.the-variants as number
+use Rattle.numbers.specs.declared.Place.{Place}
+use Rattle.numbers.specs.declared.Place.the-variants as place
+use Rattle.numbers.specs.Answers.{answerAt, numberAt, placed, placeAt, kept}
+use Rattle.numbers.proofs.Tails.{Tail, tail-give, tail-next, tail-need, num-tail}
+use Rattle.numbers.proofs.Reading.{one-less}
+use Rattle.numbers.proofs.Answering.{answering, number-shape, Took, took, refused, stops, gives, refuses}
+use Rattle.words.specs.Section.{wordLength, mayStand, Passed, no-word, one-word, seenAfter, Old, Stands, Midway, WordsRead}
+
+-- ---- a word's length
+
+pub length-tail : (s : List ℕ) → Tail s (wordLength s)
+unfolding wordLength
+length-tail s =
+    tail-next _ (num-tail s) (λ k t. tail-next _ (tail-need layout (not (eqb k 0)) t) (λ x u.
+    tail-next _ (tail-need overLimit (leb k mostWordLength) u) (λ y v. tail-give k v)))
+
+module _ (at : ℕ) (s : List ℕ) {r : Number} (h : r ≡ numberAt (at + length s) (num s)) where
+  pub length-stops : {f : Refusal} → r ≡ number.Fault f → number.Fault f ≡ numberAt (at + length s) (wordLength s)
+  unfolding wordLength
+  length-stops e = stops number-shape number.Read number.Fault (at + length s) (num s) _ h e
+
+  module _ {n : ℕ} {past : Cursor} (e : r ≡ number.Read n past) where
+    pub length-none : n ≡ 0 → number.Fault Layout ≡ numberAt (at + length s) (wordLength s)
+    unfolding wordLength
+    length-none z = refuses number-shape number.Read number.Fault at (num s) _ h e (num-tail s) (λ u. rw (eq-eqb n 0 z))
+
+    module _ (some : n ≡ 0 → ⊥) where
+      pub length-over : 32 < n → number.Fault OverLimit ≡ numberAt (at + length s) (wordLength s)
+      unfolding wordLength mostWordLength
+      length-over l = refuses number-shape number.Read number.Fault at (num s) _ h e (num-tail s) (λ u. rw (ne-eqb n 0 some, lt-leb n 32 l))
+
+      pub length-is : n ≤ 32 → number.Read n past ≡ numberAt (at + length s) (wordLength s)
+      unfolding wordLength mostWordLength
+      length-is l = gives number-shape number.Read number.Fault at (num s) _ h e (num-tail s) (λ u. rw (ne-eqb n 0 some, le-leb n 32 l))
+
+-- it is at most 32, so that the end of the word can be computed
+most-kept : (g : Read ℕ) {n : ℕ} {u : List ℕ}
+    → next g (λ k v. next (need layout (not (eqb k 0)) v) (λ x w. next (need overLimit (leb k 32) w) (λ y z. got k z))) ≡ got n u → n ≤ 32
+most-kept (fault r) e = let z : _≡_ {A = ℕ} 0 1 = cc in absurd (omega arith)
+most-kept (got k v) {n} {u} e = go (eqb k 0) (leb k 32) refl e
+  where
+    go : (a b : Bool) → leb k 32 ≡ b → next (need layout (not a) v) (λ x w. next (need overLimit b w) (λ y z. got k z)) ≡ got n u → n ≤ 32
+    go true b q f = let z : _≡_ {A = ℕ} 0 1 = cc in absurd (omega arith)
+    go false true q f = let i : k ≡ n = cc in let l = leb-true k 32 q in omega arith
+    go false false q f = let z : _≡_ {A = ℕ} 0 1 = cc in absurd (omega arith)
+
+pub length-most : (s : List ℕ) {u : List ℕ} {n : ℕ} → wordLength s ≡ got n u → n ≤ 32
+unfolding wordLength mostWordLength
+length-most s e = most-kept (num s) e
+
+pub end-fits : (at : ℕ) (s : List ℕ) {r : Number} {n : ℕ} {past : Cursor} → r ≡ numberAt (at + length s) (wordLength s) → r ≡ number.Read n past
+    → at + length s ≤ 65536 → Fits w64 (past .at + n)
+end-fits at s {n = n} {past = past} h e l =
+    let T : Took at s (wordLength s) n (past .at) = took number-shape h e (length-tail s) in
+    omega (arith, T .within, length-most s (T .is))
+
+pub end-fits-first : (s : List ℕ) {r : Number} {n : ℕ} {past : Cursor} → r ≡ numberAt (0 + length s) (wordLength s) → r ≡ number.Read n past
+    → length s ≤ 65536 → Fits w64 (past .at + n)
+end-fits-first s h e l = end-fits 0 s h e (omega arith)
+
+pub ruleset length-laws = (length-stops, length-none, length-over, length-is)
+
+-- ---- the words passed
+
+-- the first of them, where its length was read
+pub record First (k n : ℕ) (ws : List (List ℕ)) (u rest : List ℕ) : Type 0 where
+  pub others : List (List ℕ)
+  pub is : ws ≡ take n u ∷ others
+  pub fits : n ≤ length u
+  pub behind : Passed (k - 1) others (drop n u) rest
+
+pub first-passed : {k n : ℕ} {ws : List (List ℕ)} {s u rest : List ℕ} → (k ≡ 0 → ⊥) → wordLength s ≡ got n u → Passed k ws s rest → First k n ws u rest
+first-passed some e no-word = absurd (some refl)
+first-passed {n = n} {u = u} some e (one-word {k = k} {n = n′} {ws = vs} {u = u′} q fits p) =
+    let same : got n′ u′ ≡ got n u = sym q ∙ e in
+    let i : n′ ≡ n = cc in
+    let j : u′ ≡ u = cc in
+    let d : k ≡ suc k - 1 = omega arith in
+    rw (← i, ← j) (record { others = vs; is = refl; fits = fits; behind = rw (← d) p })
+
+-- a part of a slice
+part : (from to : ℕ) (s : List ℕ) (n : ℕ) → to ≡ from + n → take (to - from) (drop from s) ≡ take n (drop from s)
+part from to s n e = let d : to - from ≡ n = omega arith in ap (λ (k : ℕ). take k (drop from s)) d
+
+tail-part : (from to : ℕ) (s : List ℕ) (n : ℕ) → to ≡ from + n → take (length s - to) (drop to s) ≡ drop n (drop from s)
+tail-part from to s n e =
+    take-all (length s - to) (drop to s) (rw length-drop (le-refl (length s - to)))
+    ∙ ap (λ (k : ℕ). drop k s) e ∙ sym (drop-drop n from s)
+
+none-passed : {k : ℕ} {ws : List (List ℕ)} {s rest : List ℕ} (w : List ℕ) → k ≡ 0 → Passed k ws s rest → false ≡ among w ws
+unfolding among
+none-passed w e no-word = refl
+none-passed w e (one-word q f p) = absurd (omega arith)
+
+never-passed : {k : ℕ} {ws : List (List ℕ)} {s rest : List ℕ} {f : m.Refusal} → (k ≡ 0 → ⊥) → wordLength s ≡ fault f → Passed k ws s rest → ⊥
+never-passed some g no-word = some refl
+never-passed some g (one-word q x p) = let z : _≡_ {A = ℕ} 0 1 = cc in omega arith
+
+module _ (s : List ℕ) (k : ℕ) (w : List ℕ) where
+  pub old-none : k ≡ 0 → Old s k w false
+  old-none e = record { means = λ ws rest p. none-passed w e p }
+
+  module _ (some : k ≡ 0 → ⊥) {r : Number} (h : r ≡ numberAt (0 + length s) (wordLength s)) where
+    pub old-fault : {f : Refusal} → r ≡ number.Fault f → Old s k w false
+    old-fault e = record { means = λ ws rest p. absurd (never-passed some (refused number-shape (0 + length s) (wordLength s) h e) p) }
+
+    module _ {n : ℕ} {past : Cursor} (e : r ≡ number.Read n past) where
+      here : wordLength s ≡ got n (drop (past .at) s)
+      here =
+          let T : Took 0 s (wordLength s) n (past .at) = took number-shape h e (length-tail s) in
+          let d : past .at - 0 ≡ past .at = omega arith in
+          T .is ∙ ap (λ (j : ℕ). got n (drop j s)) d
+
+      pub old-short : length s < past .at + n → Old s k w false
+      old-short l = record {
+        means = λ ws rest p.
+            let F = first-passed some here p in
+            let a : n ≤ length (drop (past .at) s) = F .fits in
+            let d = length-drop (past .at) s in
+            let T : Took 0 s (wordLength s) n (past .at) = took number-shape h e (length-tail s) in
+            absurd (omega (arith, T .within));
+      }
+
+      module _ {to : ℕ} (ends : to ≡ past .at + n) {t : Bool} (q : t ≡ sameBytes w (take (to - past .at) (drop (past .at) s))) where
+        pub old-here : t ≡ true → Old s k w true
+        unfolding among
+        old-here y = record {
+          means = λ ws rest p.
+              let F = first-passed some here p in
+              let v : sameBytes w (take n (drop (past .at) s)) ≡ true = ap (sameBytes w) (sym (part (past .at) to s n ends)) ∙ sym q ∙ y in
+              rw (F .is) (rw v refl);
+        }
+
+        pub old-further : {b : Bool} → t ≡ false → Old (take (length s - to) (drop to s)) (k - 1) w b → Old s k w b
+        unfolding among
+        old-further y o = record {
+          means = λ ws rest p.
+              let F = first-passed some here p in
+              let v : sameBytes w (take n (drop (past .at) s)) ≡ false = ap (sameBytes w) (sym (part (past .at) to s n ends)) ∙ sym q ∙ y in
+              let o′ : _ ≡ among w (F .others) = o .means (F .others) rest (subst (λ (l : List ℕ). Passed (k - 1) (F .others) l rest) (sym (tail-part (past .at) to s n ends)) (F .behind)) in
+              rw (F .is) (rw v o′);
+        }
+
+pub ruleset old-laws = (old-none, old-fault, old-short, old-here, old-further)
+
+pub ruleset old = (old-laws, length-tail, end-fits-first, answering, one-less)
+
+-- ---- whether a word may stand
+
+module _ (w : List ℕ) where
+  or-move : (x y z : Bool) → (x || (y || z)) ≡ ((y || x) || z)
+  or-move true true z = refl
+  or-move true false z = refl
+  or-move false true z = refl
+  or-move false false z = refl
+
+  -- the words seen are those passed and those from before
+  among-seen : (ws seen : List (List ℕ)) → among w (seenAfter ws seen) ≡ (among w ws || among w seen)
+  unfolding seenAfter among
+  among-seen [] seen = refl
+  among-seen (v ∷ ws) seen = among-seen ws (v ∷ seen) ∙ or-move (among w ws) (sameBytes w v) (among w seen)
+
+  module _ (s : List ℕ) (k : ℕ) {g : Bool} (hg : g ≡ goodWord w) where
+    pub stand-bad : g ≡ false → Stands s k w false
+    unfolding mayStand
+    stand-bad e = record { means = λ ws rest p. rw (sym hg ∙ e) refl }
+
+    module _ (good : g ≡ true) {c : Bool} (hc : c ≡ among w coreWords) where
+      or-yes : (x : Bool) → (x || true) ≡ true
+      or-yes true = refl
+      or-yes false = refl
+
+      pub stand-core : c ≡ true → Stands s k w false
+      unfolding mayStand
+      stand-core e = record { means = λ ws rest p. rw (sym hg ∙ good, among-seen ws coreWords, sym hc ∙ e, or-yes (among w ws)) refl }
+
+      module _ (other : c ≡ false) {o : Bool} (ho : Old s k w o) where
+        pub stand-old : o ≡ true → Stands s k w false
+        unfolding mayStand
+        stand-old e = record { means = λ ws rest p. rw (sym hg ∙ good, among-seen ws coreWords, sym (ho .means ws rest p) ∙ e) refl }
+
+        pub stand-new : o ≡ false → Stands s k w true
+        unfolding mayStand
+        stand-new e = record { means = λ ws rest p. rw (sym hg ∙ good, among-seen ws coreWords, sym (ho .means ws rest p) ∙ e, sym hc ∙ other) refl }
+
+pub ruleset stand-laws = (stand-bad, stand-core, stand-old, stand-new)
+
+-- ---- the definition, a word at a time
+
+bytes-are : (k : ℕ) (u : List ℕ) → k ≤ length u → bytes k u ≡ got (take k u) (drop k u)
+unfolding bytes byte
+bytes-are zero u h = refl
+bytes-are (suc k) [] h = absurd (not-suc-le-zero h)
+bytes-are (suc k) (b ∷ u) h = let l : k ≤ length u = omega arith in rw (bytes-are k u l) refl
+
+bytes-short : (k : ℕ) (u : List ℕ) → length u < k → bytes k u ≡ fault layout
+unfolding bytes byte
+bytes-short zero u h = absurd (not-suc-le-zero h)
+bytes-short (suc k) [] h = refl
+bytes-short (suc k) (b ∷ u) h = let l : length u < k = omega arith in rw (bytes-short k u l) refl
+
+-- what the definition makes of a word's length
+afterLength : ℕ → List (List ℕ) → ℕ → Reader (List (List ℕ))
+afterLength left seen k v =
+    next (bytes k v) (λ w x. next (need layout (mayStand w seen) x) (λ y z. next (readWords left (w ∷ seen) z) (λ r q. got (w ∷ r) q)))
+
+length-then : (g : Read ℕ) (j : ℕ → Reader (List (List ℕ)))
+    → next g (λ k v. next (need layout (not (eqb k 0)) v) (λ x w. next (need overLimit (leb k 32) w) (λ y. j k)))
+    ≡ next (next g (λ k v. next (need layout (not (eqb k 0)) v) (λ x w. next (need overLimit (leb k 32) w) (λ y z. got k z)))) j
+length-then (fault r) j = refl
+length-then (got k v) j = go (not (eqb k 0)) (leb k 32)
+  where
+    go : (a b : Bool) → next (need layout a v) (λ x w. next (need overLimit b w) (λ y. j k)) ≡ next (next (need layout a v) (λ x w. next (need overLimit b w) (λ y z. got k z))) j
+    go true true = refl
+    go true false = refl
+    go false b = refl
+
+words-next : (left : ℕ) (seen : List (List ℕ)) (u : List ℕ) → (left ≡ 0 → ⊥) → readWords left seen u ≡ next (wordLength u) (afterLength (left - 1) seen)
+unfolding readWords wordLength mostWordLength afterLength mayStand
+words-next zero seen u some = absurd (some refl)
+words-next (suc left) seen u some =
+    let d : left ≡ suc left - 1 = omega arith in
+    length-then (num u) (afterLength left seen) ∙ ap (λ (k : ℕ). next (wordLength u) (afterLength k seen)) d
+
+kept-more : (w : List ℕ) (g : Read (List (List ℕ))) → kept (λ a. tt {0}) (next g (λ r q. got (w ∷ r) q)) ≡ kept (λ a. tt) g
+kept-more w (got r q) = refl
+kept-more w (fault f) = refl
+
+module _ (left : ℕ) (seen : List (List ℕ)) (u : List ℕ) (some : left ≡ 0 → ⊥) where
+  words-fault : {f : m.Refusal} → wordLength u ≡ fault f → readWords left seen u ≡ fault f
+  words-fault e = words-next left seen u some ∙ ap (λ (g : Read ℕ). next g (afterLength (left - 1) seen)) e
+
+  module _ {n : ℕ} {v : List ℕ} (e : wordLength u ≡ got n v) where
+    words-past : readWords left seen u ≡ afterLength (left - 1) seen n v
+    words-past = words-next left seen u some ∙ ap (λ (g : Read ℕ). next g (afterLength (left - 1) seen)) e
+
+    words-short : length v < n → readWords left seen u ≡ fault layout
+    unfolding afterLength
+    words-short l = words-past ∙ rw (bytes-short n v l) refl
+
+    module _ (fits : n ≤ length v) where
+      words-bad : mayStand (take n v) seen ≡ false → readWords left seen u ≡ fault layout
+      unfolding afterLength
+      words-bad b = words-past ∙ rw (bytes-are n v fits, b) refl
+
+      words-good : mayStand (take n v) seen ≡ true → kept (λ a. tt {0}) (readWords left seen u) ≡ kept (λ a. tt) (readWords (left - 1) (take n v ∷ seen) (drop n v))
+      unfolding afterLength
+      words-good b =
+          let e′ : afterLength (left - 1) seen n v ≡ next (readWords (left - 1) (take n v ∷ seen) (drop n v)) (λ r q. got (take n v ∷ r) q) = rw (bytes-are n v fits, b) refl in
+          ap (λ (g : Read (List (List ℕ))). kept (λ a. tt {0}) g) (words-past ∙ e′) ∙ kept-more (take n v) (readWords (left - 1) (take n v ∷ seen) (drop n v))
+
+-- ---- one word more is passed
+
+passed-more : {k n : ℕ} {ws : List (List ℕ)} {s mid u : List ℕ} → Passed k ws s mid → wordLength mid ≡ got n u → n ≤ length u → Passed (suc k) (ws ++ (take n u ∷ [])) s (drop n u)
+passed-more no-word e f = one-word e f no-word
+passed-more (one-word q g p) e f = one-word q g (passed-more p e f)
+
+seen-more : (ws seen : List (List ℕ)) (w : List ℕ) → seenAfter (ws ++ (w ∷ [])) seen ≡ w ∷ seenAfter ws seen
+unfolding seenAfter
+seen-more [] seen w = refl
+seen-more (v ∷ ws) seen w = seen-more ws (v ∷ seen) w
+
+-- ---- the words, by the tests that the code makes
+
+pub words-none : (s : List ℕ) (start at done left : ℕ) → left ≡ 0 → Midway s start at done left → WordsRead s start at done left (place.At (record { at = at }))
+unfolding readWords
+words-none s start at done left e m =
+    let d : length s - length (drop at s) ≡ at = rw length-drop (omega (arith, m .within)) in
+    record { means = λ ws p. rw (e, d) refl }
+
+module _ (s : List ℕ) (start at done left : ℕ) (m : Midway s start at done left) (some : left ≡ 0 → ⊥) {r : Number}
+    (h : r ≡ numberAt (at + length (take (length s - at) (drop at s))) (wordLength (take (length s - at) (drop at s)))) where
+  whole : take (length s - at) (drop at s) ≡ drop at s
+  whole = take-all (length s - at) (drop at s) (rw length-drop (le-refl (length s - at)))
+
+  at-end : at + length (drop at s) ≡ length s
+  at-end = rw length-drop (omega (arith, m .within))
+
+  h′ : r ≡ numberAt (at + length (drop at s)) (wordLength (drop at s))
+  h′ = subst (λ (l : List ℕ). r ≡ numberAt (at + length l) (wordLength l)) whole h
+
+  pub section-fault : {f : Refusal} → r ≡ number.Fault f → WordsRead s start at done left (place.Fault f)
+  section-fault {f} e =
+      let g : wordLength (drop at s) ≡ fault (refusalOf f) = refused number-shape (at + length (drop at s)) (wordLength (drop at s)) h′ e in
+      record { means = λ ws p. rw (words-fault left (seenAfter ws coreWords) (drop at s) some g) (ap place.Fault (sym (case-back f))) }
+
+  module _ {n : ℕ} {past : Cursor} (e : r ≡ number.Read n past) where
+    T : Took at (drop at s) (wordLength (drop at s)) n (past .at)
+    T = took number-shape h′ e (length-tail (drop at s))
+
+    there : wordLength (drop at s) ≡ got n (drop (past .at) s)
+    there =
+        let d : at + (past .at - at) ≡ past .at = omega (arith, T .moved) in
+        T .is ∙ ap (got n) (drop-drop (past .at - at) at s ∙ ap (λ (k : ℕ). drop k s) d)
+
+    within : past .at ≤ length s
+    within = omega (arith, T .within, at-end)
+
+    pub section-end-fits : Fits w64 (past .at + n)
+    section-end-fits = omega (arith, within, m .small, length-most (drop at s) there)
+
+    pub section-short : {to : ℕ} → to ≡ past .at + n → length s < to → WordsRead s start at done left (place.Fault Layout)
+    section-short q l =
+        let d = length-drop (past .at) s in
+        let k : length (drop (past .at) s) < n = omega (arith, within) in
+        record { means = λ ws p. rw (words-short left (seenAfter ws coreWords) (drop at s) some there k) refl }
+
+    module _ {to : ℕ} (ends : to ≡ past .at + n) (fits : to ≤ length s) {b : Bool}
+        (hb : Stands (take (length s - start) (drop start s)) done (take (to - past .at) (drop (past .at) s)) b) where
+      long : n ≤ length (drop (past .at) s)
+      long = rw length-drop (omega arith)
+
+      judged : (ws : List (List ℕ)) → Passed done ws (drop start s) (drop at s) → b ≡ mayStand (take n (drop (past .at) s)) (seenAfter ws coreWords)
+      judged ws p =
+          let section : take (length s - start) (drop start s) ≡ drop start s = take-all (length s - start) (drop start s) (rw length-drop (le-refl (length s - start))) in
+          hb .means ws (drop at s) (subst (λ (l : List ℕ). Passed done ws l (drop at s)) (sym section) p)
+          ∙ ap (λ (w : List ℕ). mayStand w (seenAfter ws coreWords)) (part (past .at) to s n ends)
+
+      pub section-bad : b ≡ false → WordsRead s start at done left (place.Fault Layout)
+      section-bad e′ = record { means = λ ws p. rw (words-bad left (seenAfter ws coreWords) (drop at s) some there long (sym (judged ws p) ∙ e′)) refl }
+
+      pub section-good : {x : Place} → b ≡ true → WordsRead s start to (done + 1) (left - 1) x → WordsRead s start at done left x
+      section-good {x} e′ w = record {
+        means = λ ws p.
+            let rest : drop n (drop (past .at) s) ≡ drop to s = drop-drop n (past .at) s ∙ ap (λ (k : ℕ). drop k s) (sym ends) in
+            let p′ : Passed (suc done) (ws ++ (take n (drop (past .at) s) ∷ [])) (drop start s) (drop to s) = subst (λ (l : List ℕ). Passed (suc done) (ws ++ (take n (drop (past .at) s) ∷ [])) (drop start s) l) rest (passed-more p there long) in
+            let a = w .means (ws ++ (take n (drop (past .at) s) ∷ [])) (subst (λ (k : ℕ). Passed k (ws ++ (take n (drop (past .at) s) ∷ [])) (drop start s) (drop to s)) (sym (add-one done)) p′) in
+            let g = words-good left (seenAfter ws coreWords) (drop at s) some there long (sym (judged ws p) ∙ e′) in
+            a
+            ∙ ap (λ (seen : List (List ℕ)). placeAt (length s) (readWords (left - 1) seen (drop to s))) (seen-more ws coreWords (take n (drop (past .at) s)))
+            ∙ ap (λ (l : List ℕ). placeAt (length s) (readWords (left - 1) (take n (drop (past .at) s) ∷ seenAfter ws coreWords) l)) (sym rest)
+            ∙ sym (ap (λ (q : Read (Unit {0})). answerAt placed place.Fault (length s) q) g);
+      }
+
+pub ruleset section-laws = (words-none, section-end-fits, section-fault, section-short, section-bad, section-good)
+
+pub ruleset section = (section-laws, length-tail, answering, one-less)
