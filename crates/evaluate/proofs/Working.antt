@@ -116,10 +116,10 @@ module _ {l : List ℕ} {s u : State} {p x y z : ℕ} {g : Charged} (r : ReadyPr
                   ∙ ap (λ (i : ℕ). no tooDeep i) (sym left-is));
             }
 
-        pub primitive-done : {s1 : State} → ex .nesting ≤ 64 → s1 ≡ raisedTo (j .top) u → DoesPrimitive l l1 s p x y z (Done (record { at = j .at; state = s1 }))
+        pub primitive-done : ex .nesting ≤ 64 → DoesPrimitive l l1 s p x y z (Done (record { at = j .at; state = raisedTo (j .top) u }))
         unfolding primitiveOf orWrongKind madeTree mostNesting
-        primitive-done {s1} n z1 =
-            rw z1 (record {
+        primitive-done n =
+            record {
               means = λ b ts a c.
                   let v = on-piece (worked .means ts a c) k in
                   let flat : tnesting (v .value) ≤ 64 = omega (arith, n, f .means (j .top) (v .value) (v .shown) .nesting) in
@@ -134,6 +134,6 @@ module _ {l : List ℕ} {s u : State} {p x y z : ℕ} {g : Charged} (r : ReadyPr
                     shown = v .shown;
                     later = record { kept = v .kept; grows = v .grows; fits = omega (arith, v .fits, left-is, went .enough); spent = omega (arith, left-is) };
                   });
-            })
+            }
 
 pub ruleset working = (primitive-stops, primitive-able, primitive-wrong, primitive-seen, primitive-deep, primitive-done)

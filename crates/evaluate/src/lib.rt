@@ -154,19 +154,19 @@ fn arguments(table: &mut [u32], s: State, c: u32, left: u32) -> Gathered
             state: s,
         });
     }
-    let cell = table::get_cell(table, c);
-    match evaluate(table, s, cell.head, left) {
+    let place = table::get_cell(table, c);
+    match evaluate(table, s, place.head, left) {
         Answer::Refused(e) => Gathered::Refused(e),
-        Answer::Done(o) => {
-            let s1 = o.state;
-            match arguments(table, s1, cell.tail, left) {
+        Answer::Done(first) => {
+            let s1 = first.state;
+            match arguments(table, s1, place.tail, left) {
                 Gathered::Refused(e) => Gathered::Refused(e),
-                Gathered::All(v) => {
-                    let s2 = v.state;
+                Gathered::All(others) => {
+                    let s2 = others.state;
                     Gathered::All(Values {
-                        x: o.at,
-                        y: v.x,
-                        z: v.y,
+                        x: first.at,
+                        y: others.x,
+                        z: others.y,
                         state: s2,
                     })
                 }
@@ -219,20 +219,21 @@ fn apply_primitive(table: &mut [u32], s: State, p: u32, x: u32, y: u32, z: u32) 
 {
     match s.charge(1) {
         Charged::Refused(e) => Answer::Refused(e),
-        Charged::Paid(t) => match primitives::primitive(table, t.top, p, x, y, z) {
+        Charged::Paid(u) => match primitives::primitive(table, u.top, p, x, y, z) {
             Part::Wrong => Answer::Refused(Stop {
                 refusal: Refusal::WrongArgument,
-                units: t.units,
+                units: u.units,
             }),
             Part::Piece(m) => {
+                let mut s1 = u;
+                s1.top = m.top;
                 let e = things::measure(table, m.at);
                 if State::MOST_NESTING < e.nesting {
                     return Answer::Refused(Stop {
                         refusal: Refusal::TooDeep,
-                        units: t.units,
+                        units: s1.units,
                     });
                 }
-                let s1 = t.raised(m.top);
                 Answer::Done(Out {
                     at: m.at,
                     state: s1,

@@ -9,8 +9,8 @@ charge-requires c κs = search (working, needs)
 enum-known-e : tie.Need-enum-known-e
 enum-known-e c = search (working, needs)
 
-enum-known-t : tie.Need-enum-known-t
-enum-known-t c = search (working, needs)
+enum-known-u : tie.Need-enum-known-u
+enum-known-u c = search (working, needs)
 
 primitive-requires : tie.Need-primitive-requires
 primitive-requires c κs = search (working, needs)
@@ -29,9 +29,6 @@ same-length c = search (working, needs)
 
 returns : tie.Need-returns
 returns c = search (working, needs)
-
-raised-requires : tie.Need-raised-requires
-raised-requires c κs = search (working, needs)
 
 returns-2 : tie.Need-returns-2
 returns-2 c = search (working, needs)
@@ -54,14 +51,13 @@ apply-primitive-spec =
     (tie.spec
     charge-requires
     enum-known-e
-    enum-known-t
+    enum-known-u
     primitive-requires
     enum-told
     enum-known-m
     measure-requires
     same-length
     returns
-    raised-requires
     returns-2
     same-length-2
     returns-3

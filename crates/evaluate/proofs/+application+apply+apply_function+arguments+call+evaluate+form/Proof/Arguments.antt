@@ -23,8 +23,8 @@ module _ (t : ℕ) where
   enum-known-e : lts.Need-enum-known-e env (arguments-at t) arguments.Post
   enum-known-e c = search (laws, needs)
 
-  enum-known-o : lts.Need-enum-known-o env (arguments-at t) arguments.Post
-  enum-known-o c = search (laws, needs)
+  enum-known-first : lts.Need-enum-known-first env (arguments-at t) arguments.Post
+  enum-known-first c = search (laws, needs)
 
   arguments-requires : lts.Need-arguments-requires env (arguments-at t) arguments.Post
   arguments-requires c κs = search (laws, needs)
@@ -32,8 +32,8 @@ module _ (t : ℕ) where
   enum-known-e-2 : lts.Need-enum-known-e-2 env (arguments-at t) arguments.Post
   enum-known-e-2 c = search (laws, needs)
 
-  enum-known-v : lts.Need-enum-known-v env (arguments-at t) arguments.Post
-  enum-known-v c = search (laws, needs)
+  enum-known-others : lts.Need-enum-known-others env (arguments-at t) arguments.Post
+  enum-known-others c = search (laws, needs)
 
   same-length : lts.Need-same-length env (arguments-at t) arguments.Post
   same-length c = search (laws, needs)
@@ -59,10 +59,10 @@ module _ (t : ℕ) where
       get-cell-requires
       evaluate-requires
       enum-known-e
-      enum-known-o
+      enum-known-first
       arguments-requires
       enum-known-e-2
-      enum-known-v
+      enum-known-others
       same-length
       returns-2
       same-length-2
