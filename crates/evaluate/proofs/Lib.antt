@@ -5,3 +5,4 @@ pub mod Functions
 pub mod Working
 pub mod Uses
 pub mod Laws
+pub mod Witness
