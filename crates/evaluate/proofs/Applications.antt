@@ -2,42 +2,41 @@
 use mathlib.Core.Path.{_≡_, refl, sym, ap, _∙_}
 use mathlib.Core.List.{List, []}
 use mathlib.Core.Bool.{Bool, true, false}
-use Prim.Native.Nat.{ℕ, zero, suc, _+_, _-_, _*_, _≤_, _<_, min}
+use Prim.Native.Nat.{ℕ, suc, _+_, _-_, _*_, _≤_, _<_}
 use native.Mathlib.Omega.{arith}
 use lib.ListN.{length}
-use Rattle.refusals.specs.declared.Refusal.the-variants.{Unowned, NotApplicable, WrongArgument, TooDeep}
+use Rattle.refusals.specs.declared.Refusal.the-variants.{NotApplicable}
 use Rattle.steps.specs.declared.State.{State}
 use Rattle.steps.specs.declared.Stop.{Stop}
 use Rattle.steps.specs.declared.Out.{Out}
 use Rattle.steps.specs.declared.Answer.{Answer}
 use Rattle.steps.specs.declared.Answer.the-variants.{Done, Refused}
-use Rattle.steps.specs.declared.Charged.{Charged}
-use Rattle.steps.specs.States.{Store, stateOf, paid, raisedTo, chargeOf, enterOf, end, Room}
-use Rattle.steps.specs.Agreement.{Later, Ready, placed, ended, Gave, Agrees, gives, stops}
+use Rattle.steps.specs.States.{stateOf}
+use Rattle.steps.specs.Agreement.{Ready, ended, gives, stops}
 use borrow.Author.Tests.{eqb-true}
 use Rattle.model.specs.Objects as objects
 use Rattle.model.specs.Objects.{contentOf}
 use Rattle.model.specs.Refusals.{notApplicable}
 use Rattle.model.specs.Steps as m
 use Rattle.model.specs.Steps.{ok, no, after, Step}
-use Rattle.model.specs.Trees.{Tree, Trees, tnil, tcons, tcount, app, fun, datum}
+use Rattle.model.specs.Trees.{Tree, Trees, tnil, tcons, tcount, fun, datum}
 use Rattle.model.specs.Evaluating.{evaluate, evalEntry, eachTree, apply, applicable, arity, argument}
 use Rattle.table.specs.Tags.{functionTag}
-use Rattle.table.specs.Words.{getNode, getBody, getCell, Same}
+use Rattle.table.specs.Words.{getNode, getBody, getCell}
 use Rattle.table.specs.declared.Node.{Node}
 use Rattle.table.specs.declared.Body.{Body}
 use Rattle.table.specs.declared.Cell.{Cell}
 use Rattle.things.specs.Rep.{Rep, RepP, is-var, is-app, is-fun, is-lst, is-datum, is-atom, is-list}
 use Rattle.things.proofs.Frame.{below, carry, carryP}
 use Rattle.things.proofs.ByTag.{tag-is, content-is, fun-at, cons-at, part-at, none-at}
-use Rattle.primitives.specs.Working.{Given, no-more, one-more}
+use Rattle.primitives.specs.Working.{no-more, one-more}
 use Rattle.primitives.proofs.Choosing.{given-1}
 use Rattle.steps.proofs.Laws.{later-refl, later-trans, room-later, on-done, on-refused, since, then-ok, then-no, unless-ok, unless-no}
 use Rattle.evaluate.specs.declared.Values.{Values}
 use Rattle.evaluate.specs.declared.Gathered.{Gathered}
 use Rattle.evaluate.specs.declared.Gathered.the-variants as all
 use Rattle.evaluate.specs.Testing.{Sought, TestedP}
-use Rattle.evaluate.specs.Evaluation.{ReadyApplication, ReadyCall, ReadyApply, ReadyFunction, ReadyPrimitive, callOf, functionOf, primitiveOf, valued, gathered, Evaluates, Applies, Calls, Gathers, Does, DoesFunction, DoesPrimitive}
+use Rattle.evaluate.specs.Evaluation.{ReadyApplication, ReadyCall, ReadyApply, ReadyFunction, ReadyPrimitive, callOf, functionOf, primitiveOf, gathered, Evaluates, Applies, Calls, Gathers, Does, DoesFunction, DoesPrimitive}
 
 -- ---- application
 

@@ -1,28 +1,26 @@
 -- One entry: evaluate and form.
-use mathlib.Core.Path.{_≡_, refl, sym, ap, _∙_}
-use mathlib.Core.List.{List, []}
-use mathlib.Core.Bool.{Bool, true, false}
-use Prim.Native.Nat.{ℕ, zero, suc, _+_, _-_, _*_, _≤_, _<_, min}
+use mathlib.Core.Path.{_≡_, refl, sym, ap}
+use mathlib.Core.List.{List}
+use Prim.Native.Nat.{ℕ, _+_, _-_, _*_, _≤_, _<_}
 use native.Mathlib.Omega.{arith}
 use lib.ListN.{length}
-use Rattle.refusals.specs.declared.Refusal.the-variants.{Unowned, NotApplicable, WrongArgument, TooDeep}
+use Rattle.refusals.specs.declared.Refusal.the-variants.{Unowned}
 use Rattle.steps.specs.declared.State.{State}
 use Rattle.steps.specs.declared.Stop.{Stop}
-use Rattle.steps.specs.declared.Out.{Out}
 use Rattle.steps.specs.declared.Answer.{Answer}
 use Rattle.steps.specs.declared.Answer.the-variants.{Done, Refused}
 use Rattle.steps.specs.declared.Charged.{Charged}
 use Rattle.steps.specs.declared.Charged.the-variants as charged
-use Rattle.steps.specs.States.{Store, stateOf, paid, raisedTo, chargeOf, enterOf, end, Room}
-use Rattle.steps.specs.Agreement.{Later, Ready, placed, ended, Gave, Agrees, gives, stops}
+use Rattle.steps.specs.States.{stateOf, enterOf}
+use Rattle.steps.specs.Agreement.{Ready, gives, stops}
 use Rattle.model.specs.Steps as m
-use Rattle.model.specs.Steps.{ok, no, Step}
-use Rattle.model.specs.Trees.{Tree, Trees, var, app}
+use Rattle.model.specs.Steps.{ok, Step}
+use Rattle.model.specs.Trees.{Tree}
 use Rattle.model.specs.Evaluating.{evaluate, evalEntry}
 use Rattle.table.specs.Tags.{variableTag, applicationTag}
 use Rattle.table.specs.Words.{getNode}
 use Rattle.table.specs.declared.Node.{Node}
-use Rattle.things.specs.Rep.{Rep, RepP, is-var, is-app, is-fun, is-lst, is-datum, is-atom, is-list}
+use Rattle.things.specs.Rep.{Rep, is-var, is-app, is-fun, is-lst, is-datum, is-atom, is-list}
 use Rattle.things.proofs.Frame.{below}
 use Rattle.things.proofs.ByTag.{tag-is, var-at, app-at}
 use Rattle.steps.proofs.Laws.{Entry, entry-refused, entry-goes, enter-left, enter-went, later-refl, later-paid, ready-paid, since}

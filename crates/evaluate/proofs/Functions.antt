@@ -1,20 +1,18 @@
 -- apply_function: the charge, the substitution, the test of its nesting, and the entry for the result.
-use mathlib.Core.Path.{_≡_, refl, sym, ap, _∙_}
-use mathlib.Core.List.{List, []}
-use mathlib.Core.Bool.{Bool, true, false}
-use Prim.Native.Nat.{ℕ, zero, suc, _+_, _-_, _*_, _≤_, _<_, min}
+use mathlib.Core.Path.{_≡_, ap, _∙_}
+use mathlib.Core.List.{List}
+use Prim.Native.Nat.{ℕ, _+_, _-_, _*_, _≤_, _<_, min}
 use native.Mathlib.Omega.{arith}
 use lib.ListN.{length}
-use Rattle.refusals.specs.declared.Refusal.the-variants.{Unowned, NotApplicable, WrongArgument, TooDeep}
+use Rattle.refusals.specs.declared.Refusal.the-variants.{TooDeep}
 use Rattle.steps.specs.declared.State.{State}
 use Rattle.steps.specs.declared.Stop.{Stop}
-use Rattle.steps.specs.declared.Out.{Out}
 use Rattle.steps.specs.declared.Answer.{Answer}
-use Rattle.steps.specs.declared.Answer.the-variants.{Done, Refused}
+use Rattle.steps.specs.declared.Answer.the-variants.{Refused}
 use Rattle.steps.specs.declared.Charged.{Charged}
 use Rattle.steps.specs.declared.Charged.the-variants as charged
-use Rattle.steps.specs.States.{Store, stateOf, paid, raisedTo, chargeOf, enterOf, end, Room}
-use Rattle.steps.specs.Agreement.{Later, Ready, placed, ended, Gave, Agrees, gives, stops}
+use Rattle.steps.specs.States.{stateOf, paid, raisedTo, chargeOf, Room}
+use Rattle.steps.specs.Agreement.{Later, Ready, stops}
 use borrow.Author.Tests.{le-leb, lt-leb}
 use Rattle.model.specs.Limits.{mostNesting}
 use Rattle.model.specs.Refusals.{tooDeep}

@@ -2,20 +2,19 @@
 use mathlib.Core.Path.{_≡_, refl, sym, ap, _∙_}
 use mathlib.Core.List.{List}
 use mathlib.Core.Bool.{Bool, true, false}
-use Prim.Native.Nat.{ℕ, zero, suc, _+_, _-_, _^_, _≤_, _<_, min}
+use Prim.Native.Nat.{ℕ, suc, _+_, _-_, _^_, _≤_, _<_, min}
 use native.Mathlib.Omega.{arith}
 use borrow.Author.Tests.{eqb-true, eqb-false, eq-eqb, ne-eqb}
-use lib.ListN.{length}
 use lib.Dec.{eqb}
 use Rattle.model.specs.Objects as m
 use Rattle.model.specs.Objects.{tagOf, contentOf}
-use Rattle.model.specs.Trees.{Tree, Trees, tnil, tcons, tcount, var, app, fun, datum, lst, stx}
+use Rattle.model.specs.Trees.{Tree, tcount, var, app, fun, datum, lst, stx}
 use Rattle.model.specs.Evaluating.{applicable, arity}
 use Rattle.table.specs.Tags.{functionTag, primitiveValueTag}
 use Rattle.table.specs.Words.{getNode, getCell}
 use Rattle.table.specs.declared.Node.{Node}
 use Rattle.table.specs.declared.Cell.{Cell}
-use Rattle.things.specs.Rep.{Rep, RepP, is-var, is-app, is-fun, is-lst, is-datum, is-atom, is-list}
+use Rattle.things.specs.Rep.{Rep, is-var, is-app, is-fun, is-lst, is-datum, is-atom, is-list}
 use Rattle.things.specs.Measuring.{Seen, SeenP}
 use Rattle.things.proofs.ByTag.{tag-low, tag-is, content-is, fun-at, part-at, none-at}
 use Rattle.things.proofs.Measuring.{cell-inside, node-inside}

@@ -1,11 +1,11 @@
 -- apply_value and call_one.
-use mathlib.Core.Path.{_≡_, refl, sym, ap, _∙_}
+use mathlib.Core.Path.{_≡_, sym, ap, _∙_}
 use mathlib.Core.List.{List, []}
 use mathlib.Core.Bool.{Bool, true, false}
-use Prim.Native.Nat.{ℕ, zero, suc, _+_, _-_, _*_, _≤_, _<_, min}
+use Prim.Native.Nat.{ℕ, _-_, _≤_}
 use native.Mathlib.Omega.{arith}
 use lib.ListN.{length}
-use Rattle.refusals.specs.declared.Refusal.the-variants.{Unowned, NotApplicable, WrongArgument, TooDeep}
+use Rattle.refusals.specs.declared.Refusal.the-variants.{NotApplicable}
 use Rattle.steps.specs.declared.State.{State}
 use Rattle.steps.specs.declared.Stop.{Stop}
 use Rattle.steps.specs.declared.Out.{Out}
@@ -13,11 +13,11 @@ use Rattle.steps.specs.declared.Answer.{Answer}
 use Rattle.steps.specs.declared.Answer.the-variants.{Done, Refused}
 use Rattle.steps.specs.declared.Charged.{Charged}
 use Rattle.steps.specs.declared.Charged.the-variants as charged
-use Rattle.steps.specs.States.{Store, stateOf, paid, raisedTo, chargeOf, enterOf, end, Room}
-use Rattle.steps.specs.Agreement.{Later, Ready, placed, ended, Gave, Agrees, gives, stops}
+use Rattle.steps.specs.States.{stateOf, enterOf}
+use Rattle.steps.specs.Agreement.{Ready, ended, stops}
 use Rattle.model.specs.Refusals.{notApplicable}
-use Rattle.model.specs.Trees.{Tree, tnil, tcons, tcount, app}
-use Rattle.model.specs.Evaluating.{evaluate, evalEntry, eachTree, applicable}
+use Rattle.model.specs.Trees.{tnil, tcons, tcount, app}
+use Rattle.model.specs.Evaluating.{evalEntry, eachTree}
 use Rattle.things.specs.Rep.{Rep}
 use Rattle.things.specs.Measuring.{Seen}
 use Rattle.things.proofs.Frame.{carry}

@@ -1,27 +1,24 @@
 -- apply_primitive: the charge of one unit, then the arguments' kinds, then the nesting of what was made.
 use mathlib.Core.Path.{_≡_, refl, sym, ap, _∙_}
-use mathlib.Core.List.{List, []}
-use mathlib.Core.Bool.{Bool, true, false}
-use Prim.Native.Nat.{ℕ, zero, suc, _+_, _-_, _*_, _≤_, _<_, min}
+use mathlib.Core.List.{List}
+use Prim.Native.Nat.{ℕ, _+_, _-_, _≤_, _<_}
 use native.Mathlib.Omega.{arith}
 use lib.ListN.{length}
-use Rattle.refusals.specs.declared.Refusal.the-variants.{Unowned, NotApplicable, WrongArgument, TooDeep}
+use Rattle.refusals.specs.declared.Refusal.the-variants.{WrongArgument, TooDeep}
 use Rattle.steps.specs.declared.State.{State}
 use Rattle.steps.specs.declared.Stop.{Stop}
-use Rattle.steps.specs.declared.Out.{Out}
-use Rattle.steps.specs.declared.Answer.{Answer}
 use Rattle.steps.specs.declared.Answer.the-variants.{Done, Refused}
 use Rattle.steps.specs.declared.Charged.{Charged}
 use Rattle.steps.specs.declared.Charged.the-variants as charged
-use Rattle.steps.specs.States.{Store, stateOf, paid, raisedTo, chargeOf, enterOf, end, Room}
-use Rattle.steps.specs.Agreement.{Later, Ready, placed, ended, Gave, Agrees, gives, stops}
+use Rattle.steps.specs.States.{stateOf, paid, raisedTo, chargeOf}
+use Rattle.steps.specs.Agreement.{gives, stops}
 use mathlib.Core.Option.{Option, none, some}
 use borrow.Author.Tests.{le-leb, lt-leb}
 use Rattle.model.specs.Limits.{mostNesting}
 use Rattle.model.specs.Refusals.{wrongArgument, tooDeep}
 use Rattle.model.specs.Steps as m
 use Rattle.model.specs.Steps.{ok, no, madeTree}
-use Rattle.model.specs.Trees.{Tree, Trees, tcount, tnesting}
+use Rattle.model.specs.Trees.{Tree, tnesting}
 use Rattle.model.specs.Evaluating.{orWrongKind}
 use Rattle.table.specs.Words.{Same}
 use Rattle.things.specs.Rep.{Rep}

@@ -1,8 +1,8 @@
 -- same and pick: one law for each way out.
 use mathlib.Core.Path.{_≡_, refl, sym, ap, _∙_}
 use mathlib.Core.List.{List}
-use mathlib.Core.Bool.{Bool, true, false, _&&_}
-use mathlib.Core.Option.{Option, none, some}
+use mathlib.Core.Bool.{Bool, _&&_}
+use mathlib.Core.Option.{none, some}
 use Prim.Native.Nat.{ℕ, zero, suc, _+_, _≤_, _<_}
 use native.Mathlib.Omega.{arith}
 use borrow.Author.Tests.{eq-eqb, ne-eqb}
@@ -20,8 +20,7 @@ use Rattle.things.specs.Making.{Stored}
 use Rattle.things.specs.declared.Made.{Made}
 use Rattle.things.proofs.ByTag.{tag-is, datum-at}
 use Rattle.things.proofs.Making.{made-datum}
-use Rattle.primitives.specs.Working.{Ready, wrong, Does2, Does3, same, pick, agreed}
-use Rattle.primitives.specs.declared.Part.{Part}
+use Rattle.primitives.specs.Working.{wrong, Does2, Does3, same, pick, agreed}
 use Rattle.primitives.specs.declared.Part.the-variants.{Wrong, Piece}
 use Rattle.primitives.proofs.Common.{room-8, read-inside, found, added, given-none}
 

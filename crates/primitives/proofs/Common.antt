@@ -2,7 +2,7 @@
 use mathlib.Core.Path.{_≡_, refl, _∙_}
 use mathlib.Core.List.{List}
 use mathlib.Core.Option.{Option, none, some}
-use Prim.Native.Nat.{ℕ, _+_, _≤_, _<_}
+use Prim.Native.Nat.{ℕ, _+_, _≤_}
 use native.Mathlib.Omega.{arith}
 use lib.ListN.{length}
 use Rattle.model.specs.Choice.{given}
@@ -13,9 +13,8 @@ use Rattle.things.specs.Rep.{Rep}
 use Rattle.things.specs.Making.{Roomy, Stored}
 use Rattle.things.specs.declared.Made.{Made}
 use Rattle.things.proofs.Frame.{below}
-use Rattle.primitives.specs.Working.{Ready, Pieced, wrong, piece}
-use Rattle.primitives.specs.declared.Part.{Part}
-use Rattle.primitives.specs.declared.Part.the-variants.{Wrong, Piece}
+use Rattle.primitives.specs.Working.{Ready, Pieced, piece}
+use Rattle.primitives.specs.declared.Part.the-variants.{Piece}
 
 pub room-8 : {l : List ℕ} {top x : ℕ} → Ready l top x → Roomy l top 8
 room-8 r = record { fits = omega (arith, r .room .fits); small = r .room .small; low = r .room .low }

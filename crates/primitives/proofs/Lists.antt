@@ -1,24 +1,23 @@
 -- first, rest and link: one law for each way out.
-use mathlib.Core.Path.{_≡_, refl, sym, ap, _∙_}
+use mathlib.Core.Path.{_≡_, refl, ap, _∙_}
 use mathlib.Core.List.{List}
-use mathlib.Core.Option.{Option, none, some}
+use mathlib.Core.Option.{none}
 use Prim.Native.Nat.{ℕ, _+_, _≤_}
 use native.Mathlib.Omega.{arith}
 use lib.ListN.{length}
-use Rattle.model.specs.Trees.{Tree, Trees, tcons, lst, asList}
+use Rattle.model.specs.Trees.{Tree, tcons, lst, asList}
 use Rattle.model.specs.Evaluating.{primitive, firstOf, restOf}
 use Rattle.table.specs.Tags.{listValueTag}
 use Rattle.table.specs.Words.{getNode, getCell}
 use Rattle.table.specs.declared.Node.{Node}
 use Rattle.table.specs.declared.Cell.{Cell}
 use Rattle.table.proofs.Laws.{same-trans}
-use Rattle.things.specs.Rep.{Rep, RepP, is-var, is-app, is-fun, is-lst, is-datum, is-atom, is-list}
+use Rattle.things.specs.Rep.{Rep, is-var, is-app, is-fun, is-lst, is-datum, is-atom, is-list}
 use Rattle.things.specs.Making.{Roomy, Stored, Linkable, Linked}
 use Rattle.things.specs.declared.Made.{Made}
 use Rattle.things.proofs.ByTag.{tag-is, lst-at, part-at, none-at}
 use Rattle.things.proofs.Making.{made-lst}
 use Rattle.primitives.specs.Working.{Ready, wrong, piece, Does1, Does2, first, rest, linked}
-use Rattle.primitives.specs.declared.Part.{Part}
 use Rattle.primitives.specs.declared.Part.the-variants.{Wrong, Piece}
 use Rattle.primitives.proofs.Common.{room-8, read-inside, found, added}
 

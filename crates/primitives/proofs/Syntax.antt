@@ -1,5 +1,5 @@
 -- stx-e and mk-stx: one law for each way out.
-use mathlib.Core.Path.{_≡_, refl, sym, ap, _∙_}
+use mathlib.Core.Path.{_≡_, refl, ap, _∙_}
 use mathlib.Core.List.{List}
 use mathlib.Core.Bool.{Bool, true, false}
 use mathlib.Core.Option.{Option, none, some}
@@ -26,7 +26,6 @@ use Rattle.things.proofs.ByTag.{tag-low, tag-is, lst-at, datum-at, atom-at, lis
 use Rattle.things.proofs.Making.{made-lst, made-datum, made-atom, made-list}
 use Rattle.things.proofs.Measuring.{cell-inside}
 use Rattle.primitives.specs.Working.{Ready, wrong, Does1, Does2, stxE, mkStx, Opened, all, other, AllSyntax}
-use Rattle.primitives.specs.declared.Part.{Part}
 use Rattle.primitives.specs.declared.Part.the-variants.{Wrong, Piece}
 use Rattle.primitives.proofs.Common.{room-8, read-inside, added, renamed}
 

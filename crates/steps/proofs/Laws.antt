@@ -6,20 +6,19 @@ use Prim.Native.Nat.{ℕ, zero, suc, _+_, _-_, _*_, _≤_, _<_}
 use native.Mathlib.Omega.{arith}
 use borrow.Author.Tests.{ltb-true, ltb-false, ne-eqb, le-leb, lt-leb}
 use lib.ListN.{length}
-use lib.Dec.{eqb, ltb, leb}
+use lib.Dec.{ltb}
 use Rattle.model.specs.Choice.{if_then_else_}
 use Rattle.model.specs.Refusals as r
 use Rattle.model.specs.Steps as m
 use Rattle.model.specs.Steps.{ok, no, after, Step, charge, unless}
 use Rattle.refusals.specs.Refusing.{refusalOf}
 use Rattle.refusals.specs.declared.Refusal.the-variants.{TooManyEntries, OverBudget}
-use Rattle.table.specs.Words.{Same}
 use Rattle.table.proofs.Laws.{same-refl, same-trans}
 use Rattle.steps.specs.declared.State.{State}
 use Rattle.steps.specs.declared.Stop.{Stop}
 use Rattle.steps.specs.declared.Charged.{Charged}
 use Rattle.steps.specs.declared.Charged.the-variants.{Paid, Refused}
-use Rattle.steps.specs.States.{Store, stateOf, stopOf, paid, raisedTo, chargeOf, enterOf, end, Room}
+use Rattle.steps.specs.States.{Store, stateOf, stopOf, paid, chargeOf, enterOf, Room}
 use Rattle.steps.specs.Agreement.{Later, Ready, Shape, Ended, done, refused, Gave, Agrees, gives, stops}
 
 -- ---- the code's charge

@@ -1,6 +1,5 @@
 -- The code's state as the rules' state, and what the code's charges do to it.
 use mathlib.Core.List.{List}
-use mathlib.Core.Bool.{Bool, true, false}
 use Prim.Native.Nat.{ℕ, _+_, _-_, _*_, _≤_}
 use lib.ListN.{length}
 use lib.Dec.{eqb, ltb}

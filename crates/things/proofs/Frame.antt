@@ -1,12 +1,11 @@
 -- What stands in the table stands there still when the table has grown.
-use mathlib.Core.Path.{_≡_, refl, sym, ap, _∙_}
+use mathlib.Core.Path.{_≡_, ap, _∙_}
 use mathlib.Core.List.{List}
 use Prim.Native.Nat.{ℕ, _+_, _≤_, _<_}
 use native.Mathlib.Omega.{arith}
 use Rattle.model.specs.Objects as m
 use Rattle.model.specs.Trees.{Tree, Trees, tnesting, tnestings}
 use Rattle.table.specs.Words.{getNode, getSets, Same}
-use Rattle.table.specs.declared.Sets.{Sets}
 use Rattle.table.proofs.Laws.{getNode-same, getSets-same, getBody-same, getCell-same, same-under}
 use Rattle.things.specs.Rep.{Rep, RepP, is-var, is-app, is-fun, is-lst, is-datum, is-atom, is-list, is-none, is-part, setsOf}
 use Rattle.things.proofs.Weighing.{nest-from}

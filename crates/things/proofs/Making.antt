@@ -1,14 +1,14 @@
 -- Making: one law for each way out, and what a stored node stands for.
-use mathlib.Core.Path.{_≡_, refl, sym, ap, _∙_}
+use mathlib.Core.Path.{_≡_, refl, ap, _∙_}
 use mathlib.Core.List.{List}
 use Prim.Native.Nat.{ℕ, _+_, _^_, _≤_, _<_, min, max}
 use native.Mathlib.Omega.{arith}
 use lib.ListN.{length}
 use Rattle.model.specs.Objects as m
 use Rattle.model.specs.Objects.{Atom, tagOf, contentOf, Stxs, atom, list}
-use Rattle.model.specs.Trees.{Tree, Trees, var, app, fun, datum, lst, stx, tcons, fromStxs, tsize, tnesting, tnestings}
+use Rattle.model.specs.Trees.{Tree, Trees, var, app, datum, lst, stx, tcons, fromStxs, tsize, tnesting, tnestings}
 use Rattle.table.specs.Tags.{listTag, variableTag, applicationTag, functionTag, listValueTag, atomValueTag}
-use Rattle.table.specs.Words.{getNode, getSets, getBody, getCell, putNode, putObject, putFunction, putCell, Same}
+use Rattle.table.specs.Words.{getNode, getBody, getCell, putNode, putObject, putFunction, putCell, Same}
 use Rattle.table.specs.declared.Node.{Node}
 use Rattle.table.specs.declared.Sets.{Sets}
 use Rattle.table.specs.declared.Object.{Object}
@@ -17,7 +17,7 @@ use Rattle.table.specs.declared.Cell.{Cell}
 use Rattle.table.proofs.Laws.{putNode-below, get-putNode, putObject-below, node-putObject, sets-putObject, putFunction-below, node-putFunction, body-putFunction, putCell-below, get-putCell}
 use Rattle.things.specs.Weights.{tsizes, weight, weights}
 use Rattle.things.specs.Rep.{Rep, RepP, is-var, is-app, is-fun, is-lst, is-datum, is-atom, is-list, is-part, setsOf}
-use Rattle.things.specs.Measuring.{Seen, SeenP, Extends, ExtendsP, Measured, MeasuredP}
+use Rattle.things.specs.Measuring.{Seen, SeenP, Measured, MeasuredP}
 use Rattle.things.specs.Making.{Roomy, Stored, StoredObject, Closable, Closed, Linkable, Linked}
 use Rattle.things.specs.declared.Extent.{Extent}
 use Rattle.things.proofs.Weighing.{size-cons, weight-cons, nest-cons}

@@ -1,23 +1,23 @@
 -- Measuring: one law for each way out.
-use mathlib.Core.Path.{_≡_, refl, sym, ap, _∙_}
+use mathlib.Core.Path.{_≡_, refl, sym}
 use mathlib.Core.List.{List}
-use Prim.Native.Nat.{ℕ, _+_, _^_, _≤_, _<_, min, max}
+use Prim.Native.Nat.{ℕ, _+_, _^_, _≤_, _<_, min}
 use native.Mathlib.Omega.{arith}
 use lib.ListN.{length}
 use Rattle.model.specs.Objects as m
-use Rattle.model.specs.Objects.{tagOf, atom, list}
-use Rattle.model.specs.Trees.{Tree, Trees, fun, tcons, fromStxs, tsize, tsizeBy, tsizesBy, tnesting, tnestings, app, lst, stx}
-use Rattle.table.specs.Tags.{listTag, variableTag, applicationTag, functionTag, listValueTag}
+use Rattle.model.specs.Objects.{list}
+use Rattle.model.specs.Trees.{Tree, fun, tcons, fromStxs, tsize, tsizeBy, tnesting, app, lst, stx}
+use Rattle.table.specs.Tags.{listTag, applicationTag, functionTag, listValueTag}
 use Rattle.table.specs.Words.{getNode, getBody, getCell}
 use Rattle.table.specs.declared.Node.{Node}
 use Rattle.table.specs.declared.Body.{Body}
 use Rattle.table.specs.declared.Cell.{Cell}
-use Rattle.things.specs.Weights.{tsizes, weight, weights}
-use Rattle.things.specs.Rep.{Rep, RepP, is-var, is-app, is-fun, is-lst, is-datum, is-atom, is-list}
-use Rattle.things.specs.Measuring.{Seen, SeenP, Extends, ExtendsP, ExtendsL, Measured, MeasuredP, MeasuredL}
+use Rattle.things.specs.Weights.{weight}
+use Rattle.things.specs.Rep.{Rep, is-var, is-app, is-fun, is-lst, is-datum, is-atom, is-list}
+use Rattle.things.specs.Measuring.{Seen, SeenP, Extends, Measured, MeasuredP, MeasuredL}
 use Rattle.things.specs.declared.Extent.{Extent}
 use Rattle.things.proofs.Weighing.{size-app, size-fun, size-lst, size-stx, size-none, nest-app, nest-fun, nest-lst, nest-list, nest-none, weight-app, weight-fun, weight-lst, weight-list, weight-none}
-use Rattle.things.proofs.Frame.{below, deep, deepP}
+use Rattle.things.proofs.Frame.{below, deepP}
 use Rattle.things.proofs.ByTag.{tag-low, tag-is, app-at, fun-at, lst-at, atom-at, list-at, part-at, none-at}
 
 -- ---- a chain

@@ -1,17 +1,15 @@
 -- An index of a table stands for one thing only.
 use mathlib.Core.Path.{_≡_, refl, sym, ap, ap₂, _∙_}
 use mathlib.Core.List.{List}
-use mathlib.Core.Option.{Option, some}
-use Prim.Native.Nat.{ℕ, zero, suc, _+_, _≤_}
+use mathlib.Core.Option.{some}
+use Prim.Native.Nat.{ℕ, zero, suc}
 use native.Mathlib.Omega.{arith}
 use Rattle.model.specs.Objects.{Atom, symbol, number, point, prim, rung, tagOf, contentOf, Stxs, nil, cons, atom, list}
-use Rattle.model.specs.Trees.{Tree, Trees, var, app, fun, datum, lst, stx, tnil, tcons, fromStxs, toStxs, asStx}
-use Rattle.table.specs.Tags.{listTag, atomValueTag}
-use Rattle.table.specs.Words.{getNode, getSets, getBody, getCell}
+use Rattle.model.specs.Trees.{Tree, Trees, var, app, fun, datum, lst, stx, tcons, fromStxs, toStxs, asStx}
 use Rattle.table.specs.declared.Node.{Node}
 use Rattle.table.specs.declared.Body.{Body}
 use Rattle.table.specs.declared.Cell.{Cell}
-use Rattle.things.specs.Rep.{Rep, RepP, is-var, is-app, is-fun, is-lst, is-datum, is-atom, is-list, is-none, is-part, setsOf}
+use Rattle.things.specs.Rep.{Rep, RepP, is-var, is-app, is-fun, is-lst, is-datum, is-atom, is-list, is-none, is-part}
 use Rattle.things.proofs.ByTag.{tag-low, var-at, app-at, fun-at, lst-at, datum-at, atom-at, list-at, part-at, none-at}
 
 -- ---- an atom is its tag and content

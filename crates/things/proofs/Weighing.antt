@@ -1,5 +1,5 @@
 -- Sizes, weights and nestings, by the outermost part.
-use mathlib.Core.Path.{_≡_, refl, sym, ap, _∙_}
+use mathlib.Core.Path.{_≡_, refl, ap}
 use Prim.Native.Nat.{ℕ, _+_, _≤_, max}
 use native.Mathlib.Omega.{arith}
 use Rattle.model.specs.Objects as m

@@ -1,14 +1,13 @@
 -- Substituting: one law for each way out.
 use mathlib.Core.Path.{_≡_, refl, sym, ap, _∙_}
 use mathlib.Core.List.{List}
-use Prim.Native.Nat.{ℕ, _+_, _*_, _^_, _≤_, _<_}
+use Prim.Native.Nat.{ℕ, _+_, _*_, _≤_, _<_}
 use native.Mathlib.Omega.{arith}
 use borrow.Author.Tests.{eq-eqb, ne-eqb}
 use lib.ListN.{length}
-use lib.Dec.{eqb}
-use Rattle.model.specs.Trees.{Tree, Trees, var, app, fun, lst, tnil, tcons, tsize, substitute, substituteAll}
+use Rattle.model.specs.Trees.{Tree, fun, tcons, tsize, substitute, substituteAll}
 use Rattle.table.specs.Tags.{variableTag, applicationTag, functionTag, listValueTag}
-use Rattle.table.specs.Words.{getNode, getBody, getCell, Same}
+use Rattle.table.specs.Words.{getNode, getBody, getCell}
 use Rattle.table.specs.declared.Node.{Node}
 use Rattle.table.specs.declared.Body.{Body}
 use Rattle.table.specs.declared.Cell.{Cell}
@@ -19,7 +18,7 @@ use Rattle.things.specs.Making.{Roomy, Stored, Closable, Closed, Linkable, Link
 use Rattle.things.proofs.Weighing.{size-app, size-fun, size-lst, size-none, size-cons, size-pos}
 use Rattle.things.proofs.Frame.{below, staysP, carry, carryP}
 use Rattle.things.proofs.ByTag.{tag-is, var-at, app-at, fun-at, lst-at, part-at, none-at}
-use Rattle.tree.specs.Substituting.{Ready, ReadyP, ReadyB, ReadyL, Substituted, SubstitutedP, SubstitutedB, SubstitutedL, Holds}
+use Rattle.tree.specs.Substituting.{Ready, ReadyP, ReadyB, ReadyL, Substituted, SubstitutedP, SubstitutedB, SubstitutedL}
 
 -- ---- substitute
 
