@@ -36,7 +36,7 @@ use Rattle.addresses.proofs.Costs.{Costs, charge-costs, costs-then, cos
 use Rattle.addresses.proofs.Shorter.{image-shorter}
 use Rattle.addresses.proofs.Results.{Expanded, Rise, rise-lower}
 use Rattle.addresses.proofs.ParseCharge.{parse-spends, cost-is-charge}
-use Rattle.addresses.proofs.Endings.{parseRoot-is, evaluateRoot-is, expandWork, parseWork, evaluateWork, expandEnding-is, parseEnding-is, evaluateEnding-is, expandJob-is, parseJob-is, evaluateJob-is, with-read, worked-ok, worked-no, fitted-is, lent-code, Ended, lent-ended}
+use Rattle.addresses.proofs.Endings.{parseRoot-is, evaluateRoot-is, expandWork, parseWork, evaluateWork, expandEnding-is, parseEnding-is, evaluateEnding-is, expandJob-is, parseJob-is, evaluateJob-is, with-read, worked-ok, worked-no, fitted-is, lent-code, Ended, lent-ended, take-whole}
 use Rattle.addresses.proofs.ExpandJob.{expand-root-good, outcome-ok, limits-kept, Fine, worked-fine, fitted-fine, lent-fine}
 
 -- ---- names that rise are all different, and none is below where they start
@@ -300,10 +300,6 @@ module _ (image : List ℕ) (is-bytes : Bytes image) (budget : ℕ) (b : List �
   }
 
 -- ---- the theorem
-
-take-whole : (b l : List ℕ) → take (length b) (b ++ l) ≡ b
-take-whole [] l = refl
-take-whole (n ∷ b) l = ap (λ (z : List ℕ). n ∷ z) (take-whole b l)
 
 pub one-name-one-address : (image : List ℕ) → Bytes image → (budget : ℕ) (table output : List ℕ)
     → (expandJob image 0 budget table output) .answer .code ≡ 0 → OneNameOneAddress image (imageWritten (expandJob image 0 budget table output))

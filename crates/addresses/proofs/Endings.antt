@@ -154,3 +154,9 @@ lent-ended budget table output e q = go (budgetFits budget (length table)) q
     go : (b : Bool) → (if b then went else small) .answer .code ≡ 0 → Ended e × ((if b then went else small) ≡ went)
     go true p = (ended-code e p, refl)
     go false p = absurd (code-some smallTable p)
+
+-- ---- the start of what was written over
+
+pub take-whole : (b l : List ℕ) → take (length b) (b ++ l) ≡ b
+take-whole [] l = refl
+take-whole (n ∷ b) l = ap (λ (z : List ℕ). n ∷ z) (take-whole b l)
