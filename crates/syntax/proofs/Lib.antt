@@ -1,5 +1,6 @@
 pub mod Sizes
 pub mod Working
 pub mod Rows
-pub mod Copying
+pub mod Reaching
 pub mod Whole
+pub mod Paying

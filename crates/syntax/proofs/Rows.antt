@@ -15,7 +15,8 @@ use Rattle.things.specs.Making.{Linkable, Linked}
 use Rattle.things.specs.declared.Extent.{Extent}
 use Rattle.things.proofs.Weighing.{size-stx, weight-stx}
 use Rattle.things.proofs.Frame.{up, stays}
-use Rattle.syntax.specs.Copying.{Copying, changing, stripping, copyOf, copiesOf, Laid, laid-none, laid-one, Sized, Row, Chained}
+use Rattle.syntax.specs.Reaching.{Copying, changing, stripping, copyOf, copiesOf}
+use Rattle.syntax.specs.Rows.{Laid, laid-none, laid-one, Sized, Row, Chained}
 use Rattle.syntax.proofs.Sizes.{size-pos, sizes-nil, sizes-cons, nestings-cons, size-onSets, size-strip, weight-strip}
 
 -- ---- what is copied, by the first part

@@ -17,7 +17,8 @@ use Rattle.things.specs.declared.Extent.{Extent}
 use Rattle.things.proofs.Weighing.{nest-stx, weights-from}
 use Rattle.things.proofs.ByTag.{tag-low}
 use Rattle.syntax.specs.Working.{sound-add, sound-flip, sound-prune, sound-strip, strips, setChangeBy, copyingOf}
-use Rattle.syntax.specs.Copying.{Copyable, Reached, Copied, Copying, copyOf, CopiedBy}
+use Rattle.syntax.specs.Copying.{Copyable, Copied}
+use Rattle.syntax.specs.Reaching.{Reached, Copying, copyOf, CopiedBy}
 use Rattle.syntax.specs.declared.Act.the-variants.{Add, Flip, Prune, Strip}
 use Rattle.syntax.proofs.Sizes.{size-pos}
 

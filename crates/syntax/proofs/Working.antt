@@ -18,7 +18,7 @@ use Rattle.things.specs.Rep.{setsOf}
 use Rattle.things.specs.Making.{Roomy, Stored, StoredObject}
 use Rattle.things.proofs.ByTag.{tag-low}
 use Rattle.things.proofs.Making.{made-atom, made-list, made-datum, made-lst}
-use Rattle.syntax.specs.Copying.{changing, stripping, copyOf, copiesOf, Puttable, Put, PutStripped}
+use Rattle.syntax.specs.Reaching.{changing, stripping, copyOf, copiesOf, Puttable, Put, PutStripped}
 use Rattle.syntax.specs.Working.{Sound, sound-add, sound-flip, strips, setChangeBy, setChange, setsChange, copyingOf}
 use Rattle.syntax.specs.declared.Act.{Act}
 use Rattle.syntax.specs.declared.Act.the-variants.{Add, Flip, Prune, Strip}

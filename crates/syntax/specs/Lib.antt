@@ -1,2 +1,4 @@
-pub mod Working
 pub mod Copying
+pub mod Reaching
+pub mod Rows
+pub mod Working

@@ -5,7 +5,7 @@ use Rattle.model.specs.Scopes.{Scopes, add, flip, prune}
 use Rattle.model.specs.Objects.{Sets, changeAt}
 use Rattle.scopes.specs.Sets.{scopesOf, Declared}
 use Rattle.scopes.specs.declared.Scope.{Scope}
-use Rattle.syntax.specs.Copying.{Copying, changing, stripping}
+use Rattle.syntax.specs.Reaching.{Copying, changing, stripping}
 use Rattle.syntax.specs.declared.Act.{Act}
 use Rattle.syntax.specs.declared.Act.the-variants.{Add, Flip, Prune, Strip}
 use Rattle.syntax.specs.declared.Work.{Work}

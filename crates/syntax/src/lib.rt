@@ -6,14 +6,15 @@ use table::Node;
 use table::Sets;
 use things::Made;
 ghost use mathlib.Core.Path.{_≡_};
-ghost use Prim.Native.Nat.{ℕ, _+_, _≤_};
 ghost use Rattle.model.specs.Objects.{addScope, flipScope, pruneScopes};
 ghost use Rattle.model.specs.Trees.{stx, strip};
 ghost use Rattle.scopes.specs.Sets.{scopesOf, Declared};
 ghost use Rattle.things.specs.Rep.{setsOf};
 ghost use Rattle.things.specs.Measuring.{Seen};
 ghost use Rattle.syntax.specs.Working.{Sound, strips, setChange, setsChange, copyingOf};
-ghost use Rattle.syntax.specs.Copying.{Copyable, Copied, Reached, ReachedP, CopiedBy, CopiedEach, Sized, Row, Chained, Puttable, Put, PutStripped};
+ghost use Rattle.syntax.specs.Copying.{Copyable, Copied};
+ghost use Rattle.syntax.specs.Reaching.{Reached, ReachedP, CopiedBy, Puttable, Put, PutStripped};
+ghost use Rattle.syntax.specs.Rows.{CopiedEach, Sized, Row, Chained};
 
 // ---- what is done to an object and every part of it
 
@@ -24,8 +25,8 @@ enum Act {
     Strip,
 }
 
-// The sets of one phase are changed, or all are stripped away. The prunable set stands beside the enum: one that holds a set could not
-// hold it as an array.
+// The sets of one phase are changed, or all are stripped away. The prunable set stands beside the enum, since no enum is to hold a set: a
+// set may become an array.
 struct Work {
     act: Act,
     prunable: ScopeSet,
@@ -124,7 +125,7 @@ fn put_copy(table: &mut [u32], top: u32, node: Node, sets: Sets, work: Work) -> 
 
 // ---- copies in a row
 
-// What was copied: an object has its size as its weight, stripped data as its size, and each has less of the other.
+// What was copied: an object has its size as its weight, stripped data as its size, and neither has more of the other.
 fn copied_size(table: &[u32], i: u32) -> u32
     requires { ⌜ Seen (now table) i ⌝ }
     ensures { λ r. ⌜ Sized (now (table .entry)) i r ⌝ }

@@ -1,10 +1,11 @@
 -- What falls from call to call: the levels left, an object before the chain of its level.
+use mathlib.Core.Path.{refl}
 use Prim.Native.Nat.{ℕ, _<_, _+_, _*_}
 use borrow.Fn.Kinds.{In}
 use borrow.Fn.PlainCycle.{Measures, is, falls, and}
 use borrow.Author.Needs.{needs}
 use Rattle.syntax.specs.Working.{copyingOf}
-use Rattle.syntax.proofs.Copying.{laws, list-puttable, Passing}
+use Rattle.syntax.proofs.Reaching.{laws, list-puttable, Passing}
 use Rattle.syntax.proofs.copy_each.Reads as copy-each
 use Rattle.syntax.proofs.copy_each.Kinds as copy-each-kinds
 use Rattle.syntax.proofs.+copy_each+copy_object.Lts-copy_each as copy-each-lts
@@ -104,7 +105,7 @@ module _ (t : ℕ) where
   object-link-each-requires c κs = search (laws, needs)
 
   object-put-copy-requires-2 : copy-object-lts.Need-put-copy-requires-2 object-env (copy-object-at t) copy-object.Post
-  object-put-copy-requires-2 c κs = (list-puttable (c .before .before .before .before .before .before .before .before .before .before .before .before .before .before .before .before .pre .1 .0) (c .before .before .before .before .before .before .before .before .before .before .before .before .before .get-node .ensures) (c .before .before .before .before .before .before .before .before .before .before .before .get-sets .ensures) (c .before .before .before .before .before .before .before .before .before .if1 .left) (c .before .before .before .before .before .before .before .copy-each .ensures) (c .before .before .before .before .before .before .before .copy-each .kept .0) (c .before .before .before .link-each .ensures) (c .before .before .before .link-each .kept .0), c .before .before .before .before .before .before .before .before .before .before .before .before .before .before .before .before .pre .1 .1)
+  object-put-copy-requires-2 c κs = (list-puttable (c .before .before .before .link-each .ensures) (c .before .before .before .link-each .kept .0) (search (laws, needs)) refl, search (laws, needs))
 
   object-same-length-2 : copy-object-lts.Need-same-length-2 object-env (copy-object-at t) copy-object.Post
   object-same-length-2 c = search (laws, needs)

@@ -16,7 +16,8 @@ use Rattle.table.proofs.Laws.{same-refl, same-trans}
 use Rattle.things.specs.Rep.{Rep, RepP, is-none, setsOf}
 use Rattle.things.proofs.Frame.{below, carryP}
 use Rattle.things.proofs.ByTag.{atom-at, list-at, stx-tag, ConsAt, cons-at, cons-some}
-use Rattle.syntax.specs.Copying.{Reached, ReachedP, Copying, CopiedBy, Puttable, Put, Laid, laid-none, laid-one, CopiedEach, Row, Chained}
+use Rattle.syntax.specs.Reaching.{Reached, ReachedP, Copying, CopiedBy, Puttable, Put}
+use Rattle.syntax.specs.Rows.{Laid, laid-none, laid-one, CopiedEach, Row, Chained}
 use Rattle.syntax.proofs.Sizes.{size-pos, nesting-pos, size-atom, size-list, nesting-list, sizes-cons, nestings-cons}
 use Rattle.syntax.proofs.Rows.{laid-grows, laid-room, laid-flat, laid-stays}
 
@@ -105,19 +106,13 @@ module _ {lv : ℕ} {l : List ℕ} {top i : ℕ} (r : Reached lv l top i) where
               low = r .object .low;
             }
 
-        pub list-puttable : {l2 : List ℕ} {at top2 : ℕ} → Chained l1 l2 top end at top2 → length l2 ≡ length l1 → Puttable l2 top2 (record { tag = listTag; content = at })
-        list-puttable k len2 =
-            let p = list-is (r .object .shown) e d h in
-            let few : sizes (p .parts) ≤ 4096 = omega (arith, r .object .charged, p .size) in
-            let n = k .means w (p .parts) (m .means (p .parts) (p .shown) few) few in
-            record {
-              room = record {
-                fits = omega (arith, r .object .room, p .size, n .room);
-                small = omega (arith, r .object .small);
-                low = omega (arith, r .object .low, m .grows, k .grows);
-              };
-              kind = omega arith;
-            }
+pub list-puttable : {l l1 : List ℕ} {from end at top : ℕ} {n : Node} → Chained l l1 from end at top → length l1 ≡ length l → Row l from end → n .tag ≡ listTag → Puttable l1 top n
+list-puttable k len r h =
+    let n = k .means (r .by) (r .thing) (r .laid) (r .charged) in
+    record {
+      room = record { fits = omega (arith, r .room, n .room); small = omega (arith, r .small); low = omega (arith, r .low, n .room) };
+      kind = omega arith;
+    }
 
 module _ {l : List ℕ} {i : ℕ} {o : Node} {c : Sets} (e : o ≡ getNode l i) (d : c ≡ getSets l i) {w : Copying} where
   pub atom-copied : {l1 : List ℕ} {top at top1 : ℕ} → ¬ (o .tag ≡ listTag) → Put w l l1 top o c at top1 → CopiedBy w l l1 top i at top1
