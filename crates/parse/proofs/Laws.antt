@@ -458,7 +458,7 @@ module _ {l : List ℕ} (s : State) {i : ℕ} {ex : Extent} (k : Measured l i ex
     unfolding unpaid
     strip-ready =
         let n : ex .weight ≡ size (r .thing) = exactly (r .thing) (r .shown) in
-        rw (went .is) (record { thing = r .thing; shown = r .shown; room = omega (arith, r .room .fits, went .enough, n); small = r .room .small; low = r .room .low })
+        rw (went .is) (record { thing = r .thing; shown = r .shown; charged = omega (arith, n, went .enough, few-units); room = omega (arith, r .room .fits, went .enough, n); small = r .room .small; low = r .room .low })
 
     pub data-made : {l1 : List ℕ} {at : Made} {z : State} → Copied strip l l1 (u .top) i (at .at) (at .top) → z ≡ raisedTo (at .top) u
         → ParsedData l l1 s i (Done (record { at = at .at; state = z }))
