@@ -16,7 +16,7 @@ use Rattle.numbers.specs.declared.Number.{Number}
 use Rattle.numbers.specs.declared.Number.the-variants as number
 use Rattle.numbers.specs.declared.Place.{Place}
 use Rattle.numbers.specs.declared.Place.the-variants as place
-use Rattle.numbers.specs.Answers.{answerAt, numberAt, placed, Seen, seen, unseen, seenAt}
+use Rattle.numbers.specs.Answers.{answerAt, numberAt, kept, placed, placeAt, Seen, seen, unseen, seenAt}
 use Rattle.numbers.proofs.Tails.{Behind, Tail, tail-got, tail-fault, num-tail, up-to-tail, below-tail}
 
 -- the two ways of an answer are told apart, and give back what they hold
@@ -169,6 +169,32 @@ pub seen-stops : {K L Y : Type 0} (none : K) (read′ : L → Cursor → Y) (ref
     → x ≡ seenAt none end g → x .end ≡ place.Fault f → refuse′ f ≡ answerAt read′ refuse′ end (next g j)
 seen-stops none read′ refuse′ end g j {f = f} h e = rw (seen-refused none end g h e) (ap refuse′ (sym (case-back f)))
 
+-- ---- what is kept
+
+pub kept-next : {A B K : Type 0} (v : B → K) (g : Read A) (j : A → Reader B) → kept v (next g j) ≡ next g (λ a s. kept v (j a s))
+kept-next v (got a s) j = refl
+kept-next v (fault c) j = refl
+
+pub kept-tail : {A K : Type 0} (v : A → K) {s : List ℕ} {g : Read A} → Tail s g → Tail s (kept v g)
+kept-tail v (tail-got b) = tail-got b
+kept-tail v tail-fault = tail-fault
+
+pub record Kept {A K : Type 0} (v : A → K) (g : Read A) (k : K) (rest : List ℕ) : Type 0 where
+  pub value : A
+  pub is : g ≡ got value rest
+  pub value-is : v value ≡ k
+
+pub kept-got : {A K : Type 0} (v : A → K) (g : Read A) (k : K) (rest : List ℕ) → kept v g ≡ got k rest → Kept v g k rest
+kept-got v (got a s) k rest e =
+    let p : s ≡ rest = cc in
+    let q : v a ≡ k = cc in
+    record { value = a; is = ap (got a) p; value-is = q }
+kept-got v (fault c) k rest e = let z : _≡_ {A = ℕ} 0 1 = cc in absurd (omega arith)
+
+pub kept-fault : {A K : Type 0} (v : A → K) (g : Read A) (c : m.Refusal) → kept v g ≡ fault c → g ≡ fault c
+kept-fault v (got a s) c e = let z : _≡_ {A = ℕ} 0 1 = cc in absurd (omega arith)
+kept-fault v (fault d) c e = let p : d ≡ c = cc in ap fault p
+
 -- ---- tests
 
 pub need-yes : {A : Type 0} (c : m.Refusal) {t : Bool} (j : Unit {0} → Reader A) (s : List ℕ) → t ≡ true → next (need c t s) j ≡ j tt s
@@ -177,5 +203,29 @@ need-yes c j s e = rw e refl
 pub need-no : {A : Type 0} (c : m.Refusal) {t : Bool} (j : Unit {0} → Reader A) (s : List ℕ) → t ≡ false → next (need c t s) j ≡ fault c
 need-no c j s e = rw e refl
 
+-- ---- a place only, of something that was read
+
+abbrev nothing : {A : Type 0} → A → Unit {0}
+nothing a = tt
+
+module _ {A : Type 0} (at : ℕ) (s : List ℕ) (g : Read A) {x : Place} {past : Cursor} (h : x ≡ placeAt (at + length s) g) (e : x ≡ place.At past) (t : Tail s g) where
+  pub place-took : Took at s (kept nothing g) (tt {0}) (past .at)
+  place-took = took place-shape h e (kept-tail nothing t)
+
+  pub place-value : Kept nothing g (tt {0}) (drop (past .at - at) s)
+  place-value = kept-got nothing g (tt {0}) (drop (past .at - at) s) (place-took .is)
+
+  pub place-moved : at ≤ past .at
+  place-moved = place-took .moved
+
+  pub place-within : past .at ≤ at + length s
+  place-within = place-took .within
+
+  pub place-fits : {u : List ℕ} {m : ℕ} → u ≡ drop (past .at - at) s → at + length s ≤ m → past .at + length u ≤ m
+  place-fits {u} i l = rw (i, place-took .ends) l
+
+pub place-refused : {A : Type 0} (end : ℕ) (g : Read A) {x : Place} {f : Refusal} → x ≡ placeAt end g → x ≡ place.Fault f → g ≡ fault (refusalOf f)
+place-refused end g {f = f} h e = kept-fault nothing g (refusalOf f) (refused place-shape end (kept nothing g) h e)
+
 -- what a caller of the number readers asks for most needs
-pub ruleset answering = (number-moved, number-within, number-fits, seen-moved, seen-within, seen-fits, num-tail, up-to-tail, below-tail)
+pub ruleset answering = (number-moved, number-within, number-fits, place-moved, place-within, place-fits, seen-moved, seen-within, seen-fits, num-tail, up-to-tail, below-tail)

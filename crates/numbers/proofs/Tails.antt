@@ -1,5 +1,5 @@
 -- What is left after a reading is a tail of what was there: the law that every reader of an image keeps.
-use Prim.Native.Nat.{ℕ, zero, suc, _+_, _-_, _*_, _≤_}
+use Prim.Native.Nat.{ℕ, zero, suc, _+_, _-_, _*_, _≤_, _<_}
 use mathlib.Core.Path.{_≡_, refl, ap, _∙_}
 use mathlib.Core.List.{List, [], _∷_}
 use mathlib.Core.Bool.{Bool, true, false, not}
@@ -80,3 +80,33 @@ up-to-tail c m s = tail-next _ (num-tail s) (λ n t. tail-next _ (tail-need c (l
 pub below-tail : (m : ℕ) (s : List ℕ) → Tail s (numBelow m s)
 unfolding numBelow
 below-tail m s = tail-next _ (num-tail s) (λ n t. tail-next _ (tail-need layout (ltb n m) t) (λ x u. tail-give n u))
+
+-- ---- at least one byte is taken
+
+pub data Shrinks {A : Type 0} (s : List ℕ) : Read A → Type 0 where
+  shrinks-got : {a : A} {rest : List ℕ} → length rest < length s → Shrinks s (got a rest)
+  shrinks-fault : {r : Refusal} → Shrinks s (fault r)
+
+behind-short : {s rest : List ℕ} → Behind s rest → length rest ≤ length s
+behind-short {s} {rest} b = let l : length rest ≡ length s - b .by = ap length (b .is) ∙ length-drop (b .by) s in omega arith
+
+shrinks-by : {A : Type 0} {s t : List ℕ} {g : Read A} → length t < length s → Tail t g → Shrinks s g
+shrinks-by {s = s} h (tail-got {rest = rest} b) = let l = behind-short b in let k : length rest < length s = omega arith in shrinks-got k
+shrinks-by h tail-fault = shrinks-fault
+
+pub shrinks-next : {A B : Type 0} {s : List ℕ} {g : Read A} (f : A → Reader B) → Shrinks s g → ((a : A) (mid : List ℕ) → Tail mid (f a mid)) → Shrinks s (next g f)
+shrinks-next f (shrinks-got {a = a} {rest = mid} h) k = shrinks-by h (k a mid)
+shrinks-next f shrinks-fault k = shrinks-fault
+
+byte-shrinks : (s : List ℕ) → Shrinks s (byte s)
+unfolding byte
+byte-shrinks [] = shrinks-fault
+byte-shrinks (b ∷ s) = let k : length s < suc (length s) = omega arith in shrinks-got k
+
+pub num-shrinks : (s : List ℕ) → Shrinks s (num s)
+unfolding num
+num-shrinks s = shrinks-next _ (byte-shrinks s) (λ b t. tail-if (ltb b 128) _ _ (tail-give b t) (groups-tail 3 128 (b - 128) t))
+
+pub up-to-shrinks : (c : Refusal) (m : ℕ) (s : List ℕ) → Shrinks s (numUpTo c m s)
+unfolding numUpTo
+up-to-shrinks c m s = shrinks-next _ (num-shrinks s) (λ n t. tail-next _ (tail-need c (leb n m) t) (λ x u. tail-give n u))

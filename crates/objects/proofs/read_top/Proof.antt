@@ -1,0 +1,51 @@
+use Rattle.sets.proofs.Reading.{sets-tail}
+use Rattle.numbers.proofs.Answering.{answering}
+use Rattle.objects.proofs.Objects.{object-laws}
+use borrow.Author.Needs.{needs}
+use Rattle.objects.proofs.read_top.Statement.{statement}
+use Rattle.objects.proofs.read_top.Tie as tie
+
+number-up-to-requires : tie.Need-number-up-to-requires
+number-up-to-requires c κs = search (object-laws, answering, sets-tail, needs)
+
+enum-known-tag : tie.Need-enum-known-tag
+enum-known-tag c = search (object-laws, answering, sets-tail, needs)
+
+after-requires : tie.Need-after-requires
+after-requires c κs = search (object-laws, answering, sets-tail, needs)
+
+read-sets-requires : tie.Need-read-sets-requires
+read-sets-requires c κs = search (object-laws, answering, sets-tail, needs)
+
+enum-known-end : tie.Need-enum-known-end
+enum-known-end c = search (object-laws, answering, sets-tail, needs)
+
+enum-known-end-2 : tie.Need-enum-known-end-2
+enum-known-end-2 c = search (object-laws, answering, sets-tail, needs)
+
+enum-known-f : tie.Need-enum-known-f
+enum-known-f c = search (object-laws, answering, sets-tail, needs)
+
+returns : tie.Need-returns
+returns c = search (object-laws, answering, sets-tail, needs)
+
+returns-2 : tie.Need-returns-2
+returns-2 c = search (object-laws, answering, sets-tail, needs)
+
+returns-3 : tie.Need-returns-3
+returns-3 c = search (object-laws, answering, sets-tail, needs)
+
+pub read-top-spec : {M : Type 1} → statement M
+read-top-spec =
+    tie.close
+    (tie.spec
+    number-up-to-requires
+    enum-known-tag
+    after-requires
+    read-sets-requires
+    enum-known-end
+    enum-known-end-2
+    enum-known-f
+    returns
+    returns-2
+    returns-3)
