@@ -20,7 +20,7 @@ pub bind-eq : {x y t u : ℕ} {s r : Scopes} → x ≡ y → t ≡ u → s ≡ r
 bind-eq p q e = cc
 
 -- the same three words
-same-bind : (l m : List ℕ) (i j : ℕ) → ((k : ℕ) → k < 3 → getD l (i * 3 + k) 0 ≡ getD m (j * 3 + k) 0) → bindAt l i ≡ bindAt m j
+pub same-bind : (l m : List ℕ) (i j : ℕ) → ((k : ℕ) → k < 3 → getD l (i * 3 + k) 0 ≡ getD m (j * 3 + k) 0) → bindAt l i ≡ bindAt m j
 unfolding bindAt
 same-bind l m i j h =
     bind-eq
@@ -137,17 +137,18 @@ module _ {b : Bind} {l : List ℕ} {n i : ℕ} (w : Passed b l n i) where
 
 -- ---- a binding written between others that were moved
 
-written-other : (l : List ℕ) (i : ℕ) (b : Bind) (k : ℕ) → (k ≡ i * 3 → ⊥) → (k ≡ i * 3 + 1 → ⊥) → (k ≡ i * 3 + 2 → ⊥)
+pub written-other : (l : List ℕ) (i : ℕ) (b : Bind) (k : ℕ) → (k ≡ i * 3 → ⊥) → (k ≡ i * 3 + 1 → ⊥) → (k ≡ i * 3 + 2 → ⊥)
     → getD (written l i b) k 0 ≡ getD l k 0
 written-other l i b k p q r =
     getD-set-other (set (set l (i * 3) (b .symb)) (i * 3 + 1) (b .target)) (i * 3 + 2) k (b .set) 0 r
     ∙ getD-set-other (set l (i * 3) (b .symb)) (i * 3 + 1) k (b .target) 0 q
     ∙ getD-set-other l (i * 3) k (b .symb) 0 p
 
-written-same : (l : List ℕ) (i : ℕ) (b : Bind) → i * 3 + 3 ≤ length l → b .symb < 4294967296 → b .target < 4294967296
+pub written-same : (l : List ℕ) (i : ℕ) (b : Bind) → i * 3 + 3 ≤ length l → b .symb < 4294967296 → b .target < 4294967296
     → bindAt (written l i b) i ≡ b
 unfolding bindAt
-written-same l i b h p q = bind-eq (ap (λ (w : ℕ). w % 4294967296) first ∙ mod-eq-of-lt p) (ap (λ (w : ℕ). w % 4294967296) second ∙ mod-eq-of-lt q) third
+written-same l i b h p q =
+    bind-eq (ap (λ (w : ℕ). w % 4294967296) first ∙ mod-eq-of-lt p) (ap (λ (w : ℕ). w % 4294967296) second ∙ mod-eq-of-lt q) third
   where
     one : List ℕ
     one = set l (i * 3) (b .symb)

@@ -69,9 +69,10 @@ pub fn get(store: &[u64], i: usize) -> Binding
 }
 
 // b written at place i.
-fn put(store: &mut [u64], i: usize, b: Binding)
+pub fn put(store: &mut [u64], i: usize, b: Binding)
     requires { ⌜ i * 3 + 3 ≤ length (now store) ⌝ }
-    ensures { λ r. ⌜ now (store .exit) ≡ written (now (store .entry)) i (bindOf b) ⌝ }
+    ensures words { λ _. ⌜ now (store .exit) ≡ written (now (store .entry)) i (bindOf b) ⌝ }
+    ensures there { λ _. ⌜ bindAt (now (store .exit)) i ≡ bindOf b ⌝ }
 {
     let at = i * Binding::WORDS;
     store[at] = b.symbol.0 as u64;

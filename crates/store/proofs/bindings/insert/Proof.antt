@@ -27,7 +27,7 @@ returns : tie.Need-returns
 returns c =
     inserted _ _ _ _ _ _ (omega arith) (omega arith) (omega arith)
     (c .before .before .before .before .before .before .before .before .place .ensures)
-    (c .before .before .before .before .before .before .shift .ensures) (c .before .before .put .ensures)
+    (c .before .before .before .before .before .before .shift .ensures) (c .before .before .put .ensures .0)
 
 pub insert-spec : {M : Type 1} → statement M
 insert-spec = tie.close

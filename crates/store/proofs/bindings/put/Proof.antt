@@ -1,5 +1,8 @@
 -- Three stores.
+use mathlib.Core.Path.{refl}
 use native.Mathlib.Omega.{arith}
+use Rattle.store.specs.Words.{bindOf}
+use Rattle.store.proofs.Runs.{written-same}
 use lib.ListN.{length-set}
 use borrow.Author.Needs.{needs}
 use Rattle.store.proofs.bindings.put.Statement.{statement}
@@ -42,7 +45,7 @@ same-length : tie.Need-same-length
 same-length c = search needs
 
 returns : tie.Need-returns
-returns c = search needs
+returns c = (refl, written-same (c .before .before .args .store .now) (c .before .before .args .i) (bindOf (c .before .before .args .b)) (omega arith) (omega arith) (omega arith))
 
 pub put-spec : {M : Type 1} → statement M
 put-spec = tie.close

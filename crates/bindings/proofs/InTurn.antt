@@ -1,0 +1,308 @@
+-- Bindings read one behind the other, by the tests that the code makes.
+use mathlib.Core.Path.{_≡_, refl, sym, ap, ap₂, _∙_, subst}
+use mathlib.Core.Bool.{Bool, true, false}
+use mathlib.Core.List.{List, [], _∷_}
+use Prim.Native.Nat.{ℕ, zero, suc, _+_, _-_, _*_, _≤_, _<_}
+use native.Mathlib.Omega.{arith}
+use lib.Dec.{leb}
+use lib.ListN.{length, drop, getD}
+use borrow.Author.Tests.{leb-true}
+use Rattle.model.specs.Limits.{mostBindings}
+use Rattle.model.specs.Refusals as m
+use Rattle.model.specs.Refusals.{layout, overLimit}
+use Rattle.model.specs.Scopes.{Scopes}
+use Rattle.model.specs.Resolving.{Bind, bindBefore}
+use Rattle.model.specs.Reading.{Read, Reader, got, fault, next, need, num, numBelow, numUpTo, readSet}
+use Rattle.refusals.specs.Refusing.{refusalOf, caseOf}
+use Rattle.refusals.specs.declared.Refusal.{Refusal}
+use Rattle.refusals.specs.declared.Refusal.the-variants.{Layout}
+use Rattle.refusals.proofs.Cases.{case-back}
+use Rattle.numbers.specs.declared.Cursor.{Cursor}
+use Rattle.numbers.specs.declared.Number.{Number}
+use Rattle.numbers.specs.declared.Number.the-variants as number
+use Rattle.numbers.specs.declared.Place.{Place}
+use Rattle.numbers.specs.declared.Place.the-variants as place
+use Rattle.numbers.specs.Answers.{numberAt, placeAt, Seen, seen, unseen, seenAt}
+use Rattle.numbers.proofs.Tails.{Tail, tail-give, tail-next, num-tail, below-tail, up-to-tail}
+use Rattle.numbers.proofs.Answering.{Took, took, refused, number-shape, seen-shape, goes, stops, whole, seen-goes, seen-gives, seen-stops, seen-refused}
+use Rattle.sets.proofs.Reading.{set-tail}
+use Rattle.store.specs.Words.{bindAt, bindsFrom, bindsOf, written}
+use Rattle.store.proofs.Runs.{run-step, same-bind, written-other}
+use Rattle.bindings.specs.Sections.{readTarget, readOne, readMore, readSome, readAll, noBind, MoreRead, SomeRead}
+use Rattle.bindings.specs.declared.loading.Counts.{Counts}
+
+-- ---- what is left is a tail
+
+target-tail : (n : Counts) (x : ℕ) (s : List ℕ) → Tail s (readTarget n x s)
+unfolding readTarget
+target-tail n x s = tail-next _ (below-tail (n .names) s) (λ t u. tail-next _ (set-tail (n .scopes) u) (λ a v. tail-give (record { symb = x; target = t; set = a }) v))
+
+pub one-tail : (n : Counts) (s : List ℕ) → Tail s (readOne n s)
+unfolding readOne
+one-tail n s = tail-next _ (below-tail (n .symbols) s) (λ x u. target-tail n x u)
+
+-- ---- one binding
+
+pub no-binding : {v : Scopes} {f : Refusal} → v ≡ 0 → record { value = record { symb = 0; target = 0; set = v }; end = place.Fault f } ≡ unseen noBind f
+unfolding noBind
+no-binding {f = f} e = ap (λ (v : Scopes). record { value = record { symb = 0; target = 0; set = v }; end = place.Fault f }) e
+
+module _ (at : ℕ) (n : Counts) (x : ℕ) (s : List ℕ) {r : Number} (h : r ≡ numberAt (at + length s) (numBelow (n .names) s)) where
+  pub target-stops : {f : Refusal} {y : Seen Bind} → r ≡ number.Fault f → y ≡ unseen noBind f → y ≡ seenAt noBind (at + length s) (readTarget n x s)
+  unfolding readTarget
+  target-stops e i = i ∙ stops number-shape seen (unseen noBind) (at + length s) (numBelow (n .names) s) _ h e
+
+  module _ {t : ℕ} {past : Cursor} {u : List ℕ} (e : r ≡ number.Read t past) (i : u ≡ drop (past .at - at) s) {a : Scopes} {q : Place}
+      (h′ : record { value = a; end = q } ≡ seenAt 0 (past .at + length u) (readSet (n .scopes) u)) where
+    pub set-stops : {f : Refusal} {y : Seen Bind} → q ≡ place.Fault f → y ≡ unseen noBind f → y ≡ seenAt noBind (at + length s) (readTarget n x s)
+    unfolding readTarget
+    set-stops e′ k =
+        goes number-shape seen (unseen noBind) at (numBelow (n .names) s) _ h e (below-tail (n .names) s) i
+        (k ∙ seen-stops 0 seen (unseen noBind) (past .at + length u) (readSet (n .scopes) u) _ h′ e′)
+
+    pub set-gives : {behind : Cursor} → q ≡ place.At behind
+        → seen (record { symb = x; target = t; set = a }) behind ≡ seenAt noBind (at + length s) (readTarget n x s)
+    unfolding readTarget
+    set-gives e′ =
+        goes number-shape seen (unseen noBind) at (numBelow (n .names) s) _ h e (below-tail (n .names) s) i
+        (seen-gives 0 (past .at) u (readSet (n .scopes) u) h′ e′ (set-tail (n .scopes) u) seen (unseen noBind) _ (λ v. refl))
+
+module _ (at : ℕ) (n : Counts) (s : List ℕ) {r : Number} (h : r ≡ numberAt (at + length s) (numBelow (n .symbols) s)) where
+  pub one-stops : {f : Refusal} {y : Seen Bind} → r ≡ number.Fault f → y ≡ unseen noBind f → y ≡ seenAt noBind (at + length s) (readOne n s)
+  unfolding readOne
+  one-stops e i = i ∙ stops number-shape seen (unseen noBind) (at + length s) (numBelow (n .symbols) s) _ h e
+
+  pub one-goes : {x : ℕ} {past : Cursor} {u : List ℕ} {y : Seen Bind} → r ≡ number.Read x past → u ≡ drop (past .at - at) s
+      → y ≡ seenAt noBind (past .at + length u) (readTarget n x u) → y ≡ seenAt noBind (at + length s) (readOne n s)
+  unfolding readOne
+  one-goes e i a = goes number-shape seen (unseen noBind) at (numBelow (n .symbols) s) _ h e (below-tail (n .symbols) s) i a
+
+-- ---- a place, whatever was read
+
+place-fault : {A : Type 0} (end : ℕ) (g : Read A) {f : Refusal} → g ≡ fault (refusalOf f) → place.Fault f ≡ placeAt end g
+place-fault end g {f} e = rw e (ap place.Fault (sym (case-back f)))
+
+-- a binding put before what is read
+onto : Bind → Read (List Bind) → Read (List Bind)
+onto b (got r v) = got (b ∷ r) v
+onto b (fault c) = fault c
+
+place-onto : (end : ℕ) (b : Bind) (g : Read (List Bind)) → placeAt end (onto b g) ≡ placeAt end g
+unfolding onto
+place-onto end b (got r v) = refl
+place-onto end b (fault c) = refl
+
+record Onto (b : Bind) (g : Read (List Bind)) (l : List Bind) : Type 0 where
+  others : List Bind
+  rest : List ℕ
+  read : g ≡ got others rest
+  is : l ≡ b ∷ others
+
+onto-got : (b : Bind) (g : Read (List Bind)) (l : List Bind) (rest : List ℕ) → onto b g ≡ got l rest → Onto b g l
+unfolding onto
+onto-got b (got r v) l rest e = record { others = r; rest = v; read = refl; is = let q : b ∷ r ≡ l = cc in sym q }
+onto-got b (fault c) l rest e = let z : _≡_ {A = ℕ} 0 1 = cc in absurd (omega arith)
+
+-- ---- the ones after the first
+
+more-step : (c : Counts) (k : ℕ) (p : Bind) (s : List ℕ)
+    → readMore c (suc k) p s ≡ next (readOne c s) (λ b t. next (need layout (bindBefore p b) t) (λ x u. onto b (readMore c k b u)))
+unfolding readMore onto
+more-step c k p s = ap (next (readOne c s)) (λ j b t. next (need layout (bindBefore p b) t) (λ x u. same b (readMore c k b u) j))
+  where
+    same : (b : Bind) (g : Read (List Bind)) → next g (λ r v. got (b ∷ r) v) ≡ onto b g
+    same b (got r v) = refl
+    same b (fault e) = refl
+
+pub more-none : {c : Counts} {s : List ℕ} {at : Cursor} {p : Bind} {i n : ℕ} {l : List ℕ} → i ≡ n
+    → MoreRead c s (at .at + length s) p i n l l (place.At at)
+unfolding readMore bindsFrom
+more-none {c} {s} {at} {p} {i} {n} {l} e =
+    let z : n - i ≡ 0 = omega arith in
+    let q : at .at + length s - length s ≡ at .at = omega arith in
+    record {
+      kept = λ k h. refl;
+      place = rw (z, q);
+      held = rw z (λ b rest f. let d : _≡_ {A = List Bind} [] b = cc in d);
+    }
+
+module _ (c : Counts) (s : List ℕ) (at : ℕ) (p : Bind) (i n : ℕ) (l : List ℕ) (inside : i ≤ n) (other : i ≡ n → ⊥) {b : Bind} {q : Place}
+    (h : record { value = b; end = q } ≡ seenAt noBind (at + length s) (readOne c s)) where
+  step-here : readMore c (n - i) p s
+      ≡ next (readOne c s) (λ d t. next (need layout (bindBefore p d) t) (λ x u. onto d (readMore c (n - (i + 1)) d u)))
+  step-here =
+      let e : n - i ≡ suc (n - (i + 1)) = omega arith in
+      ap (λ (k : ℕ). readMore c k p s) e ∙ more-step c (n - (i + 1)) p s
+
+  -- nothing is stored where there is a fault
+  refusing : {f : Refusal} → readMore c (n - i) p s ≡ fault (refusalOf f) → MoreRead c s (at + length s) p i n l l (place.Fault f)
+  refusing {f} e = record {
+    kept = λ k d. refl;
+    place = place-fault (at + length s) (readMore c (n - i) p s) e;
+    held = λ d rest g. let z : _≡_ {A = Read (List Bind)} (fault (refusalOf f)) (got d rest) = sym e ∙ g in let y : _≡_ {A = ℕ} 0 1 = cc in absurd (omega arith);
+  }
+
+  pub more-stops : {f : Refusal} → q ≡ place.Fault f → MoreRead c s (at + length s) p i n l l (place.Fault f)
+  more-stops e = refusing (step-here ∙ rw (seen-refused noBind (at + length s) (readOne c s) h e))
+
+  module _ {past : Cursor} (e : q ≡ place.At past) where
+    there : Took at s (readOne c s) b (past .at)
+    there = took (seen-shape noBind) h (whole noBind at s (readOne c s) h e (one-tail c s)) (one-tail c s)
+
+    pub more-disorder : {t : Bool} → t ≡ bindBefore p b → t ≡ false → MoreRead c s (at + length s) p i n l l (place.Fault Layout)
+    more-disorder d f = refusing (step-here ∙ rw (there .is, sym d ∙ f))
+
+    module _ {u : List ℕ} (j : u ≡ drop (past .at - at) s) {t : Bool} (d : t ≡ bindBefore p b) (f : t ≡ true) where
+      on : readMore c (n - i) p s ≡ onto b (readMore c (n - (i + 1)) b u)
+      on = step-here ∙ rw (there .is, sym d ∙ f, ← j)
+
+      same-end : past .at + length u ≡ at + length s
+      same-end = rw j (there .ends)
+
+      pub more-goes : {l1 l2 : List ℕ} {r : Place} → (l1 ≡ written l i b) × (bindAt l1 i ≡ b) → MoreRead c u (past .at + length u) b (i + 1) n l1 l2 r
+          → MoreRead c s (at + length s) p i n l l2 r
+      more-goes {l1} {l2} {r} g w = record {
+        kept = λ k x. w .kept k (omega arith) ∙ ap (λ (y : List ℕ). getD y k 0) (g .0) ∙ below k x;
+        place =
+            w .place ∙ ap (λ (z : ℕ). placeAt z (readMore c (n - (i + 1)) b u)) same-end
+            ∙ sym (place-onto (at + length s) b (readMore c (n - (i + 1)) b u))
+            ∙ ap (placeAt (at + length s)) (sym on);
+        held = λ bs rest x.
+            let y : Onto b (readMore c (n - (i + 1)) b u) bs = onto-got b (readMore c (n - (i + 1)) b u) bs rest (sym on ∙ x) in
+            run-step l2 n i (omega arith) ∙ ap₂ (λ (k : Bind) (m : List Bind). k ∷ m) first (w .held (y .others) (y .rest) (y .read)) ∙ sym (y .is);
+      }
+        where
+          below : (k : ℕ) → k < i * 3 → getD (written l i b) k 0 ≡ getD l k 0
+          below k x = written-other l i b k (λ z. omega arith) (λ z. omega arith) (λ z. omega arith)
+
+          first : bindAt l2 i ≡ b
+          first =
+              same-bind l2 l1 i i (λ k x. w .kept (i * 3 + k) (omega arith)) ∙ g .1
+
+-- ---- all of them
+
+some-step : (c : Counts) (k : ℕ) (s : List ℕ) → readSome c (suc k) s ≡ next (readOne c s) (λ b t. onto b (readMore c k b t))
+unfolding readSome onto
+some-step c k s = ap (next (readOne c s)) (λ j b t. same b (readMore c k b t) j)
+  where
+    same : (b : Bind) (g : Read (List Bind)) → next g (λ r v. got (b ∷ r) v) ≡ onto b g
+    same b (got r v) = refl
+    same b (fault e) = refl
+
+pub some-none : {c : Counts} {s : List ℕ} {at : Cursor} {n : ℕ} {l : List ℕ} → n ≡ 0 → SomeRead c s (at .at + length s) n l (place.At at)
+unfolding readSome bindsOf bindsFrom
+some-none {c} {s} {at} {n} {l} e =
+    let q : at .at + length s - length s ≡ at .at = omega arith in
+    record {
+      place = rw (e, q);
+      held = rw e (λ b rest f. let d : _≡_ {A = List Bind} [] b = cc in d);
+    }
+
+module _ (c : Counts) (s : List ℕ) (at n : ℕ) (l : List ℕ) (some : n ≡ 0 → ⊥) {b : Bind} {q : Place}
+    (h : record { value = b; end = q } ≡ seenAt noBind (at + length s) (readOne c s)) where
+  some-here : readSome c n s ≡ next (readOne c s) (λ d t. onto d (readMore c (n - 1) d t))
+  some-here =
+      let e : n ≡ suc (n - 1) = omega arith in
+      ap (λ (k : ℕ). readSome c k s) e ∙ some-step c (n - 1) s
+
+  pub some-stops : {f : Refusal} → q ≡ place.Fault f → SomeRead c s (at + length s) n l (place.Fault f)
+  some-stops {f} e =
+      let g : readSome c n s ≡ fault (refusalOf f) = some-here ∙ rw (seen-refused noBind (at + length s) (readOne c s) h e) in
+      record {
+        place = place-fault (at + length s) (readSome c n s) g;
+        held = λ d rest x. let z : _≡_ {A = Read (List Bind)} (fault (refusalOf f)) (got d rest) = sym g ∙ x in let y : _≡_ {A = ℕ} 0 1 = cc in absurd (omega arith);
+      }
+
+  module _ {past : Cursor} (e : q ≡ place.At past) {u : List ℕ} (j : u ≡ drop (past .at - at) s) where
+    there-first : Took at s (readOne c s) b (past .at)
+    there-first = took (seen-shape noBind) h (whole noBind at s (readOne c s) h e (one-tail c s)) (one-tail c s)
+
+    on-first : readSome c n s ≡ onto b (readMore c (n - 1) b u)
+    on-first = some-here ∙ rw (there-first .is, ← j)
+
+    pub some-goes : {l1 l2 : List ℕ} {r : Place} → (l1 ≡ written l 0 b) × (bindAt l1 0 ≡ b) → MoreRead c u (past .at + length u) b 1 n l1 l2 r
+        → SomeRead c s (at + length s) n l2 r
+    unfolding bindsOf
+    some-goes {l1} {l2} {r} g w = record {
+      place =
+          w .place ∙ ap (λ (z : ℕ). placeAt z (readMore c (n - 1) b u)) (rw j (there-first .ends))
+          ∙ sym (place-onto (at + length s) b (readMore c (n - 1) b u))
+          ∙ ap (placeAt (at + length s)) (sym on-first);
+      held = λ bs rest x.
+          let y : Onto b (readMore c (n - 1) b u) bs = onto-got b (readMore c (n - 1) b u) bs rest (sym on-first ∙ x) in
+          ap (bindsFrom l2 0) (let z : n ≡ n - 0 = omega arith in z) ∙ run-step l2 n 0 (omega arith)
+          ∙ ap₂ (λ (k : Bind) (m : List Bind). k ∷ m) first (w .held (y .others) (y .rest) (y .read)) ∙ sym (y .is);
+    }
+      where
+        first : bindAt l2 0 ≡ b
+        first =
+            same-bind l2 l1 0 0 (λ k x. w .kept (0 * 3 + k) (omega arith)) ∙ g .1
+
+-- ---- the count, and so many
+
+up-to-small : (c : m.Refusal) (m : ℕ) (s : List ℕ) (n : ℕ) (rest : List ℕ) → numUpTo c m s ≡ got n rest → n ≤ m
+unfolding numUpTo
+up-to-small c m s n rest e = go (num s) e
+  where
+    test : (k : ℕ) (v : List ℕ) (t : Bool) → leb k m ≡ t → next (need c t v) (λ x u. got k u) ≡ got n rest → n ≤ m
+    test k v true h f = let z : k ≡ n = cc in let y : k ≤ m = leb-true k m h in omega arith
+    test k v false h f = let z : _≡_ {A = ℕ} 0 1 = cc in absurd (omega arith)
+
+    go : (g : Read ℕ) → next g (λ k v. next (need c (leb k m) v) (λ x u. got k u)) ≡ got n rest → n ≤ m
+    go (got k v) f = test k v (leb k m) refl f
+    go (fault d) f = let z : _≡_ {A = ℕ} 0 1 = cc in absurd (omega arith)
+
+-- what a place says of what was read
+record Given (end : ℕ) (g : Read (List Bind)) (behind : Cursor) : Type 0 where
+  all : List Bind
+  rest : List ℕ
+  read : g ≡ got all rest
+  is : behind .at ≡ end - length rest
+
+given : (end : ℕ) (g : Read (List Bind)) (behind : Cursor) → place.At behind ≡ placeAt end g → Given end g behind
+given end (got r v) behind e =
+    let z : behind ≡ record { at = end - length v } = cc in
+    record { all = r; rest = v; read = refl; is = ap (λ (k : Cursor). k .at) z }
+given end (fault c) behind e = let z : _≡_ {A = ℕ} 0 1 = cc in absurd (omega arith)
+
+withheld : (end : ℕ) (g : Read (List Bind)) (f : Refusal) → place.Fault f ≡ placeAt end g → unseen [] f ≡ seenAt [] end g
+withheld end (got r v) f e = let z : _≡_ {A = ℕ} 0 1 = cc in absurd (omega arith)
+withheld end (fault c) f e = let z : f ≡ caseOf c = cc in ap (unseen []) z
+
+module _ (c : Counts) (s : List ℕ) (at : ℕ) {r : Number} (h : r ≡ numberAt (at + length s) (numUpTo overLimit 128 s)) where
+  pub all-stops : (l : List ℕ) {f : Refusal} → r ≡ number.Fault f
+      → record { value = bindsOf l 0; end = place.Fault f } ≡ seenAt [] (at + length s) (readAll c s)
+  unfolding readAll mostBindings bindsOf bindsFrom
+  all-stops l e = stops number-shape seen (unseen []) (at + length s) (numUpTo overLimit 128 s) _ h e
+
+  module _ {n : ℕ} {past : Cursor} (e : r ≡ number.Read n past) where
+    counted : Took at s (numUpTo overLimit 128 s) n (past .at)
+    counted = took number-shape h e (up-to-tail overLimit 128 s)
+
+    pub all-few : n ≤ 128
+    all-few = up-to-small overLimit 128 s n (drop (past .at - at) s) (counted .is)
+
+    module _ {u : List ℕ} (j : u ≡ drop (past .at - at) s) {l : List ℕ} {q : Place} (w : SomeRead c u (past .at + length u) n l q) where
+      from-count : readAll c s ≡ readSome c n u
+      unfolding readAll mostBindings
+      from-count = rw (counted .is, ← j)
+
+      one-end : past .at + length u ≡ at + length s
+      one-end = rw j (counted .ends)
+
+      pub all-withheld : {f : Refusal} → q ≡ place.Fault f
+          → record { value = bindsOf l 0; end = place.Fault f } ≡ seenAt [] (at + length s) (readAll c s)
+      unfolding bindsOf bindsFrom
+      all-withheld {f} g =
+          withheld (past .at + length u) (readSome c n u) f (sym g ∙ w .place)
+          ∙ ap₂ (λ (z : ℕ) (k : Read (List Bind)). seenAt [] z k) one-end (sym from-count)
+
+      pub all-given : {behind : Cursor} → q ≡ place.At behind
+          → record { value = bindsOf l n; end = place.At behind } ≡ seenAt [] (at + length s) (readAll c s)
+      all-given {behind} g =
+          let y : Given (past .at + length u) (readSome c n u) behind = given (past .at + length u) (readSome c n u) behind (sym g ∙ w .place) in
+          let z : behind ≡ record { at = at + length s - length (y .rest) } = λ k. record { at = (y .is ∙ ap (λ (d : ℕ). d - length (y .rest)) one-end) k } in
+          ap₂ (λ (b : List Bind) (d : Cursor). record { value = b; end = place.At d }) (w .held (y .all) (y .rest) (y .read)) z
+          ∙ ap (seenAt [] (at + length s)) (sym (from-count ∙ y .read))
+
+pub ruleset loading-laws = (no-binding, one-tail, target-stops, set-stops, set-gives, one-stops, one-goes, more-none, more-stops, more-disorder, more-goes, some-none, some-stops, some-goes, all-stops, all-few, all-withheld, all-given)
