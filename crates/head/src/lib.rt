@@ -29,7 +29,7 @@ impl Head {
 
     pub const TREE: u32 = 2;
 
-    const CORE_NAMES: u32 = 4;
+    pub const CORE_NAMES: u32 = 4;
 
     // Names that are no core names.
     const MOST_NAMES: u32 = 508;

@@ -1,3 +1,3 @@
 pub mod Bytes
-mod Counting
-mod Putting
+pub mod Counting
+pub mod Putting
