@@ -1,26 +1,26 @@
 -- Condition 3, one name is one address, from image bytes to image bytes. What it says is in specs/OneNameOneAddress.
 use mathlib.Core.Path.{_≡_, refl, sym, ap, _∙_, subst}
 use mathlib.Core.Logic.{_≢_}
-use Prim.Native.Nat.{ℕ, zero, suc, _+_, _-_, _≤_, _<_}
+use Prim.Native.Nat.{ℕ, suc, _+_, _-_, _≤_, _<_}
 use native.Mathlib.Nat.{le-refl, le-trans, le-of-eq}
 use native.Mathlib.Omega.{arith}
 use mathlib.Core.Bool.{Bool, true, false, _&&_, false≢true}
-use mathlib.Core.List.{List, [], _∷_, _++_}
-use lib.Dec.{eqb, leb}
-use lib.ListN.{length, take, drop}
+use mathlib.Core.List.{List, [], _∷_}
+use lib.Dec.{leb}
+use lib.ListN.{length, drop}
 use Rattle.model.specs.Choice.{if_then_else_}
 use Rattle.model.specs.Limits.{mostEntries, mostImage, lastPhase}
-use Rattle.model.specs.Refusals.{overBudget, codeOf, noPhase, tooLong, unowned}
+use Rattle.model.specs.Refusals.{overBudget, noPhase, tooLong, unowned}
 use Rattle.model.specs.Objects.{Stx, size}
 use Rattle.model.specs.Trees.{Tree, loadSize}
 use Rattle.model.specs.Resolving.{Bind}
 use Rattle.model.specs.Reading.{Read, got, fault, symbols, Image, readSyntax, readTreeImage, readImage}
 use Rattle.model.specs.Writing.{syntaxBytes, treeImageBytes}
-use Rattle.model.specs.Steps.{State, Out, ok, no, after, charge}
+use Rattle.model.specs.Steps.{State, Out, ok, no, after}
 use Rattle.model.specs.Parsing.{parse}
 use Rattle.model.specs.Evaluating.{evaluate}
 use Rattle.model.specs.Expanding.{coreOnly}
-use Rattle.model.specs.Jobs.{Ending, refused, named, written, answerOf, outputAfter, cleared, Result, budgetFits, lent, atPhase, withImage, start, worked, fitted, reached, expandRoot, parseRoot, evaluateRoot, isAmong, closed, expandEnding, parseEnding, evaluateEnding, expandJob, parseJob, evaluateJob}
+use Rattle.model.specs.Jobs.{Ending, refused, named, written, answerOf, outputAfter, Result, budgetFits, lent, atPhase, withImage, start, worked, fitted, reached, expandRoot, parseRoot, evaluateRoot, isAmong, closed, expandEnding, parseEnding, evaluateEnding, expandJob, parseJob, evaluateJob}
 use Rattle.laws.proofs.Tests.{leb-le, eqb-false}
 use Rattle.laws.proofs.Stable.{Later, same}
 use Rattle.laws.proofs.StepLaws.{spend}
@@ -34,9 +34,9 @@ use Rattle.addresses.proofs.Evaluated.{TreeGood, Gave, since, evaluate-
 use Rattle.addresses.proofs.Meanings.{vars}
 use Rattle.addresses.proofs.Costs.{Costs, charge-costs, costs-then, costs-enough, costs-short}
 use Rattle.addresses.proofs.Shorter.{image-shorter}
-use Rattle.addresses.proofs.Results.{Expanded, Rise, rise-lower}
+use Rattle.addresses.proofs.Results.{Expanded, Rise}
 use Rattle.addresses.proofs.ParseCharge.{parse-spends, cost-is-charge}
-use Rattle.addresses.proofs.Endings.{parseRoot-is, evaluateRoot-is, expandWork, parseWork, evaluateWork, expandEnding-is, parseEnding-is, evaluateEnding-is, expandJob-is, parseJob-is, evaluateJob-is, with-read, worked-ok, worked-no, fitted-is, lent-code, Ended, lent-ended, take-whole}
+use Rattle.addresses.proofs.Endings.{after-ending, parseRoot-is, evaluateRoot-is, expandWork, parseWork, evaluateWork, expandEnding-is, parseEnding-is, evaluateEnding-is, expandJob-is, parseJob-is, evaluateJob-is, with-read, worked-ok, worked-no, fitted-is, lent-code, Ended, lent-ended, take-whole}
 use Rattle.addresses.proofs.ExpandJob.{expand-root-good, outcome-ok, limits-kept, Fine, worked-fine, fitted-fine, lent-fine}
 
 -- ---- names that rise are all different, and none is below where they start
@@ -311,7 +311,7 @@ one-name-one-address image is-bytes budget table output q =
     (go e (p .0) (expand-wrote image budget (length output)))
   where
     go : (e : Ending) → Ended e → Wrote image budget e
-        → OneNameOneAddress image (imageWritten (record { answer = answerOf e; output = outputAfter e output; table = cleared budget table }))
+        → OneNameOneAddress image (imageWritten (after-ending budget table output e))
     go (refused r u) d w = absurd d
     go (named n u) d w = absurd w
     go (written b u) d w = subst (OneNameOneAddress image) (sym (take-whole b (drop (length b) output))) (holds image is-bytes budget b w)

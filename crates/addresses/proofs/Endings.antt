@@ -1,28 +1,23 @@
 -- How the jobs end, taken apart: each as its work's parts say.
-use mathlib.Core.Path.{_≡_, refl, sym, ap, ap₂, _∙_, subst}
-use Prim.Native.Nat.{ℕ, zero, suc, _+_, _-_, _≤_, _<_}
+use mathlib.Core.Path.{_≡_, refl, ap}
+use Prim.Native.Nat.{ℕ, _-_, _≤_}
 use native.Mathlib.Omega.{arith}
-use mathlib.Core.Bool.{Bool, true, false, _&&_}
+use mathlib.Core.Bool.{Bool, true, false}
 use mathlib.Core.List.{List, [], _∷_, _++_}
-use lib.Dec.{leb}
-use lib.ListN.{length, take, drop}
+use lib.ListN.{length, take}
 use Rattle.model.specs.Choice.{if_then_else_}
-use Rattle.model.specs.Limits.{mostImage, lastPhase, mostEntries}
+use Rattle.model.specs.Limits.{mostImage, mostEntries}
 use Rattle.model.specs.Refusals.{Refusal, layout, overLimit, unowned, wrongKind, smallTable, ambiguous, noMeaning, noRule, noSyntax, notApplicable, wrongArgument, noPhase, noNameLeft, noScopeLeft, noBindingLeft, boundAlready, tooDeep, tooManyEntries, overBudget, tooLong, codeOf}
 use Rattle.model.specs.Objects.{Stx, size}
 use Rattle.model.specs.Trees.{Tree, loadSize}
-use Rattle.model.specs.Reading.{Read, got, fault, Head, Image, readSyntax, readTreeImage, readImage}
+use Rattle.model.specs.Reading.{Read, got, Image, readSyntax, readTreeImage, readImage}
 use Rattle.model.specs.Writing.{syntaxBytes, treeImageBytes}
-use Rattle.model.specs.Steps.{State, Out, ok, no, Step, after, charge}
+use Rattle.model.specs.Steps.{State, Out, ok, no, after, charge}
 use Rattle.model.specs.Parsing.{parse}
 use Rattle.model.specs.Evaluating.{evaluate}
 use Rattle.model.specs.Expanding.{expand, coreOnly}
-use Rattle.model.specs.Jobs.{Ending, refused, named, written, Answer, answerOf, outputAfter, Result, budgetFits, lent, cleared, atPhase, withImage, start, worked, fitted, reached, expandRoot, parseRoot, evaluateRoot, closed, expandEnding, parseEnding, evaluateEnding, expandJob, parseJob, evaluateJob}
-use Rattle.laws.proofs.Tests.{leb-true, leb-le}
-use Rattle.codec_laws.proofs.Sequence.{and-both}
-use Rattle.addresses.specs.OneNameOneAddress.{imageWritten}
-use Rattle.addresses.proofs.Outcomes.{Possible, Outcome, gives, stops}
-use Rattle.addresses.proofs.Faults.{Reads, reads, faults}
+use Rattle.model.specs.Jobs.{Ending, refused, named, written, answerOf, outputAfter, Result, budgetFits, lent, cleared, atPhase, withImage, start, worked, fitted, reached, expandRoot, parseRoot, evaluateRoot, closed, expandEnding, parseEnding, evaluateEnding, expandJob, parseJob, evaluateJob}
+use Rattle.laws.proofs.Tests.{leb-true}
 
 -- ---- the definitions, one step open
 
@@ -98,6 +93,22 @@ pub fitted-is : (room : ℕ) (b : List ℕ) (u : ℕ) → length b ≤ room → 
 unfolding fitted
 fitted-is room b u h k = rw (leb-true (length b) room h, leb-true (length b) mostImage k)
 
+-- what a job gives after its ending e, and what it gives where budget or table do not fit
+abbrev pub after-ending : ℕ → List ℕ → List ℕ → Ending → Result
+after-ending budget table output e = record { answer = answerOf e; output = outputAfter e output; table = cleared budget table }
+
+abbrev pub untouched : List ℕ → List ℕ → Result
+untouched table output = record { answer = answerOf (refused smallTable 0); output = output; table = table }
+
+pub lent-cases : (P : Result → Type 0) (budget : ℕ) (table output : List ℕ) (e : Ending)
+    → P (after-ending budget table output e) → P (untouched table output) → P (lent budget table output e)
+unfolding lent
+lent-cases P budget table output e p q = go (budgetFits budget (length table))
+  where
+    go : (b : Bool) → P (if b then after-ending budget table output e else untouched table output)
+    go true = p
+    go false = q
+
 pub lent-code : (budget : ℕ) (table output : List ℕ) (r : Refusal) (u : ℕ) → budgetFits budget (length table) ≡ true
     → (lent budget table output (refused r u)) .answer .code ≡ codeOf r
 unfolding lent answerOf
@@ -141,19 +152,11 @@ ended-code (named n u) q = tt
 ended-code (written b u) q = tt
 
 pub lent-ended : (budget : ℕ) (table output : List ℕ) (e : Ending) → (lent budget table output e) .answer .code ≡ 0
-    → Ended e × (lent budget table output e ≡ record { answer = answerOf e; output = outputAfter e output; table = cleared budget table })
-unfolding lent answerOf
-lent-ended budget table output e q = go (budgetFits budget (length table)) q
-  where
-    went : Result
-    went = record { answer = answerOf e; output = outputAfter e output; table = cleared budget table }
-
-    small : Result
-    small = record { answer = answerOf (refused smallTable 0); output = output; table = table }
-
-    go : (b : Bool) → (if b then went else small) .answer .code ≡ 0 → Ended e × ((if b then went else small) ≡ went)
-    go true p = (ended-code e p, refl)
-    go false p = absurd (code-some smallTable p)
+    → Ended e × (lent budget table output e ≡ after-ending budget table output e)
+unfolding answerOf
+lent-ended budget table output e =
+    lent-cases (λ (z : Result). z .answer .code ≡ 0 → Ended e × (z ≡ after-ending budget table output e)) budget table output e
+    (λ q. (ended-code e q, refl)) (λ q. absurd (code-some smallTable q))
 
 -- ---- the start of what was written over
 

@@ -1,22 +1,22 @@
 -- Evaluating keeps every limit and leaves no variable without its function; so it never comes to a free variable (code 3).
-use mathlib.Core.Path.{_≡_, refl, sym, ap, _∙_, subst}
-use Prim.Native.Nat.{ℕ, zero, suc, _+_, _≤_, _<_, max}
-use native.Mathlib.Nat.{le-refl, le-trans, le-max-left, le-max-right, le-of-suc-le-suc}
+use mathlib.Core.Path.{_≡_, refl, ap, subst}
+use Prim.Native.Nat.{ℕ, zero, suc, _≤_, _<_, max}
+use native.Mathlib.Nat.{le-trans, le-max-left, le-max-right}
 use native.Mathlib.Omega.{arith}
-use mathlib.Core.Bool.{Bool, true, false, _&&_, false≢true}
+use mathlib.Core.Bool.{Bool, true, false, false≢true}
 use mathlib.Core.Option.{Option, none, some}
-use mathlib.Core.List.{List, [], _∷_}
+use mathlib.Core.List.{[]}
 use lib.Dec.{eqb}
 use Rattle.model.specs.Choice.{if_then_else_, given}
 use Rattle.model.specs.Limits.{mostNesting}
-use Rattle.model.specs.Refusals.{unowned, notApplicable, wrongArgument, tooManyEntries}
-use Rattle.model.specs.Objects.{Atom, symbol, number, point, prim, rung, Sets, Stx, atom, list, Stxs, nil, cons, sameAtom}
+use Rattle.model.specs.Refusals.{notApplicable, wrongArgument, tooManyEntries}
+use Rattle.model.specs.Objects.{symbol, number, point, prim, rung, Sets, Stx, atom, list, Stxs, nil, cons, sameAtom}
 use Rattle.model.specs.Trees.{Tree, var, app, fun, datum, lst, stx, Trees, tnil, tcons, tcount, tsize, tnesting, tnestings, substitute, substituteAll, asStx, asAtom, asList, asNumber, fromStxs, toStxs}
-use Rattle.model.specs.Steps.{State, Out, ok, no, Step, after, charge, madeTree, unless}
+use Rattle.model.specs.Steps.{State, Out, Step, after, charge, madeTree}
 use Rattle.model.specs.Evaluating.{content, setsOf, remade, firstOf, restOf, picked, primitive, applicable, eachTree, argument, orWrongKind, apply, evalEntry, evaluate}
 use Rattle.model.specs.Jobs.{isAmong, closed, closedAll}
 use Rattle.laws.proofs.Members.{SetsIn}
-use Rattle.codec_laws.specs.WellFormed.{AtomFits, StxFits, StxsFit, IsValue, TreeFits, TreesFit, ValuesFit}
+use Rattle.codec_laws.specs.WellFormed.{StxFits, StxsFit, IsValue, TreeFits, TreesFit, ValuesFit}
 use Rattle.codec_laws.proofs.Sequence.{and-both}
 use Rattle.addresses.proofs.Outcomes.{Outcome, gives, stops, chain, Kept, kept-refl, kept-same, kept-trans, charge-out, unless-out, madeTree-out}
 use Rattle.addresses.proofs.Owned.{both-true, closed-substitute}

@@ -1,7 +1,7 @@
 -- The expand job: its result keeps every limit of an image; evaluating inside it never meets a free variable, so it never answers 3; and
 -- it never answers 16.
 use mathlib.Core.Path.{_≡_, refl, sym, ap, _∙_, subst}
-use Prim.Native.Nat.{ℕ, zero, suc, _+_, _-_, _≤_, _<_}
+use Prim.Native.Nat.{ℕ, _+_, _-_, _≤_}
 use native.Mathlib.Nat.{le-refl}
 use native.Mathlib.Omega.{arith}
 use mathlib.Core.Bool.{Bool, true, false, _&&_}
@@ -12,11 +12,11 @@ use Rattle.model.specs.Choice.{if_then_else_}
 use Rattle.model.specs.Limits.{coreNames, mostEntries, mostImage, lastPhase}
 use Rattle.model.specs.Refusals.{Refusal, layout, overLimit, unowned, wrongKind, smallTable, ambiguous, noMeaning, noRule, noSyntax, notApplicable, wrongArgument, noPhase, noNameLeft, noScopeLeft, noBindingLeft, boundAlready, tooDeep, tooManyEntries, overBudget, tooLong, codeOf}
 use Rattle.model.specs.Objects.{Stx, size}
-use Rattle.model.specs.Reading.{Read, got, fault, symbols, Image, readSyntax, readImage}
+use Rattle.model.specs.Reading.{Read, got, symbols, Image, readSyntax, readImage}
 use Rattle.model.specs.Writing.{syntaxBytes}
-use Rattle.model.specs.Steps.{State, Out, ok, no, charge}
+use Rattle.model.specs.Steps.{State, Out, ok}
 use Rattle.model.specs.Expanding.{expand, coreOnly}
-use Rattle.model.specs.Jobs.{Ending, refused, named, written, answerOf, outputAfter, cleared, Result, budgetFits, lent, atPhase, withImage, start, worked, fitted, reached, expandRoot, expandEnding, expandJob}
+use Rattle.model.specs.Jobs.{Ending, refused, named, written, answerOf, Result, lent, atPhase, withImage, start, worked, fitted, reached, expandRoot, expandEnding, expandJob}
 use Rattle.codec_laws.specs.WellFormed.{Bytes, SyntaxFits}
 use Rattle.codec_laws.proofs.ImageLaws.{syntax-read-keeps-limits}
 use Rattle.addresses.proofs.Outcomes.{Possible, Outcome, gives, stops, chain, Kept, charge-out}
@@ -24,7 +24,7 @@ use Rattle.addresses.proofs.States.{StateFits, kept-grows}
 use Rattle.addresses.proofs.Results.{Expanded, expanded-after}
 use Rattle.addresses.proofs.Expansion.{Piece, piece-grows, weaken, expand-good}
 use Rattle.addresses.proofs.Faults.{Reads, reads, faults, image-reads}
-use Rattle.addresses.proofs.Endings.{expandRoot-is, expandWork, expandEnding-is, expandJob-is}
+use Rattle.addresses.proofs.Endings.{lent-cases, expandRoot-is, expandWork, expandEnding-is, expandJob-is}
 
 -- ---- the work of the expand job on an image that was read
 
@@ -168,18 +168,9 @@ fine-code (written b u) p = ((λ e. omega arith), (λ e. omega arith))
 
 pub lent-fine : (budget : ℕ) (table output : List ℕ) (e : Ending) → Fine e
     → ((lent budget table output e) .answer .code ≡ 3 → ⊥) × ((lent budget table output e) .answer .code ≡ 16 → ⊥)
-unfolding lent
-lent-fine budget table output e p = go (budgetFits budget (length table))
-  where
-    went : Result
-    went = record { answer = answerOf e; output = outputAfter e output; table = cleared budget table }
-
-    small : Result
-    small = record { answer = answerOf (refused smallTable 0); output = output; table = table }
-
-    go : (b : Bool) → ((if b then went else small) .answer .code ≡ 3 → ⊥) × ((if b then went else small) .answer .code ≡ 16 → ⊥)
-    go true = fine-code e p
-    go false = fine-code (refused smallTable 0) tt
+lent-fine budget table output e p =
+    lent-cases (λ (z : Result). (z .answer .code ≡ 3 → ⊥) × (z .answer .code ≡ 16 → ⊥)) budget table output e
+    (fine-code e p) (fine-code (refused smallTable 0) tt)
 
 -- evaluating inside expand never meets a free variable
 pub expand-never-3 : (image : List ℕ) → Bytes image → (ph budget : ℕ) (table output : List ℕ) → (expandJob image ph budget table output) .answer .code ≡ 3 → ⊥

@@ -3,31 +3,28 @@ use mathlib.Core.Path.{_≡_, refl, sym, ap, _∙_, subst}
 use Prim.Native.Nat.{ℕ, zero, suc, _+_, _≤_, _<_, suc-le-suc, max}
 use native.Mathlib.Nat.{le-refl, le-trans, le-of-eq, le-max-left, le-max-right}
 use native.Mathlib.Omega.{arith}
-use mathlib.Core.Bool.{Bool, true, false}
 use mathlib.Core.Option.{Option, none, some}
-use mathlib.Core.List.{List, []}
 use lib.Dec.{leb}
 use Rattle.model.specs.Limits.{mostNesting, lastPhase}
 use Rattle.model.specs.Refusals.{noMeaning, noRule, noSyntax, noPhase, tooManyEntries, overBudget}
 use Rattle.model.specs.Scopes.{Scopes, add}
-use Rattle.model.specs.Objects.{Atom, symbol, number, point, prim, rung, Sets, Stx, atom, list, Stxs, nil, cons, size, nesting, nestings, addScope, flipScope, pruneScopes}
-use Rattle.model.specs.Trees.{Tree, app, stx, Trees, tnil, tcons, tnesting, asStx}
-use Rattle.model.specs.Steps.{State, Out, ok, no, Step, after, unless, charge, made, addTo, flipIn, pruneFrom, freshScope, resolveAt, parts1, parts2, parts3, identifier}
-use Rattle.model.specs.Evaluating.{evaluate}
-use Rattle.model.specs.Parsing.{Form, lambda, letSyntax, quote, syntax, headForm, parse}
-use Rattle.model.specs.Expanding.{Meaning, core, variable, macro, unknown, Env, coreOnly, extend, meaning, headMeaning, expandName, Binder, bindFresh, Expander, expandAll, expandApplication, expandFunction, expandLambda, expandSyntax, expandBinding, expandLetSyntax, orNoSyntax, expandMacro, expandForm, expandEntry, expand}
+use Rattle.model.specs.Objects.{Atom, symbol, number, point, prim, rung, Sets, Stx, atom, list, Stxs, nil, cons, nesting, nestings, addScope, flipScope, pruneScopes}
+use Rattle.model.specs.Trees.{Tree, stx, tnil, tcons, tnesting, asStx}
+use Rattle.model.specs.Steps.{State, Out, ok, parts1}
+use Rattle.model.specs.Parsing.{lambda, letSyntax, quote, syntax, headForm}
+use Rattle.model.specs.Expanding.{Meaning, core, variable, macro, unknown, Env, coreOnly, extend, meaning, expandName, Expander, expandAll, expandApplication, expandFunction, expandLambda, expandSyntax, expandBinding, expandLetSyntax, orNoSyntax, expandMacro, expandForm, expandEntry, expand}
 use Rattle.model.specs.Jobs.{closed}
 use Rattle.laws.proofs.Members.{SetsIn}
-use Rattle.laws.proofs.Stable.{later-trans, Later, same}
+use Rattle.laws.proofs.Stable.{later-trans, same}
 use Rattle.laws.proofs.StepLaws.{spend}
-use Rattle.codec_laws.specs.WellFormed.{StxFits, StxsFit, TreeFits}
-use Rattle.addresses.proofs.Outcomes.{Outcome, gives, stops, chain, Kept, kept-refl, kept-same, kept-trans, kept-spend, charge-out, unless-out, made-out, addTo-out, flipIn-out, pruneFrom-out, resolveAt-out, parts1-out, parts2-out, parts3-out, identifier-out}
+use Rattle.codec_laws.specs.WellFormed.{StxFits, StxsFit}
+use Rattle.addresses.proofs.Outcomes.{Outcome, gives, stops, chain, Kept, kept-same, kept-trans, kept-spend, charge-out, unless-out, made-out, addTo-out, flipIn-out, pruneFrom-out, resolveAt-out, parts1-out, parts2-out, parts3-out, identifier-out}
 use Rattle.addresses.proofs.Fitting.{sets-more, stx-more, stxs-more, addScope-fits, flipScope-fits, pruneScopes-fits, addScope-nesting, flipScope-nesting, pruneScopes-nesting}
 use Rattle.addresses.proofs.Evaluated.{TreeGood, evaluate-good, application-of, stx-is}
-use Rattle.addresses.proofs.States.{StateFits, Grows, grows-refl, grows-trans, kept-grows, Bound, bindFresh-out, freshScope-out}
+use Rattle.addresses.proofs.States.{StateFits, Grows, grows-trans, kept-grows, bindFresh-out, freshScope-out}
 use Rattle.addresses.proofs.Meanings.{vars, MeaningGood, EnvGood, meaning-grows, env-grows, value-grows, meaning-variable, Stays, HeadGood, head-out}
 use Rattle.addresses.proofs.Costs.{Costs, paid, short}
-use Rattle.addresses.proofs.Results.{Expanded, expanded-after, expanded-vars, expanded-same, variable-expanded, atom-expanded, quote-expanded, syntax-expanded, ExpandedAll, none-expanded, cons-expanded, application-expanded, function-expanded, Rise, rise-lower}
+use Rattle.addresses.proofs.Results.{Expanded, expanded-after, expanded-vars, expanded-same, variable-expanded, atom-expanded, quote-expanded, syntax-expanded, ExpandedAll, none-expanded, cons-expanded, application-expanded, function-expanded}
 
 -- ---- small laws
 

@@ -1,13 +1,13 @@
 -- Objects that keep the limits keep them when scopes are added, flipped or pruned, when more is declared, and when they are stripped.
-use mathlib.Core.Path.{_≡_, refl, sym, ap, ap₂, _∙_, subst}
+use mathlib.Core.Path.{_≡_, refl, ap, ap₂}
 use Prim.Native.Nat.{ℕ, zero, suc, _^_, _≤_, _<_, max}
-use native.Mathlib.Nat.{le-refl, le-trans, zero-lt-suc, pow-le-pow-right, lt-of-le-of-lt}
+use native.Mathlib.Nat.{le-trans, zero-lt-suc, pow-le-pow-right, lt-of-le-of-lt}
 use lib.Bits.{or-lt, xor-lt, and-le-r, bitAnd}
 use lib.Pow.{pow-pos}
 use Rattle.model.specs.Scopes.{Scopes, only, add, flip, prune}
-use Rattle.model.specs.Objects.{Atom, Sets, setAt, changeAt, Stx, atom, list, Stxs, nil, cons, nesting, nestings, onSets, onSetsAll, addScope, flipScope, pruneScopes}
+use Rattle.model.specs.Objects.{Sets, changeAt, Stx, atom, list, Stxs, nil, cons, nesting, nestings, onSets, onSetsAll, addScope, flipScope, pruneScopes}
 use Rattle.model.specs.Trees.{Tree, var, app, fun, datum, lst, stx, Trees, tnil, tcons, tnesting, tnestings, strip, stripAll}
-use Rattle.codec_laws.specs.WellFormed.{AtomFits, StxFits, StxsFit, IsValue, TreeFits, TreesFit, ValuesFit}
+use Rattle.codec_laws.specs.WellFormed.{StxFits, StxsFit, IsValue, TreeFits, TreesFit, ValuesFit}
 use Rattle.codec_laws.proofs.SetTrip.{pow-mono}
 use Rattle.laws.proofs.Members.{SetsIn}
 

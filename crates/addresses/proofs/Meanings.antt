@@ -1,19 +1,18 @@
 -- Meanings that keep the limits: a variable's binder is bound to its name, a macro's value is good; and what a name means.
 use mathlib.Core.Path.{_≡_, refl, sym, ap, _∙_, subst}
 use mathlib.Core.Logic.{_≢_}
-use Prim.Native.Nat.{ℕ, zero, suc, _≤_, _<_}
-use native.Mathlib.Nat.{le-refl, le-trans}
+use Prim.Native.Nat.{ℕ, zero, suc, _≤_}
 use native.Mathlib.Omega.{arith}
-use mathlib.Core.Bool.{Bool, true, false, _||_}
+use mathlib.Core.Bool.{Bool, true, false}
 use mathlib.Core.Option.{Option, none, some}
 use mathlib.Core.List.{List, [], _∷_}
 use lib.Dec.{eqb}
 use Rattle.model.specs.Choice.{if_then_else_}
 use Rattle.model.specs.Objects.{Sets, setAt, symbol, number, point, prim, rung, Stx, atom, list}
 use Rattle.model.specs.Trees.{Tree}
-use Rattle.model.specs.Resolving.{Bind, means, resolve}
-use Rattle.model.specs.Steps.{State, Out, ok, resolveAt}
-use Rattle.model.specs.Parsing.{Form, lambda, letSyntax, quote, syntax, formOf, headForm}
+use Rattle.model.specs.Resolving.{means, resolve}
+use Rattle.model.specs.Steps.{State, ok, resolveAt}
+use Rattle.model.specs.Parsing.{Form, formOf, headForm}
 use Rattle.model.specs.Expanding.{Meaning, core, variable, macro, unknown, Env, coreOnly, extend, coreMeaning, meaning, headMeaning}
 use Rattle.model.specs.Jobs.{isAmong}
 use Rattle.laws.proofs.Members.{SetsIn}
@@ -22,7 +21,7 @@ use Rattle.laws.proofs.ResolveRule.{In}
 use Rattle.laws.proofs.Stable.{Later, resolve-later, later-in, keys-later, resolve-own}
 use Rattle.laws.proofs.StepLaws.{resolveAt-is}
 use Rattle.codec_laws.specs.WellFormed.{StxFits}
-use Rattle.addresses.proofs.Outcomes.{Outcome, gives, stops, chain, resolveAt-out}
+use Rattle.addresses.proofs.Outcomes.{Outcome, gives, chain, resolveAt-out}
 use Rattle.addresses.proofs.Owned.{or-right}
 use Rattle.addresses.proofs.Fitting.{sets-more, tree-more}
 use Rattle.addresses.proofs.Evaluated.{TreeGood}

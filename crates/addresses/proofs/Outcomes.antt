@@ -1,18 +1,16 @@
 -- What a step gives or refuses: what holds where it succeeds, and that it is refused neither by 3 nor by 16.
-use mathlib.Core.Path.{_≡_, refl, sym, ap, _∙_, subst}
-use mathlib.Core.Logic.{_≢_}
-use Prim.Native.Nat.{ℕ, zero, suc, _+_, _-_, _≤_, _<_}
-use native.Mathlib.Nat.{le-refl, le-trans, le-of-eq, sub-le}
+use mathlib.Core.Path.{_≡_, refl, _∙_, subst}
+use Prim.Native.Nat.{ℕ, _≤_}
+use native.Mathlib.Nat.{le-refl, le-trans, sub-le}
 use mathlib.Core.Bool.{Bool, true, false}
-use mathlib.Core.Option.{Option, none, some}
-use lib.Dec.{leb, ltb}
+use lib.Dec.{leb}
 use Rattle.model.specs.Choice.{if_then_else_}
 use Rattle.model.specs.Limits.{mostNesting}
 use Rattle.model.specs.Refusals.{Refusal, layout, overLimit, unowned, wrongKind, smallTable, ambiguous, noMeaning, noRule, noSyntax, notApplicable, wrongArgument, noPhase, noNameLeft, noScopeLeft, noBindingLeft, boundAlready, tooDeep, tooManyEntries, overBudget, tooLong}
 use Rattle.model.specs.Scopes.{Scopes}
-use Rattle.model.specs.Objects.{Atom, symbol, number, point, prim, rung, Sets, setAt, Stx, atom, list, Stxs, nil, cons, size, nesting, addScope, flipScope, pruneScopes}
+use Rattle.model.specs.Objects.{symbol, number, point, prim, rung, Sets, setAt, Stx, atom, list, Stxs, nil, cons, size, nesting, addScope, flipScope, pruneScopes}
 use Rattle.model.specs.Trees.{Tree, tnesting}
-use Rattle.model.specs.Resolving.{Bind, Found, means, several, resolve}
+use Rattle.model.specs.Resolving.{Found, means, several, resolve}
 use Rattle.model.specs.Steps.{State, Out, ok, no, Step, after, unless, charge, made, madeTree, addTo, flipIn, pruneFrom, nameOf, resolveAt, parts1, parts2, parts3, identifier}
 use Rattle.laws.proofs.Tests.{leb-le}
 use Rattle.laws.proofs.StepLaws.{spend}
@@ -90,23 +88,22 @@ pub unless-out : (r : Refusal) → Possible r → (b : Bool) (s : State) → Out
 unless-out r p true s = gives tt s (refl, refl)
 unless-out r p false s = stops r (s .left) p
 
+-- something made, of nesting n, and tested
+tested : {A : Type 0} (x : A) (n : ℕ) (s : State)
+    → Outcome A (λ y t. (x ≡ y) × (s ≡ t) × (n ≤ mostNesting)) (after (unless tooDeep (leb n mostNesting) s) (λ v. λ t. ok x t))
+tested {A} x n s = go (leb n mostNesting) refl
+  where
+    go : (b : Bool) → leb n mostNesting ≡ b → Outcome A (λ y t. (x ≡ y) × (s ≡ t) × (n ≤ mostNesting)) (after (unless tooDeep b s) (λ v. λ t. ok x t))
+    go true e = gives x s (refl, refl, leb-le n mostNesting e)
+    go false e = stops tooDeep (s .left) tt
+
 pub made-out : (x : Stx) (s : State) → Outcome Stx (λ y t. (x ≡ y) × (s ≡ t) × (nesting x ≤ mostNesting)) (made x s)
 unfolding made
-made-out x s = go (leb (nesting x) mostNesting) refl
-  where
-    go : (b : Bool) → leb (nesting x) mostNesting ≡ b
-        → Outcome Stx (λ y t. (x ≡ y) × (s ≡ t) × (nesting x ≤ mostNesting)) (after (unless tooDeep b s) (λ v. λ t. ok x t))
-    go true e = gives x s (refl, refl, leb-le (nesting x) mostNesting e)
-    go false e = stops tooDeep (s .left) tt
+made-out x s = tested x (nesting x) s
 
 pub madeTree-out : (x : Tree) (s : State) → Outcome Tree (λ y t. (x ≡ y) × (s ≡ t) × (tnesting x ≤ mostNesting)) (madeTree x s)
 unfolding madeTree
-madeTree-out x s = go (leb (tnesting x) mostNesting) refl
-  where
-    go : (b : Bool) → leb (tnesting x) mostNesting ≡ b
-        → Outcome Tree (λ y t. (x ≡ y) × (s ≡ t) × (tnesting x ≤ mostNesting)) (after (unless tooDeep b s) (λ v. λ t. ok x t))
-    go true e = gives x s (refl, refl, leb-le (tnesting x) mostNesting e)
-    go false e = stops tooDeep (s .left) tt
+madeTree-out x s = tested x (tnesting x) s
 
 -- what a piece becomes when its scopes are changed
 changed : (n : ℕ) (y : Stx) (s : State) → Outcome Stx (λ z t. (y ≡ z) × Kept s t) (after (charge n s) (λ v. λ t. ok y t))

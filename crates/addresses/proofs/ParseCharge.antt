@@ -5,18 +5,18 @@ use native.Mathlib.Nat.{add-zero}
 use native.Mathlib.Omega.{arith}
 use mathlib.Core.Bool.{Bool, true, false}
 use mathlib.Core.Option.{Option, none, some}
-use mathlib.Core.List.{List, [], _∷_}
+use mathlib.Core.List.{List, _∷_}
 use lib.Dec.{leb}
 use Rattle.model.specs.Choice.{if_then_else_}
 use Rattle.model.specs.Refusals.{noRule, tooManyEntries, overBudget}
-use Rattle.model.specs.Objects.{Atom, symbol, number, point, prim, rung, Sets, setAt, Stx, atom, list, Stxs, nil, cons, size, sizes}
-use Rattle.model.specs.Trees.{Tree, var, app, fun, datum, lst, stx, Trees, tnil, tcons, strip}
+use Rattle.model.specs.Objects.{symbol, number, point, prim, rung, setAt, Stx, atom, list, Stxs, nil, cons, size, sizes}
+use Rattle.model.specs.Trees.{Tree, var, app, fun, datum, stx, Trees, tnil, tcons, strip}
 use Rattle.model.specs.Resolving.{Bind, means, resolve}
-use Rattle.model.specs.Steps.{State, Out, ok, no, Step, after, charge, resolveAt, parts1, parts2, identifier}
+use Rattle.model.specs.Steps.{State, Out, ok, no, Step, charge, nameOf, resolveAt}
 use Rattle.model.specs.Parsing.{Form, lambda, letSyntax, quote, syntax, formOf, headForm, parseAll, parseForm, parseEntry, parse}
 use Rattle.laws.proofs.Tests.{leb-le}
 use Rattle.laws.proofs.StepLaws.{spend}
-use Rattle.addresses.specs.Charge.{formFound, formAt, sumOf, lastOf, sizeAfterHead, insideCharge, entryCharge, entryCharges}
+use Rattle.addresses.specs.Charge.{formMade, formAt, sumOf, lastOf, sizeAfterHead, insideCharge, entryCharge, entryCharges}
 use Rattle.addresses.proofs.Outcomes.{Outcome, gives, stops, chain, resolveAt-out, parts1-out, parts2-out, identifier-out}
 use Rattle.addresses.proofs.Costs.{Costs, paid, short, spend-spend}
 
@@ -69,11 +69,14 @@ all-spends ph bs self h (cons x l) s q =
     chain _ (h x s q) (λ t u a. chain _ (all-spends ph bs self h l u (sym (spent-binds (entryCharge ph bs x) s u a) ∙ q)) (λ r v b.
     gives (tcons t r) v (spent-then (entryCharge ph bs x) (sumOf (entryCharges ph bs l)) s u v a b)))
 
+-- the head is resolved by the bindings alone
 head-out : (ph : ℕ) (bs : List Bind) (h : Stx) (l : Stxs) (s : State) → s .binds ≡ bs
     → Outcome (Option Form) (λ f u. (formAt ph bs (cons h l) ≡ f) × (s ≡ u)) (headForm ph h s)
-unfolding headForm formAt formFound
-head-out ph bs (atom c (symbol x)) l s q =
-    chain _ (resolveAt-out ph c x s) (λ n t r. gives (formOf n) t (ap (λ (z : List Bind). formFound (resolve x (setAt ph c) z)) (sym q) ∙ ap formFound (r .0), r .1))
+unfolding headForm formAt formMade resolveAt nameOf
+head-out ph bs (atom c (symbol x)) l s q = chain _ (resolveAt-out ph c x s) (λ n t r. gives (formOf n) t (made n r, r .1))
+  where
+    made : (n : ℕ) {t : State} → (resolve x (setAt ph c) (s .binds) ≡ means n) × (s ≡ t) → formAt ph bs (cons (atom c (symbol x)) l) ≡ formOf n
+    made n r = rw (ap (resolve x (setAt ph c)) (sym q) ∙ r .0)
 head-out ph bs (atom c (number x)) l s q = gives none s (refl, refl)
 head-out ph bs (atom c (point x)) l s q = gives none s (refl, refl)
 head-out ph bs (atom c (prim x)) l s q = gives none s (refl, refl)

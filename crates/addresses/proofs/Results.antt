@@ -4,31 +4,30 @@ use mathlib.Core.Path.{_≡_, refl, sym, ap, _∙_, subst}
 use Prim.Native.Nat.{ℕ, zero, suc, _+_, _^_, _≤_, _<_, zero-le, suc-le-suc, max}
 use native.Mathlib.Nat.{le-refl, le-trans, le-of-eq, not-suc-le-zero, le-of-suc-le-suc, le-max-left, le-max-right, max-le}
 use native.Mathlib.Omega.{arith}
-use mathlib.Core.Bool.{Bool, true, false, _&&_}
-use mathlib.Core.Option.{Option, none, some}
+use mathlib.Core.Bool.{true}
+use mathlib.Core.Option.{none, some}
 use mathlib.Core.List.{List, [], _∷_, _++_}
 use lib.ListN.{length}
 use Rattle.model.specs.Limits.{mostNesting, mostNames}
 use Rattle.model.specs.Objects.{Atom, symbol, number, point, prim, rung, Sets, setAt, Stx, atom, list, Stxs, nil, cons, count, size, nesting, nestings}
-use Rattle.model.specs.Trees.{Tree, var, app, fun, datum, lst, stx, Trees, tnil, tcons, tcount, tnesting, tnestings, strip, stripAll}
+use Rattle.model.specs.Trees.{Tree, var, app, fun, datum, stx, Trees, tnil, tcons, tcount, tnesting, tnestings, strip, stripAll}
 use Rattle.model.specs.Resolving.{Bind}
 use Rattle.model.specs.Writing.{stxBytes, stxsBytes, treeBytes, treesBytes}
-use Rattle.model.specs.Steps.{State, Out, ok, Step, after, charge, resolveAt, parts1, parts2, identifier}
-use Rattle.model.specs.Parsing.{Form, lambda, quote, syntax, headForm, parseAll, parseForm, parseEntry, parse}
+use Rattle.model.specs.Steps.{State, ok, resolveAt, parts1, parts2, identifier}
+use Rattle.model.specs.Parsing.{lambda, quote, syntax, headForm, parseAll, parseForm, parseEntry, parse}
 use Rattle.model.specs.Expanding.{Env, extend, variable, Binder}
 use Rattle.model.specs.Jobs.{isAmong, closed, closedAll}
 use Rattle.laws.proofs.Members.{SetsIn}
-use Rattle.laws.proofs.ResolveRule.{In}
 use Rattle.laws.proofs.Stable.{Later, later-trans, later-in}
 use Rattle.laws.proofs.StepLaws.{spend}
-use Rattle.codec_laws.specs.WellFormed.{AtomFits, StxFits, StxsFit, TreeFits, TreesFit}
+use Rattle.codec_laws.specs.WellFormed.{StxFits, StxsFit, TreeFits, TreesFit}
 use Rattle.addresses.specs.OneNameOneAddress.{functionNames, functionNamesAll}
 use Rattle.addresses.proofs.Outcomes.{Kept}
 use Rattle.addresses.proofs.Fitting.{sets-more, stx-more, tree-more, strip-fits, strip-nesting}
 use Rattle.addresses.proofs.Owned.{both-true, strip-closed}
 use Rattle.addresses.proofs.States.{StateFits, Grows, grows-refl, grows-trans, kept-grows, binds-in, Bound}
 use Rattle.addresses.proofs.Meanings.{vars, MeaningGood, Stays, formOf-none, binder-is-its-name}
-use Rattle.addresses.proofs.Costs.{Costs, paid, short, free, charge-costs, costs-then, costs-map}
+use Rattle.addresses.proofs.Costs.{Costs, free, charge-costs, costs-then, costs-map}
 use Rattle.addresses.proofs.Shorter.{var-shorter, datum-shorter, quote-shorter, syntax-shorter, function-shorter, application-shorter, none-shorter, trees-shorter}
 
 -- ---- names that rise

@@ -1,7 +1,6 @@
 -- A tree takes no more bytes than the object that it is parsed from.
-use mathlib.Core.Path.{_≡_, refl, sym, ap, _∙_, subst}
-use Prim.Native.Nat.{ℕ, zero, suc, _+_, _-_, _/_, _%_, _≤_, _<_, zero-le, suc-le-suc}
-use native.Mathlib.Nat.{le-refl, le-trans}
+use mathlib.Core.Path.{_≡_, refl, sym, ap, _∙_}
+use Prim.Native.Nat.{ℕ, suc, _+_, _-_, _/_, _%_, _≤_, _<_, zero-le}
 use native.Mathlib.Omega.{arith}
 use mathlib.Core.Bool.{Bool, true, false}
 use mathlib.Core.List.{List, [], _∷_, _++_}
@@ -14,7 +13,7 @@ use Rattle.model.specs.Trees.{Tree, var, app, fun, datum, lst, stx, Trees, tnil
 use Rattle.model.specs.Resolving.{Bind}
 use Rattle.model.specs.Reading.{Head}
 use Rattle.model.specs.Writing.{groupsOf, numBytes, numsBytes, listBytes, setBytes, setsBytes, stxBytes, stxsBytes, treeBytes, treesBytes, wordsBytes, bindsBytes, headBytes, syntaxBytes, treeImageBytes}
-use Rattle.laws.proofs.Tests.{ltb-true, ltb-lt, ltb-ge}
+use Rattle.laws.proofs.Tests.{ltb-true}
 use Rattle.codec_laws.proofs.Lengths.{num-some}
 
 -- ---- numbers and sets

@@ -1,7 +1,7 @@
 -- States that keep the limits, and how expanding makes them grow: counts rise, bindings come with newer scopes, units fall, and
 -- every limit that held still holds.
 use mathlib.Core.Path.{_≡_, refl, sym, ap, _∙_, subst}
-use mathlib.Core.Logic.{_⊎_, inl, inr}
+use mathlib.Core.Logic.{inl, inr}
 use Prim.Native.Nat.{ℕ, zero, suc, _+_, _-_, _^_, _≤_, _<_}
 use native.Mathlib.Nat.{le-refl, le-trans, le-of-eq, sub-le}
 use native.Mathlib.Numerals.{add-one}
@@ -15,16 +15,16 @@ use Rattle.model.specs.Limits.{mostNames, mostScopes, mostBindings}
 use Rattle.model.specs.Refusals.{noNameLeft, noScopeLeft, noBindingLeft, overBudget, boundAlready}
 use Rattle.model.specs.Scopes.{Scopes, has, add}
 use Rattle.model.specs.Objects.{Sets, setAt, changeAt}
-use Rattle.model.specs.Resolving.{Bind, bindBefore, bound, insert, resolve}
-use Rattle.model.specs.Steps.{State, Out, ok, no, Step, after, charge, freshName, freshScope, bind}
+use Rattle.model.specs.Resolving.{Bind, bindBefore, bound, insert}
+use Rattle.model.specs.Steps.{State, ok, no, Step, after, charge, freshName, freshScope, bind}
 use Rattle.model.specs.Expanding.{Binder, bindFresh}
 use Rattle.laws.proofs.Members.{SetsIn, Small}
-use Rattle.laws.proofs.Tests.{leb-le, ltb-lt}
+use Rattle.laws.proofs.Tests.{ltb-lt}
 use Rattle.laws.proofs.ScopeSets.{has-add, eqb-true}
 use Rattle.laws.proofs.ResolveRule.{In}
 use Rattle.laws.proofs.Order.{Sorted, sorted-keys}
-use Rattle.laws.proofs.Store.{Unlike, insert-sorted}
-use Rattle.laws.proofs.Stable.{New, Later, same, more, later-trans, insert-new, unbound, SetsBelow, fresh-unbound, Keys}
+use Rattle.laws.proofs.Store.{insert-sorted}
+use Rattle.laws.proofs.Stable.{New, Later, same, more, later-trans, insert-new, unbound, fresh-unbound, Keys}
 use Rattle.laws.proofs.StepLaws.{spend}
 use Rattle.codec_laws.specs.WellFormed.{BindFits, BindsFit}
 use Rattle.addresses.proofs.Outcomes.{Outcome, gives, stops, Kept}

@@ -1,26 +1,21 @@
--- What parse charges, exactly: the size of the object for loading it; then one unit for each entry and the size of quoted data.
-use Prim.Native.Nat.{ℕ, zero, suc, _+_}
+-- What parse charges, exactly: the size of the object for loading it; then one unit for each entry, and the size of quoted data.
+use Prim.Native.Nat.{ℕ, _+_}
 use mathlib.Core.Option.{Option, none, some}
 use mathlib.Core.List.{List, [], _∷_}
-use Rattle.model.specs.Objects.{Atom, symbol, number, point, prim, rung, Sets, setAt, Stx, atom, list, Stxs, nil, cons, size, sizes}
-use Rattle.model.specs.Resolving.{Bind, Found, means, several, resolve}
-use Rattle.model.specs.Parsing.{Form, lambda, letSyntax, quote, syntax, formOf}
+use Rattle.model.specs.Objects.{Stx, atom, list, Stxs, nil, cons, size, sizes}
+use Rattle.model.specs.Resolving.{Bind}
+use Rattle.model.specs.Steps.{Out, ok, no}
+use Rattle.model.specs.Parsing.{Form, lambda, letSyntax, quote, syntax, headForm}
 
--- the form that a list's head makes at a phase, where it can be resolved
-unfoldable pub formFound : Found → Option Form
-unfolding formOf
-formFound (means n) = formOf n
-formFound several = none
+-- the form that the head of a list makes with these bindings; none where it cannot be resolved
+unfoldable pub formMade : Out (Option Form) → Option Form
+formMade (ok f s) = f
+formMade (no r u) = none
 
 unfoldable pub formAt : ℕ → List Bind → Stxs → Option Form
-unfolding formFound resolve setAt
+unfolding formMade headForm
 formAt ph bs nil = none
-formAt ph bs (cons (atom c (symbol x)) l) = formFound (resolve x (setAt ph c) bs)
-formAt ph bs (cons (atom c (number x)) l) = none
-formAt ph bs (cons (atom c (point x)) l) = none
-formAt ph bs (cons (atom c (prim x)) l) = none
-formAt ph bs (cons (atom c (rung x)) l) = none
-formAt ph bs (cons (list c p) l) = none
+formAt ph bs (cons h l) = formMade (headForm ph h (record { left = 0; names = 0; scopes = 0; binds = bs }))
 
 unfoldable pub sumOf : List ℕ → ℕ
 sumOf [] = 0
@@ -36,7 +31,7 @@ unfolding sizes
 sizeAfterHead nil = 0
 sizeAfterHead (cons h l) = sizes l
 
--- inside a list: a function's body; a quote's data; of an application every part. `charges` has the charge of each part.
+-- inside a list, by its form: every part of an application; a function's body; a quote's data. `charges` has the charge of each part.
 unfoldable pub insideCharge : Option Form → List ℕ → Stxs → ℕ
 unfolding sumOf lastOf sizeAfterHead
 insideCharge none charges l = sumOf charges

@@ -1,6 +1,6 @@
 -- Condition 3, one name is one address, from image bytes to image bytes. The theorem is `one-name-one-address` in proofs/Condition3:
 -- it gives `OneNameOneAddress` for every image that the expand job at phase 0 answers with code 0, and for the image that it writes.
-use Prim.Native.Nat.{ℕ, zero, suc, _≤_, _<_}
+use Prim.Native.Nat.{ℕ, _≤_, _<_}
 use mathlib.Core.Path.{_≡_}
 use mathlib.Core.Bool.{true, false}
 use mathlib.Core.List.{List, [], _∷_, _++_}

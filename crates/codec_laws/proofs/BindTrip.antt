@@ -1,14 +1,13 @@
 -- Bindings: what is read keeps the limits and is written again the same; what keeps the limits is read back.
-use mathlib.Core.Path.{_≡_, refl, sym, ap, _∙_, subst}
+use mathlib.Core.Path.{_≡_, refl, sym, ap, subst}
 use Prim.Native.Nat.{ℕ, zero, suc, _≤_, _<_}
 use native.Mathlib.Omega.{arith}
-use mathlib.Core.Bool.{true}
 use mathlib.Core.List.{List, [], _∷_, _++_, append-assoc}
 use lib.ListN.{length}
 use Rattle.model.specs.Limits.{mostBindings, mostNames, mostScopes}
 use Rattle.model.specs.Refusals.{layout, overLimit}
 use Rattle.model.specs.Resolving.{Bind, bindBefore}
-use Rattle.model.specs.Reading.{Read, got, need, numUpTo, numBelow, readSet, Head, symbols, readBind, readBindsAfter, readSomeBinds, readBinds}
+use Rattle.model.specs.Reading.{got, need, numUpTo, numBelow, readSet, Head, symbols, readBind, readBindsAfter, readSomeBinds, readBinds}
 use Rattle.model.specs.Writing.{numBytes, setBytes, bindBytes, bindsBytes}
 use Rattle.laws.proofs.Order.{Ascending, Sorted}
 use Rattle.codec_laws.specs.WellFormed.{Bytes, HeadFits, BindFits, BindsFit}

@@ -9,7 +9,7 @@ use lib.Dec.{eqb, leb}
 use lib.ListN.{length}
 use Rattle.model.specs.Limits.{mostScopes, mostNames, coreNames, mostWordLength}
 use Rattle.model.specs.Refusals.{layout, overLimit, wrongKind}
-use Rattle.model.specs.Reading.{Read, got, need, byte, bytes, num, numUpTo, goodWord, among, readWords, coreWords, Head, symbols, readHead}
+use Rattle.model.specs.Reading.{got, need, byte, bytes, num, numUpTo, goodWord, among, readWords, coreWords, Head, symbols, readHead}
 use Rattle.model.specs.Writing.{numBytes, wordsBytes, headBytes}
 use Rattle.laws.proofs.Tests.{leb-true, leb-le, eqb-false, eqb-ne}
 use Rattle.laws.proofs.ScopeSets.{eqb-eq, eqb-true}

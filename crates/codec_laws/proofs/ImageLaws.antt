@@ -2,7 +2,7 @@
 -- what is read keeps every limit; a well-formed image read and written again is the same bytes; what keeps the limits is read back.
 use mathlib.Core.Path.{_≡_, refl, sym, ap, _∙_, subst}
 use mathlib.Core.Logic.{inl, inr}
-use Prim.Native.Nat.{ℕ, zero, suc, _≤_, _<_}
+use Prim.Native.Nat.{ℕ, _≤_, _<_}
 use native.Mathlib.Omega.{arith}
 use mathlib.Core.Bool.{Bool, true, false}
 use mathlib.Core.List.{List, [], _∷_, _++_, append-assoc}
@@ -14,11 +14,11 @@ use Rattle.model.specs.Refusals.{layout, overLimit}
 use Rattle.model.specs.Objects.{Stx}
 use Rattle.model.specs.Trees.{Tree}
 use Rattle.model.specs.Resolving.{Bind}
-use Rattle.model.specs.Reading.{Read, got, fault, Reader, _>>=_, _>>_, give, Head, symbols, readHead, readBinds, readStx, readTree, atEnd, Image, readSyntax, readTreeImage, readImage}
+use Rattle.model.specs.Reading.{Read, got, fault, Reader, give, Head, symbols, readHead, readBinds, readStx, readTree, atEnd, Image, readSyntax, readTreeImage, readImage, _>>=_, _>>_}
 use Rattle.model.specs.Writing.{numBytes, headBytes, bindsBytes, stxBytes, treeBytes, syntaxBytes, treeImageBytes}
 use Rattle.laws.proofs.Tests.{leb-true, leb-le}
 use Rattle.codec_laws.specs.WellFormed.{Bytes, HeadFits, SyntaxFits, TreeImageFits}
-use Rattle.codec_laws.proofs.NumberTrip.{got-value, got-rest, fault≢got}
+use Rattle.codec_laws.proofs.NumberTrip.{got-value, fault≢got}
 use Rattle.codec_laws.proofs.Sequence.{next-got, Wrote, join, nil-right}
 use Rattle.codec_laws.proofs.Lengths.{right-le}
 use Rattle.codec_laws.proofs.ObjectTrip.{stx-w, stx-back}

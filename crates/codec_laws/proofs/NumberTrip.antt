@@ -1,18 +1,18 @@
 -- Numbers: what is written is read back, and what is read is written again the same.
 use mathlib.Core.Path.{_≡_, refl, sym, ap, ap₂, _∙_, subst}
 use mathlib.Core.Logic.{_≢_}
-use Prim.Native.Nat.{ℕ, zero, suc, _+_, _-_, _*_, _/_, _%_, _^_, _≤_, _<_, zero-le, suc-le-suc}
-use native.Mathlib.Nat.{not-suc-le-zero, le-of-suc-le-suc, zero-lt-suc, div-add-mod', mod-lt, one-le-pow}
+use Prim.Native.Nat.{ℕ, zero, suc, _+_, _-_, _*_, _/_, _%_, _^_, _≤_, _<_}
+use native.Mathlib.Nat.{zero-lt-suc, div-add-mod', one-le-pow}
 use native.Mathlib.Omega.{arith}
-use mathlib.Core.Bool.{Bool, true, false, not, _&&_, _||_, true≢false, false≢true}
+use mathlib.Core.Bool.{Bool, true, false}
 use mathlib.Core.List.{List, [], _∷_, _++_}
-use lib.Dec.{T, eqb, ltb, leb}
+use lib.Dec.{eqb, ltb, leb}
 use Rattle.model.specs.Choice.{if_then_else_}
 use Rattle.model.specs.Refusals.{Refusal, layout, overLimit}
-use Rattle.model.specs.Reading.{Read, got, fault, Reader, next, need, give, fail, byte, groups, num}
+use Rattle.model.specs.Reading.{Read, got, fault, byte, groups, num}
 use Rattle.model.specs.Writing.{groupsOf, numBytes}
 use Rattle.codec_laws.specs.WellFormed.{Bytes}
-use Rattle.laws.proofs.Tests.{leb-true, leb-false, ltb-true, ltb-false, eqb-false, leb-le, leb-gt, ltb-lt, ltb-ge, eqb-ne}
+use Rattle.laws.proofs.Tests.{leb-true, ltb-true, ltb-false, eqb-false, leb-le, ltb-lt, ltb-ge, eqb-ne}
 
 read-small : (k w n m : ℕ) (rest : List ℕ) → ltb m 128 ≡ true → eqb m 0 ≡ false
     → groups (suc k) w n (m ∷ rest) ≡ got (n + m * w) rest

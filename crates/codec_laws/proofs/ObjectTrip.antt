@@ -1,21 +1,21 @@
 -- Atoms and syntax objects: what is read keeps the limits and is written again the same; what keeps the limits is read back.
 use mathlib.Core.Path.{_≡_, refl, sym, ap, _∙_, subst}
-use Prim.Native.Nat.{ℕ, zero, suc, _+_, _≤_, _<_, zero-le, suc-le-suc}
+use Prim.Native.Nat.{ℕ, zero, suc, _≤_, _<_, zero-le, suc-le-suc}
 use native.Mathlib.Nat.{le-refl, le-trans, le-max-left, le-max-right, max-le, not-suc-le-zero, le-of-suc-le-suc}
 use native.Mathlib.Omega.{arith}
 use mathlib.Core.Bool.{Bool, true, false}
-use mathlib.Core.List.{List, [], _∷_, _++_, append-assoc}
+use mathlib.Core.List.{List, [], _++_, append-assoc}
 use lib.Dec.{eqb}
 use lib.ListN.{length}
 use Rattle.model.specs.Limits.{lastPoint, lastPrimitive, lastRungWord}
 use Rattle.model.specs.Refusals.{layout, overLimit}
 use Rattle.model.specs.Objects.{Atom, symbol, number, point, prim, rung, tagOf, contentOf, Sets, Stx, atom, list, Stxs, nil, cons, count, nesting, nestings}
-use Rattle.model.specs.Reading.{Read, got, Reader, num, numUpTo, numBelow, readSet, readSets, readAtom, readParts, readContent, readStx, Head, symbols}
+use Rattle.model.specs.Reading.{got, Reader, num, numUpTo, numBelow, readSet, readSets, readAtom, readParts, readContent, readStx, Head, symbols}
 use Rattle.model.specs.Writing.{numBytes, setBytes, setsBytes, stxBytes, stxsBytes}
 use Rattle.laws.proofs.ScopeSets.{eqb-eq}
 use Rattle.laws.proofs.Members.{SetsIn}
 use Rattle.codec_laws.specs.WellFormed.{Bytes, AtomFits, StxFits, StxsFit}
-use Rattle.codec_laws.proofs.NumberTrip.{num-back, got-value, got-rest, fault≢got}
+use Rattle.codec_laws.proofs.NumberTrip.{num-back, fault≢got}
 use Rattle.codec_laws.proofs.Sequence.{next-got, moved, Wrote, wrote, join, num-w, upTo-w, below-w, upTo-back, below-back}
 use Rattle.codec_laws.proofs.SetTrip.{set-same, set-back}
 use Rattle.codec_laws.proofs.Lengths.{left-le, right-le, count-le}

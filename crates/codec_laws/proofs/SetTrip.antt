@@ -1,28 +1,24 @@
 -- Sets: what is read is written again the same, and what is written is read back.
-use mathlib.Core.Path.{_≡_, refl, sym, ap, ap₂, _∙_, subst}
-use mathlib.Core.Logic.{_≢_, _⊎_, inl, inr}
-use Prim.Native.Nat.{ℕ, zero, suc, _+_, _-_, _*_, _/_, _%_, _^_, _≤_, _<_, zero-le, suc-le-suc}
-use native.Mathlib.Nat.{not-suc-le-zero, le-of-suc-le-suc, zero-lt-suc, pow-suc, add-suc, add-zero, le-refl, le-trans, pow-le-pow-right}
+use mathlib.Core.Path.{_≡_, refl, sym, ap, _∙_, subst}
+use mathlib.Core.Logic.{_⊎_, inl, inr}
+use Prim.Native.Nat.{ℕ, zero, suc, _+_, _^_, _≤_, _<_}
+use native.Mathlib.Nat.{zero-lt-suc, pow-suc, le-trans, pow-le-pow-right}
 use native.Mathlib.Omega.{arith}
-use mathlib.Core.Bool.{Bool, true, false, not, _&&_, _||_, true≢false, false≢true}
+use mathlib.Core.Bool.{true, _&&_}
 use mathlib.Core.List.{List, [], _∷_, _++_, append-assoc}
-use lib.Dec.{T, eqb, ltb, leb}
+use lib.Dec.{ltb, leb}
 use lib.ListN.{length}
-use lib.Arith.{lt-one}
 use lib.Bits.{or-lt}
 use lib.Pow.{pow-pos}
-use Rattle.model.specs.Choice.{if_then_else_}
-use Rattle.model.specs.Limits.{mostScopes}
-use Rattle.model.specs.Refusals.{Refusal, layout}
-use Rattle.model.specs.Scopes.{Scopes, digit, has, only, add, keep, membersFrom, members}
-use Rattle.model.specs.Reading.{Read, got, fault, Reader, next, need, num, readMembers, readSet}
+use Rattle.model.specs.Refusals.{layout}
+use Rattle.model.specs.Scopes.{Scopes, only, add, members}
+use Rattle.model.specs.Reading.{got, need, num, readMembers, readSet}
 use Rattle.model.specs.Writing.{numBytes, numsBytes, listBytes, setBytes}
-use Rattle.laws.proofs.Tests.{leb-true, leb-false, ltb-true, ltb-false, eqb-false, leb-le, leb-gt, ltb-lt, ltb-ge, eqb-ne}
+use Rattle.laws.proofs.Tests.{leb-true, ltb-true, leb-le, ltb-lt}
 use Rattle.codec_laws.specs.WellFormed.{Bytes}
 use Rattle.codec_laws.proofs.NumberTrip.{num-back, num-same, got-value, got-rest}
 use Rattle.codec_laws.proofs.Sequence.{next-got, need-got, and-both, bytes-rest}
-use Rattle.laws.proofs.ScopeSets.{digit-zero, has-add, has-none, set-ext, digits-ext, eqb-true, eqb-eq}
-use Rattle.laws.proofs.Members.{Asc, member, asc-ext, Small, asc-of, addAll, set-of-members, members-of-set}
+use Rattle.laws.proofs.Members.{Asc, Small, asc-of, addAll, set-of-members, members-of-set}
 
 -- ---- sets stay small
 

@@ -1,21 +1,19 @@
 -- Trees: what is read keeps the limits and is written again the same; what keeps the limits is read back.
 use mathlib.Core.Path.{_≡_, refl, sym, ap, _∙_, subst}
-use Prim.Native.Nat.{ℕ, zero, suc, _+_, _≤_, _<_, zero-le, suc-le-suc, max}
+use Prim.Native.Nat.{ℕ, zero, suc, _≤_, _<_, zero-le, suc-le-suc}
 use native.Mathlib.Nat.{le-refl, le-trans, le-max-left, le-max-right, max-le, not-suc-le-zero, le-of-suc-le-suc}
 use native.Mathlib.Omega.{arith}
-use mathlib.Core.Bool.{Bool, true, false}
-use mathlib.Core.List.{List, [], _∷_, _++_, append-assoc}
-use lib.Dec.{eqb, leb}
+use mathlib.Core.List.{List, [], _++_, append-assoc}
+use lib.Dec.{leb}
 use lib.ListN.{length}
-use Rattle.model.specs.Limits.{mostNames}
 use Rattle.model.specs.Refusals.{layout, overLimit}
 use Rattle.model.specs.Objects.{Atom, tagOf, contentOf, Stx, atom, list, nesting}
 use Rattle.model.specs.Trees.{Tree, var, app, fun, datum, lst, stx, Trees, tnil, tcons, tcount, tnesting, tnestings}
-use Rattle.model.specs.Reading.{Read, got, Reader, need, num, numBelow, readAtom, readStx, readTrees, readApp, readTreeBody, readTree, Head, symbols}
+use Rattle.model.specs.Reading.{got, Reader, need, num, numBelow, readAtom, readStx, readTrees, readApp, readTreeBody, readTree, Head, symbols}
 use Rattle.model.specs.Writing.{numBytes, stxBytes, treeBytes, treesBytes}
 use Rattle.laws.proofs.Tests.{leb-true, leb-le}
-use Rattle.codec_laws.specs.WellFormed.{Bytes, AtomFits, StxFits, IsValue, TreeFits, TreesFit, ValuesFit, HeadFits}
-use Rattle.codec_laws.proofs.NumberTrip.{num-back, got-value, got-rest, fault≢got}
+use Rattle.codec_laws.specs.WellFormed.{Bytes, AtomFits, IsValue, TreeFits, TreesFit, ValuesFit}
+use Rattle.codec_laws.proofs.NumberTrip.{num-back, fault≢got}
 use Rattle.codec_laws.proofs.Sequence.{next-got, need-got, moved, Wrote, wrote, join, num-w, below-w, below-back}
 use Rattle.codec_laws.proofs.Lengths.{left-le, right-le, tcount-le}
 use Rattle.codec_laws.proofs.ObjectTrip.{atom-w, atom-back, tag-le, StxTook, stx-w, stx-back}
@@ -44,37 +42,24 @@ TreeTook l h low s t rest = Wrote (treeBytes t) s rest × FitT h t × (tnesting 
 abbrev PartW : ℕ → Head → ℕ → Reader Tree → Type 0
 PartW l h low part = (t : Tree) (s rest : List ℕ) → Bytes s → part s ≡ got t rest → TreeTook l h low s t rest
 
-abbrev TreesTook : ℕ → Head → ℕ → List ℕ → Trees → List ℕ → Type 0
-TreesTook l h c s p rest = Wrote (treesBytes p) s rest × (tcount p ≡ c) × FitTs h p × (tnestings p ≤ l)
+-- parts that are read one by one, of which Q holds
+abbrev TreesTook : (Trees → Type 0) → ℕ → ℕ → List ℕ → Trees → List ℕ → Type 0
+TreesTook Q l c s p rest = Wrote (treesBytes p) s rest × (tcount p ≡ c) × Q p × (tnestings p ≤ l)
 
-trees-w : (l : ℕ) (h : Head) (part : Reader Tree) → PartW l h 0 part → (c : ℕ) (p : Trees) (s rest : List ℕ) → Bytes s → readTrees c part s ≡ got p rest
-    → TreesTook l h c s p rest
+trees-w : (Q : Trees → Type 0) (l : ℕ) (h : Head) (low : ℕ) (part : Reader Tree) → PartW l h low part
+    → Q tnil → ((t : Tree) (p : Trees) → FitT h t → FromTag low t → Q p → Q (tcons t p))
+    → (c : ℕ) (p : Trees) (s rest : List ℕ) → Bytes s → readTrees c part s ≡ got p rest → TreesTook Q l c s p rest
 unfolding readTrees treeBytes tcount tnesting
-trees-w l h part k zero p s rest b e = moved (TreesTook l h 0 s) tnil p s rest e (wrote [] s s b refl, refl, tt, zero-le)
-trees-w l h part k (suc c) p s rest b e =
+trees-w Q l h low part k none more zero p s rest b e = moved (TreesTook Q l 0 s) tnil p s rest e (wrote [] s s b refl, refl, none, zero-le)
+trees-w Q l h low part k none more (suc c) p s rest b e =
     let g = next-got (part s) _ p rest e in
     let x = k (g .0) s (g .1) b (g .2) in
     let r = next-got (readTrees c part (g .1)) _ p rest (g .3) in
-    let q = trees-w l h part k c (r .0) (g .1) (r .1) (x .0 .1) (r .2) in
-    moved (TreesTook l h (suc c) s) (tcons (g .0) (r .0)) p (r .1) rest (r .3)
-    (join (treeBytes (g .0)) (treesBytes (r .0)) s (g .1) (r .1) (x .0) (q .0), ap suc (q .1), (x .1, q .2), max-le (x .2) (q .3))
-
-abbrev ValuesTook : ℕ → Head → ℕ → List ℕ → Trees → List ℕ → Type 0
-ValuesTook l h c s p rest = Wrote (treesBytes p) s rest × (tcount p ≡ c) × FitVs h p × (tnestings p ≤ l)
-
-values-w : (l : ℕ) (h : Head) (part : Reader Tree) → PartW l h 2 part → (c : ℕ) (p : Trees) (s rest : List ℕ) → Bytes s → readTrees c part s ≡ got p rest
-    → ValuesTook l h c s p rest
-unfolding readTrees treeBytes tcount tnesting
-values-w l h part k zero p s rest b e = moved (ValuesTook l h 0 s) tnil p s rest e (wrote [] s s b refl, refl, tt, zero-le)
-values-w l h part k (suc c) p s rest b e =
-    let g = next-got (part s) _ p rest e in
-    let x = k (g .0) s (g .1) b (g .2) in
-    let r = next-got (readTrees c part (g .1)) _ p rest (g .3) in
-    let q = values-w l h part k c (r .0) (g .1) (r .1) (x .0 .1) (r .2) in
-    moved (ValuesTook l h (suc c) s) (tcons (g .0) (r .0)) p (r .1) rest (r .3) (
+    let q = trees-w Q l h low part k none more c (r .0) (g .1) (r .1) (x .0 .1) (r .2) in
+    moved (TreesTook Q l (suc c) s) (tcons (g .0) (r .0)) p (r .1) rest (r .3) (
       join (treeBytes (g .0)) (treesBytes (r .0)) s (g .1) (r .1) (x .0) (q .0),
       ap suc (q .1),
-      (x .3 (le-refl 2), x .1, q .2),
+      more (g .0) (r .0) (x .1) (x .3) (q .2),
       max-le (x .2) (q .3),
     )
 
@@ -107,7 +92,7 @@ body-w l h low i tree value object kt kv ko (suc zero) q v s₀ s rest w e =
         let a = next-got (tree s₁) _ v rest f in
         let x = kt (a .0) s₁ (a .1) (w₁ .1) (a .2) in
         let r = next-got (readTrees c tree (a .1)) _ v rest (a .3) in
-        let p = trees-w l h tree kt c (r .0) (a .1) (r .1) (x .0 .1) (r .2) in
+        let p = trees-w (FitTs h) l h 0 tree kt tt (λ t p f v q. (f, q)) c (r .0) (a .1) (r .1) (x .0 .1) (r .2) in
         moved (TreeTook (suc l) h low s₀) (app (a .0) (r .0)) v (r .1) rest (r .3) (
           join (numBytes 1 ++ numBytes (suc (tcount (r .0))) ++ treeBytes (a .0)) (treesBytes (r .0)) s₀ (a .1) (r .1)
               (join (numBytes 1 ++ numBytes (suc (tcount (r .0)))) (treeBytes (a .0)) s₀ s₁ (a .1)
@@ -146,7 +131,7 @@ body-w l h low i tree value object kt kv ko (suc (suc (suc (suc zero)))) q v s�
     let n = next-got (num s) _ v rest e in
     let w₁ = num-w (n .0) s (n .1) (w .1) (n .2) in
     let r = next-got (readTrees (n .0) value (n .1)) _ v rest (n .3) in
-    let p = values-w l h value kv (n .0) (r .0) (n .1) (r .1) (w₁ .0 .1) (r .2) in
+    let p = trees-w (FitVs h) l h 2 value kv tt (λ t p f v q. (v (le-refl 2), f, q)) (n .0) (r .0) (n .1) (r .1) (w₁ .0 .1) (r .2) in
     moved (TreeTook (suc l) h low s₀) (lst (r .0)) v (r .1) rest (r .3) (
       join (numBytes 4 ++ numBytes (tcount (r .0))) (treesBytes (r .0)) s₀ (n .1) (r .1)
           (join (numBytes 4) (numBytes (tcount (r .0))) s₀ s (n .1) w (subst (λ (z : ℕ). Wrote (numBytes z) s (n .1)) (sym (p .1)) (w₁ .0))) (p .0),

@@ -1,21 +1,18 @@
 -- A set is its ascending list of members, and the list its set.
 use mathlib.Core.Path.{_≡_, refl, sym, ap, ap₂, _∙_, subst}
-use mathlib.Core.Logic.{_≢_, _⊎_, inl, inr}
-use Prim.Native.Nat.{ℕ, zero, suc, _+_, _-_, _*_, _/_, _%_, _^_, _≤_, _<_, zero-le, suc-le-suc}
-use native.Mathlib.Nat.{not-suc-le-zero, le-of-suc-le-suc, zero-lt-suc, pow-suc, add-suc, add-zero, le-refl, le-trans, pow-le-pow-right}
+use mathlib.Core.Logic.{_≢_}
+use Prim.Native.Nat.{ℕ, zero, suc, _+_, _/_, _%_, _^_, _≤_, _<_, zero-le}
+use native.Mathlib.Nat.{not-suc-le-zero, add-zero, le-refl}
 use native.Mathlib.Omega.{arith}
-use mathlib.Core.Bool.{Bool, true, false, not, _&&_, _||_, true≢false, false≢true}
-use mathlib.Core.List.{List, [], _∷_, _++_, append-assoc}
-use lib.Dec.{T, eqb, ltb, leb}
-use lib.ListN.{length}
+use mathlib.Core.Bool.{Bool, true, false, _||_, false≢true}
+use mathlib.Core.List.{List, [], _∷_}
+use lib.Dec.{eqb, ltb, leb}
 use lib.Arith.{lt-one}
-use lib.Bits.{or-lt}
-use lib.Pow.{pow-pos}
 use Rattle.model.specs.Limits.{mostScopes}
-use Rattle.model.specs.Scopes.{Scopes, digit, has, only, add, keep, membersFrom, members}
+use Rattle.model.specs.Scopes.{Scopes, digit, has, add, keep, membersFrom, members}
 use Rattle.model.specs.Objects.{Sets}
-use Rattle.laws.proofs.Tests.{leb-true, leb-false, ltb-true, ltb-false, eqb-false, leb-le, leb-gt, ltb-lt, ltb-ge, eqb-ne}
-use Rattle.laws.proofs.ScopeSets.{digit-zero, has-add, has-none, set-ext, digits-ext, eqb-true, eqb-eq}
+use Rattle.laws.proofs.Tests.{eqb-false, leb-le, leb-gt, ltb-lt, ltb-ge}
+use Rattle.laws.proofs.ScopeSets.{digit-zero, has-add, has-none, set-ext, eqb-true}
 
 -- ---- ascending lists
 

@@ -1,14 +1,14 @@
 -- The order of bindings, and that an ascending store has no symbol and set twice.
-use mathlib.Core.Path.{_≡_, refl, sym, ap, _∙_, subst}
+use mathlib.Core.Path.{_≡_, refl, sym, ap, _∙_}
 use mathlib.Core.Logic.{_⊎_, inl, inr}
-use Prim.Native.Nat.{ℕ, zero, suc, _≤_, _<_}
+use Prim.Native.Nat.{ℕ, _≤_, _<_}
 use native.Mathlib.Omega.{arith}
-use mathlib.Core.Bool.{Bool, true, false, true≢false, false≢true}
+use mathlib.Core.Bool.{Bool, true, false, false≢true}
 use mathlib.Core.List.{List, [], _∷_}
 use lib.Dec.{eqb, ltb}
 use Rattle.model.specs.Scopes.{Scopes, lessThen, listBefore, setBefore, members}
 use Rattle.model.specs.Resolving.{Bind, bindBefore}
-use Rattle.laws.proofs.Tests.{ltb-true, ltb-false, ltb-lt, ltb-ge}
+use Rattle.laws.proofs.Tests.{ltb-true, ltb-false, ltb-lt}
 use Rattle.laws.proofs.ScopeSets.{eqb-true, eqb-eq}
 use Rattle.laws.proofs.ResolveRule.{In}
 use Rattle.laws.proofs.Stable.{Keys}

@@ -1,11 +1,10 @@
 -- The laws of scope sets, all by their members.
 use mathlib.Core.Path.{_≡_, refl, sym, ap, ap₂, _∙_, subst}
-use mathlib.Core.Logic.{_↔_, _≢_}
-use Prim.Native.Nat.{ℕ, zero, suc, _+_, _*_, _/_, _%_, _^_, _≤_, _<_, zero-le, suc-le-suc, min, max}
+use Prim.Native.Nat.{ℕ, zero, suc, _+_, _*_, _/_, _%_, _^_, _<_, min, max}
 use native.Mathlib.Nat.{not-suc-le-zero, le-of-suc-le-suc, zero-lt-suc, div-add-mod', mod-lt, mul-mod-left, mul-div-cancel, pow-suc, le-refl}
 use mathlib.Core.Bool.{Bool, true, false, not, _&&_, _||_, xor, true≢false, false≢true}
 use lib.Dec.{T, eqb, eqb→eq, eqb-refl, eqb·zero-suc, eqb·suc-zero, eqb·suc-suc}
-use lib.Arith.{bin-ind, digits-div, digits-mod, lt-one}
+use lib.Arith.{bin-ind, digits-div, digits-mod}
 use lib.Bits.{bitAnd, bitOr, bitXor, differ, and-step, or-step, xor-step}
 use Rattle.model.specs.Scopes.{Scopes, digit, has, only, add, flip, prune, within}
 
@@ -218,7 +217,7 @@ within-antisym a b p q = set-ext a b (λ k. both (has k a) (has k b) (within→s
 pub none-within : (a : Scopes) → within 0 a ≡ true
 none-within a = sub→within 0 a (λ k h. absurd (false≢true (sym (has-none k) ∙ h)))
 
--- ---- flipping twice changes nothing, and a set that has the scope is taken from it (T-06)
+-- ---- flipping twice changes nothing, and a set that has the scope is taken from it
 
 pub flip-flip : (j : ℕ) (m : Scopes) → flip (suc j) (flip (suc j) m) ≡ m
 unfolding xor

@@ -1,20 +1,18 @@
 -- Bindings made later change nothing that was resolved before, and a binder resolves to its own name.
-use mathlib.Core.Path.{_≡_, refl, sym, ap, _∙_, subst}
-use mathlib.Core.Logic.{_⊎_, inl, inr, _≢_}
-use Prim.Native.Nat.{ℕ, zero, suc, _+_, _-_, _^_, _/_, _≤_, _<_}
-use native.Mathlib.Nat.{le-refl, le-trans, not-suc-le-zero, zero-lt-suc, pow-le-pow-right}
+use mathlib.Core.Path.{_≡_, refl, sym, ap, _∙_}
+use mathlib.Core.Logic.{_⊎_, inl, inr}
+use Prim.Native.Nat.{ℕ, zero, suc, _^_, _/_, _≤_, _<_}
+use native.Mathlib.Nat.{le-trans, not-suc-le-zero}
 use native.Mathlib.Omega.{arith}
 use mathlib.Core.Bool.{Bool, true, false, _&&_, _||_, true≢false, false≢true}
 use mathlib.Core.List.{List, [], _∷_}
 use lib.Dec.{eqb}
-use lib.Bits.{or-lt}
 use lib.Arith.{lt-one}
 use Rattle.model.specs.Choice.{if_then_else_}
 use Rattle.model.specs.Scopes.{Scopes, digit, has, within}
-use Rattle.model.specs.Resolving.{Bind, Found, means, several, bindBefore, sameKey, bound, insert, candidate, candidates, over, largest, choose, resolve}
-use Rattle.laws.proofs.Tests.{eqb-false, eqb-ne}
-use Rattle.laws.proofs.ScopeSets.{digit-zero, within→sub, within-refl, within-antisym, eqb-true, eqb-eq}
-use Rattle.laws.proofs.ResolveRule.{In, Largest, Rule, free, found, unclear, rule-one, resolve-is, Candidate, candidates-sound, candidates-complete}
+use Rattle.model.specs.Resolving.{Bind, means, bindBefore, sameKey, bound, insert, candidate, candidates, choose, resolve}
+use Rattle.laws.proofs.ScopeSets.{digit-zero, within→sub, within-refl, eqb-true, eqb-eq}
+use Rattle.laws.proofs.ResolveRule.{In, Largest, found, rule-one, resolve-is, candidates-sound, candidates-complete}
 
 -- ---- no member above the bound
 
@@ -188,7 +186,7 @@ resolve-own b l k i =
       above = λ c x. candidates-sound (b .symb) (b .set) l c x .contained;
     }
 
--- ---- a binder with a fresh scope is never bound already (T-07: code 16 is never given)
+-- ---- a binder with a fresh scope is never bound already: code 16 is never given
 
 abbrev pub SetsBelow : ℕ → List Bind → Type 0
 SetsBelow n l = (c : Bind) → In c l → c .set < 2 ^ n

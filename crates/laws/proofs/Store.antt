@@ -1,19 +1,19 @@
--- A store stays ascending: a new binding is substitute in its place.
-use mathlib.Core.Path.{_≡_, refl, sym, ap, ap₂, _∙_, subst}
-use mathlib.Core.Logic.{_⊎_, inl, inr, _≢_}
-use Prim.Native.Nat.{ℕ, zero, suc, _^_, _≤_, _<_}
+-- A store stays ascending when a new binding is put in its place.
+use mathlib.Core.Path.{_≡_, refl, sym, ap, ap₂, _∙_}
+use mathlib.Core.Logic.{inl, inr}
+use Prim.Native.Nat.{ℕ}
 use native.Mathlib.Omega.{arith}
-use mathlib.Core.Bool.{Bool, true, false, true≢false, false≢true}
+use mathlib.Core.Bool.{Bool, true, false, true≢false}
 use mathlib.Core.List.{List, [], _∷_}
 use lib.Dec.{eqb, ltb}
 use Rattle.model.specs.Choice.{if_then_else_}
 use Rattle.model.specs.Scopes.{Scopes, lessThen, listBefore, setBefore, members}
 use Rattle.model.specs.Resolving.{Bind, bindBefore, insert}
-use Rattle.laws.proofs.Tests.{ltb-ge, eqb-false, eqb-ne, ltb-lt}
+use Rattle.laws.proofs.Tests.{ltb-ge, eqb-ne}
 use Rattle.laws.proofs.ScopeSets.{eqb-eq}
 use Rattle.laws.proofs.Members.{Small, addAll, set-of-members}
 use Rattle.laws.proofs.ResolveRule.{In}
-use Rattle.laws.proofs.Order.{Ascending, Sorted, less-yes, less-cases}
+use Rattle.laws.proofs.Order.{Ascending, Sorted}
 
 -- not less either way: equal, and so is the rest neither way
 less-neither : (x y : ℕ) (r t : Bool) → lessThen (ltb x y) (eqb x y) r ≡ false → lessThen (ltb y x) (eqb y x) t ≡ false
@@ -54,32 +54,30 @@ before-total a b ha hb p q =
 abbrev pub Unlike : Bind → List Bind → Type 0
 Unlike b l = (c : Bind) → In c l → Small (c .set) × (b .symb ≡ c .symb → b .set ≡ c .set → ⊥)
 
+-- of two unlike bindings one is before the other
+other-way : (b c : Bind) → Small (b .set) → Small (c .set) × (b .symb ≡ c .symb → b .set ≡ c .set → ⊥) → bindBefore b c ≡ false → bindBefore c b ≡ true
+other-way b c h u e = go (bindBefore c b) refl
+  where
+    go : (x : Bool) → bindBefore c b ≡ x → bindBefore c b ≡ true
+    go true f = f
+    go false f =
+        let g = before-total b c h (u .0) e f in
+        absurd (u .1 (g .0) (g .1))
+
 after-insert : (p b : Bind) (l : List Bind) → Small (b .set) → Unlike b l → bindBefore p b ≡ true → Ascending p l → Ascending p (insert b l)
 unfolding insert
 after-insert p b [] h u q a = (q, tt)
 after-insert p b (c ∷ l) h u q a = go (bindBefore b c) refl (λ r. after-insert c b l h (λ d i. u d (inr i)) r (a .1))
   where
-    other : bindBefore b c ≡ false → (x : Bool) → bindBefore c b ≡ x → bindBefore c b ≡ true
-    other e true f = f
-    other e false f =
-        let g = before-total b c h (u c (inl refl) .0) e f in
-        absurd (u c (inl refl) .1 (g .0) (g .1))
-
     go : (t : Bool) → bindBefore b c ≡ t → (bindBefore c b ≡ true → Ascending c (insert b l)) → Ascending p (if t then b ∷ c ∷ l else c ∷ insert b l)
     go true e r = (q, (e, a .1))
-    go false e r = (a .0, r (other e (bindBefore c b) refl))
+    go false e r = (a .0, r (other-way b c h (u c (inl refl)) e))
 
 pub insert-sorted : (b : Bind) (l : List Bind) → Small (b .set) → Unlike b l → Sorted l → Sorted (insert b l)
 unfolding insert
 insert-sorted b [] h u a = tt
 insert-sorted b (c ∷ l) h u a = go (bindBefore b c) refl
   where
-    other : bindBefore b c ≡ false → (x : Bool) → bindBefore c b ≡ x → bindBefore c b ≡ true
-    other e true f = f
-    other e false f =
-        let g = before-total b c h (u c (inl refl) .0) e f in
-        absurd (u c (inl refl) .1 (g .0) (g .1))
-
     go : (t : Bool) → bindBefore b c ≡ t → Sorted (if t then b ∷ c ∷ l else c ∷ insert b l)
     go true e = (e, a)
-    go false e = after-insert c b l h (λ d i. u d (inr i)) (other e (bindBefore c b) refl) a
+    go false e = after-insert c b l h (λ d i. u d (inr i)) (other-way b c h (u c (inl refl)) e) a

@@ -1,11 +1,11 @@
 -- The computed tests as equations, from the facts and back.
 use mathlib.Core.Path.{_≡_, refl, sym, _∙_, subst}
 use mathlib.Core.Logic.{_≢_}
-use Prim.Native.Nat.{ℕ, zero, suc, _≤_, _<_}
-use mathlib.Core.Bool.{Bool, true, false, not, _&&_, false≢true}
-use lib.Dec.{T, eqb, ltb, leb, leb→le, le→leb, nleb→lt, ltb→lt, lt→ltb, nltb→le, eqb→eq, eqb-refl, not-T}
+use Prim.Native.Nat.{ℕ, _≤_, _<_}
+use mathlib.Core.Bool.{Bool, true, false, not, false≢true}
+use lib.Dec.{T, eqb, ltb, leb, leb→le, le→leb, nleb→lt, ltb→lt, lt→ltb, nltb→le, eqb→eq, not-T}
 use lib.Arith.{lt→nleb, le→nltb}
-use Rattle.laws.proofs.ScopeSets.{eqb-true, eqb-eq}
+use Rattle.laws.proofs.ScopeSets.{eqb-true}
 
 pub is-true : (b : Bool) → T b → b ≡ true
 is-true true t = refl

@@ -5,7 +5,7 @@ use mathlib.Core.Bool.{true}
 use mathlib.Core.List.{List}
 use lib.ListN.{length}
 use Rattle.model.specs.Writing.{treeImageBytes}
-use Rattle.model.specs.Jobs.{Answer, Result, written, lent, budgetFits, expandJob, parseJob, evaluateJob}
+use Rattle.model.specs.Jobs.{Result, written, lent, budgetFits, expandJob, parseJob, evaluateJob}
 use Rattle.addresses.specs.Charge.{parseCharge}
 use Rattle.addresses.specs.OneNameOneAddress.{imageWritten, OneNameOneAddress}
 use Rattle.addresses.proofs.Condition3.{one-name-one-address}

@@ -1,21 +1,20 @@
 -- The four shams, and invented units, do not meet the contract of the expand job: condition 2 rejects each on an image of a few bytes.
 -- Condition 3 alone would let the first pass.
-use mathlib.Core.Path.{_≡_, refl, sym, ap, _∙_, subst}
-use Prim.Native.Nat.{ℕ, zero, suc, _+_, _*_, _≤_, _<_}
+use mathlib.Core.Path.{_≡_, refl, sym, ap, _∙_}
+use Prim.Native.Nat.{ℕ, zero, suc, _<_}
 use native.Mathlib.Omega.{arith}
-use mathlib.Core.Bool.{Bool, true, false, _&&_}
-use mathlib.Core.List.{List, [], _∷_, _++_}
+use mathlib.Core.Bool.{Bool, true, _&&_}
+use mathlib.Core.List.{List, [], _∷_}
 use lib.Dec.{ltb}
-use lib.ListN.{length, replicate, take, drop}
-use Rattle.model.specs.Choice.{if_then_else_}
-use Rattle.model.specs.Refusals.{noRule, smallTable}
-use Rattle.model.specs.Jobs.{refused, written, Answer, answerOf, outputAfter, cleared, Result, budgetFits, lent, expandJob}
+use lib.ListN.{length, replicate, drop}
+use Rattle.model.specs.Refusals.{noRule}
+use Rattle.model.specs.Jobs.{refused, written, answerOf, outputAfter, Result, lent, expandJob}
 use Rattle.laws.proofs.Tests.{ltb-lt}
 use Rattle.codec_laws.specs.WellFormed.{Bytes}
 use Rattle.codec_laws.proofs.Sequence.{and-both}
 use Rattle.addresses.specs.OneNameOneAddress.{imageWritten}
-use Rattle.addresses.proofs.Endings.{take-whole}
-use Rattle.proof_bench.specs.Contracts.{Words, Call, Meets, Expanding, MeetsExpand}
+use Rattle.addresses.proofs.Endings.{lent-cases, take-whole}
+use Rattle.proof_bench.specs.Contracts.{Words, Call, Expanding, MeetsExpand}
 use Rattle.proof_bench.specs.Shams.{RefusesAll, GivesOnly, ReturnsInput, refuser, fixedTree, returner, UnitsAtBudget, UnitsInvented, firstOnly, Condition3Of}
 use Rattle.proof_bench.proofs.Uniqueness.{one-result}
 
@@ -207,37 +206,20 @@ invented-units-are-rejected f units sham meets = clash (given seven 2 seven-call
 -- ---- the functions named for these kinds are of them, so each is rejected
 
 refuser-refuses : RefusesAll refuser
-unfolding refuser lent answerOf
-refuser-refuses image ph budget table output c q = go (budgetFits budget (length table)) q
-  where
-    went : Result
-    went = record { answer = answerOf (refused noRule 0); output = outputAfter (refused noRule 0) output; table = cleared budget table }
-
-    small : Result
-    small = record { answer = answerOf (refused smallTable 0); output = output; table = table }
-
-    go : (b : Bool) → (if b then went else small) .answer .code ≡ 0 → ⊥
-    go true e = omega arith
-    go false e = omega arith
+unfolding refuser answerOf
+refuser-refuses image ph budget table output c =
+    lent-cases (λ (z : Result). z .answer .code ≡ 0 → ⊥) budget table output (refused noRule 0) (λ e. omega arith) (λ e. omega arith)
 
 -- what is lent and written is there
 written-is : (budget : ℕ) (table output b : List ℕ) → (lent budget table output (written b 0)) .answer .code ≡ 0
     → imageWritten (lent budget table output (written b 0)) ≡ b
-unfolding lent answerOf outputAfter imageWritten
-written-is budget table output b q = go (budgetFits budget (length table)) q
+unfolding answerOf outputAfter imageWritten
+written-is budget table output b =
+    lent-cases (λ (z : Result). z .answer .code ≡ 0 → imageWritten z ≡ b) budget table output (written b 0)
+    (λ e. take-whole b (drop (length b) output)) (λ e. absurd (five e))
   where
-    went : Result
-    went = record { answer = answerOf (written b 0); output = outputAfter (written b 0) output; table = cleared budget table }
-
-    small : Result
-    small = record { answer = answerOf (refused smallTable 0); output = output; table = table }
-
-    go : (t : Bool) → (if t then went else small) .answer .code ≡ 0 → imageWritten (if t then went else small) ≡ b
-    go true e = take-whole b (drop (length b) output)
-    go false e = absurd (five e)
-      where
-        five : _≡_ {A = ℕ} 5 0 → ⊥
-        five p = omega arith
+    five : _≡_ {A = ℕ} 5 0 → ⊥
+    five p = omega arith
 
 fixedTree-gives : (fixed : List ℕ) → GivesOnly fixed (fixedTree fixed)
 unfolding fixedTree

@@ -1,18 +1,18 @@
 -- The shams of document 01, 'The proof bench', as what a function in place of the expand job might do.
 use Prim.Native.Nat.{ℕ, zero, suc, _-_}
 use mathlib.Core.Path.{_≡_}
-use mathlib.Core.List.{List, []}
+use mathlib.Core.List.{List}
 use lib.ListN.{length}
 use Rattle.model.specs.Limits.{mostEntries}
 use Rattle.model.specs.Refusals.{noRule, tooManyEntries}
 use Rattle.model.specs.Scopes.{Scopes}
-use Rattle.model.specs.Objects.{Atom, symbol, number, point, prim, rung, Sets, Stx, atom, list, Stxs, nil, cons, size}
-use Rattle.model.specs.Reading.{Image, readSyntax, readImage}
+use Rattle.model.specs.Objects.{symbol, number, point, prim, rung, Sets, Stx, atom, list, Stxs, nil, cons, size}
+use Rattle.model.specs.Reading.{readSyntax, readImage}
 use Rattle.model.specs.Writing.{syntaxBytes}
-use Rattle.model.specs.Steps.{State, Step, _>>=_, _>>_, done, refuse, charge, made, resolveAt, parts1}
-use Rattle.model.specs.Parsing.{Form, lambda, letSyntax, quote, syntax}
+use Rattle.model.specs.Steps.{Step, done, refuse, charge, made, resolveAt, parts1, _>>=_, _>>_}
+use Rattle.model.specs.Parsing.{lambda, letSyntax, quote, syntax}
 use Rattle.model.specs.Expanding.{Meaning, core, variable, macro, unknown, Env, coreOnly, meaning, headMeaning, expandName, Expander, expandLambda, expandSyntax, expandLetSyntax, expandMacro}
-use Rattle.model.specs.Jobs.{Ending, refused, written, Result, lent, atPhase, withImage, start, worked, fitted, reached}
+use Rattle.model.specs.Jobs.{Ending, refused, written, lent, atPhase, withImage, start, worked, fitted, reached}
 use Rattle.addresses.specs.OneNameOneAddress.{imageWritten, OneNameOneAddress}
 use Rattle.proof_bench.specs.Contracts.{Call, Expanding}
 
