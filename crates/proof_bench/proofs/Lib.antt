@@ -1,4 +1,6 @@
 -- The proof bench of document 01.
 pub mod Uniqueness
+pub mod Samples
 pub mod ShamsRefuted
+pub mod RulesRefuted
 pub mod Composition

@@ -1,0 +1,141 @@
+-- With the rules as defined, `ruled` is the expand job; with one wrong rule it does not meet that job's contract. So condition 2 rejects the
+-- third sham, which copies all parts of an application but the first, and three slips: a fresh name not advanced, a body without its
+-- binder's scope, an identifier answered with itself. Of these condition 3 rejects the first by itself.
+use mathlib.Core.Path.{_≡_, refl, sym, ap, _∙_, fun-ext}
+use Prim.Native.Nat.{ℕ, zero, suc, _-_}
+use native.Mathlib.Omega.{arith}
+use mathlib.Core.List.{List, []}
+use lib.ListN.{length, getD}
+use Rattle.model.specs.Limits.{mostEntries}
+use Rattle.model.specs.Refusals.{layout}
+use Rattle.model.specs.Scopes.{Scopes}
+use Rattle.model.specs.Objects.{symbol, number, point, prim, rung, Sets, Stx, atom, list, Stxs, nil, cons, size}
+use Rattle.model.specs.Reading.{fault, readSyntax, readImage}
+use Rattle.model.specs.Steps.{State, Step, after, charge}
+use Rattle.model.specs.Parsing.{lambda, letSyntax, quote, syntax}
+use Rattle.model.specs.Expanding.{Meaning, core, variable, macro, unknown, Env, coreOnly, headMeaning, Expander, expandForm, expandEntry, expand}
+use Rattle.model.specs.Writing.{syntaxBytes}
+use Rattle.model.specs.Jobs.{Result, lent, atPhase, withImage, start, worked, fitted, reached, expandRoot, expandEnding, expandJob}
+use Rattle.codec_laws.proofs.NumberTrip.{fault≢got}
+use Rattle.addresses.specs.OneNameOneAddress.{imageWritten}
+use Rattle.proof_bench.specs.Contracts.{MeetsExpand}
+use Rattle.proof_bench.specs.Rules.{ruledForm, ruledEntry, ruledExpand, ruledRoot, ruledEnding, ruled, rightRules, copiesOthers, staleNames, bareBodies, ownIdentifiers}
+use Rattle.proof_bench.specs.Shams.{Condition3Of}
+use Rattle.proof_bench.proofs.Samples.{identity, applied, nested, words, room, identity-code, identity-image, applied-units, nested-length, identity-call, applied-call, nested-call, as-defined, image-is, units-are}
+
+-- ---- with the rules as defined
+
+right-form : (self : Expander) (d ph : ℕ) (e : Env) (p : Scopes) (c : Sets) (h : Stx) (l : Stxs) (m : Meaning)
+    → ruledForm rightRules self d ph e p c h l m ≡ expandForm self d ph e p c h l m
+unfolding ruledForm rightRules expandForm
+right-form self d ph e p c h l (core lambda) = refl
+right-form self d ph e p c h l (core letSyntax) = refl
+right-form self d ph e p c h l (core quote) = refl
+right-form self d ph e p c h l (core syntax) = refl
+right-form self d ph e p c h l (variable b x) = refl
+right-form self d ph e p c h l (macro v) = refl
+right-form self d ph e p c h l unknown = refl
+
+right-entry : (self : Expander) (d ph : ℕ) (e : Env) (p : Scopes) (x : Stx) → ruledEntry rightRules self d ph e p x ≡ expandEntry self d ph e p x
+unfolding ruledEntry rightRules expandEntry
+right-entry self d ph e p (atom c (symbol x)) = refl
+right-entry self d ph e p (atom c (number x)) = refl
+right-entry self d ph e p (atom c (point x)) = refl
+right-entry self d ph e p (atom c (prim x)) = refl
+right-entry self d ph e p (atom c (rung x)) = refl
+right-entry self d ph e p (list c nil) = refl
+right-entry self d ph e p (list c (cons h l)) =
+    ap (λ (f : Meaning → Step Stx). λ (s : State). after (headMeaning ph e h s) f) (fun-ext (λ m. right-form self d ph e p c h l m))
+
+-- expanders that agree are equal
+same-expander : (a b : Expander) → ((ph : ℕ) (e : Env) (p : Scopes) (x : Stx) → a ph e p x ≡ b ph e p x) → a ≡ b
+same-expander a b h = fun-ext (λ ph. fun-ext (λ e. fun-ext (λ p. fun-ext (λ x. h ph e p x))))
+
+right-expand : (d ph : ℕ) (e : Env) (p : Scopes) (x : Stx) → ruledExpand rightRules d ph e p x ≡ expand d ph e p x
+unfolding ruledExpand expand
+right-expand zero ph e p x = refl
+right-expand (suc d) ph e p x =
+    ap (λ (self : Expander). λ (s : State). after (charge 1 s) (λ (v : Unit {0}). ruledEntry rightRules self d ph e p x))
+    (same-expander (λ q f r y. ruledExpand rightRules d q f r y) (λ q f r y. expand d q f r y) (right-expand d))
+    ∙ ap (λ (g : Step Stx). λ (s : State). after (charge 1 s) (λ (v : Unit {0}). g)) (right-entry (λ q f r y. expand d q f r y) d ph e p x)
+
+right-root : (ph : ℕ) (x : Stx) → ruledRoot rightRules ph x ≡ expandRoot ph x
+unfolding ruledRoot expandRoot
+right-root ph x =
+    ap (λ (g : Step Stx). λ (s : State). after (charge (size x) s) (λ (v : Unit {0}). g)) (right-expand mostEntries ph coreOnly 0 x)
+
+right-ending : (image : List ℕ) (ph budget output : ℕ) → ruledEnding rightRules image ph budget output ≡ expandEnding image ph budget output
+unfolding ruledEnding expandEnding
+right-ending image ph budget output =
+    ap (λ (root : Stx → Step Stx). atPhase ph (withImage (readImage readSyntax image) (λ i.
+    worked budget (root (i .root) (start budget i)) (λ r s. fitted output (syntaxBytes (reached (i .head) s) (s .binds) r) (budget - s .left)))))
+    (fun-ext (λ x. right-root ph x))
+
+pub right-rules-are-the-job : (image : List ℕ) (ph budget : ℕ) (table output : List ℕ)
+    → ruled rightRules image ph budget table output ≡ expandJob image ph budget table output
+unfolding ruled expandJob
+right-rules-are-the-job image ph budget table output = ap (lent budget table output) (right-ending image ph budget (length output))
+
+-- ---- the third sham: the first part of an application expanded, the others copied
+
+copied-units : (ruled copiesOthers applied 0 32 words room) .answer .units ≡ 8
+unfolding applied words room ruled copiesOthers
+copied-units = refl
+
+pub copying-the-others-is-rejected : MeetsExpand (ruled copiesOthers) → ⊥
+copying-the-others-is-rejected meets = clash (sym copied-units ∙ units-are (ruled copiesOthers) meets applied applied-call ∙ applied-units)
+  where
+    clash : _≡_ {A = ℕ} 8 12 → ⊥
+    clash q = omega arith
+
+-- ---- a fresh name not advanced: the image has no made name
+
+stale-image : getD (imageWritten (ruled staleNames identity 0 32 words room)) 4 0 ≡ 0
+unfolding identity words room ruled staleNames imageWritten
+stale-image = refl
+
+pub stale-names-are-rejected : MeetsExpand (ruled staleNames) → ⊥
+stale-names-are-rejected meets = clash (sym stale-image ∙ ap (λ (l : List ℕ). getD l 4 0) (image-is (ruled staleNames) meets identity identity-call ∙ identity-image))
+  where
+    clash : _≡_ {A = ℕ} 0 1 → ⊥
+    clash q = omega arith
+
+-- and by condition 3: its binding's target is no declared name, so what is written cannot be read
+stale-code : (ruled staleNames identity 0 32 words room) .answer .code ≡ 0
+unfolding identity words room ruled staleNames
+stale-code = refl
+
+stale-unread : readImage readSyntax (imageWritten (ruled staleNames identity 0 32 words room)) ≡ fault layout
+unfolding identity words room ruled staleNames imageWritten readImage readSyntax
+stale-unread = refl
+
+pub stale-names-break-condition-3 : Condition3Of (ruled staleNames) → ⊥
+stale-names-break-condition-3 holds =
+    let o = holds identity 32 words room identity-call stale-code in
+    fault≢got layout (o .result) [] (sym stale-unread ∙ o .result-is)
+
+-- ---- a body without its binder's scope: its x has no meaning
+
+bare-code : (ruled bareBodies identity 0 32 words room) .answer .code ≡ 7
+unfolding identity words room ruled bareBodies
+bare-code = refl
+
+pub bare-bodies-are-rejected : MeetsExpand (ruled bareBodies) → ⊥
+bare-bodies-are-rejected meets =
+    clash (sym bare-code ∙ ap (λ (z : Result). z .answer .code) (as-defined (ruled bareBodies) meets identity identity-call) ∙ identity-code)
+  where
+    clash : _≡_ {A = ℕ} 7 0 → ⊥
+    clash q = omega arith
+
+-- ---- an identifier answered with itself: it keeps the scope of the inner binder
+
+own-length : (ruled ownIdentifiers nested 0 32 words room) .answer .len ≡ 60
+unfolding nested words room ruled ownIdentifiers
+own-length = refl
+
+pub own-identifiers-are-rejected : MeetsExpand (ruled ownIdentifiers) → ⊥
+own-identifiers-are-rejected meets =
+    clash (sym own-length ∙ ap (λ (z : Result). z .answer .len) (as-defined (ruled ownIdentifiers) meets nested nested-call) ∙ nested-length)
+  where
+    clash : _≡_ {A = ℕ} 60 59 → ⊥
+    clash q = omega arith

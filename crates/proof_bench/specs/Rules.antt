@@ -1,0 +1,140 @@
+-- The expander with four of its rules left open: so that a wrong rule can be put for one of them, in all else the expander as defined.
+use Prim.Native.Nat.{ℕ, zero, suc, _-_}
+use mathlib.Core.List.{List}
+use lib.ListN.{length}
+use Rattle.model.specs.Limits.{mostEntries}
+use Rattle.model.specs.Refusals.{noRule, tooManyEntries}
+use Rattle.model.specs.Scopes.{Scopes, add}
+use Rattle.model.specs.Objects.{symbol, number, point, prim, rung, Sets, setAt, changeAt, Stx, atom, list, Stxs, nil, cons, size}
+use Rattle.model.specs.Reading.{readSyntax, readImage}
+use Rattle.model.specs.Writing.{syntaxBytes}
+use Rattle.model.specs.Steps.{Step, ok, done, refuse, charge, made, addTo, freshScope, bind, resolveAt, parts1, parts2, identifier, _>>=_, _>>_}
+use Rattle.model.specs.Parsing.{lambda, letSyntax, quote, syntax}
+use Rattle.model.specs.Expanding.{Meaning, core, variable, macro, unknown, Env, coreOnly, extend, meaning, headMeaning, expandName, Binder, bindFresh, Expander, expandAll, expandSyntax, expandLetSyntax, expandMacro}
+use Rattle.model.specs.Jobs.{Ending, lent, atPhase, withImage, start, worked, fitted, reached}
+use Rattle.proof_bench.specs.Contracts.{Expanding}
+
+pub record Rules : Type 0 where
+  -- a fresh name and scope for lambda's binder
+  pub binder : ℕ → Sets → ℕ → Step Binder
+  -- lambda's body with the binder's scope
+  pub inScope : ℕ → ℕ → Stx → Step Stx
+  -- what an identifier with its sets and symbol means
+  pub means : Sets → ℕ → Meaning → Meaning
+  -- the parts of an application
+  pub parts : (Stx → Step Stx) → Stxs → Step Stxs
+
+unfoldable pub ruledFunction : Rules → Expander → ℕ → Env → Scopes → Sets → Stx → Sets → ℕ → Stx → Step Stx
+unfolding made add
+ruledFunction w self ph e p c h ci x body = do
+  b ← w .binder ph ci x
+  in-scope ← w .inScope (b .scope) ph body
+  out ← self ph (extend (b .name) (variable (b .sets) x) e) (add (b .scope) p) in-scope
+  made (list c (cons h (cons (atom (b .sets) (symbol x)) (cons out nil))))
+
+unfoldable pub ruledLambda : Rules → Expander → ℕ → Env → Scopes → Sets → Stx → Stxs → Step Stx
+unfolding parts2 identifier ruledFunction
+ruledLambda w self ph e p c h l = parts2 l (λ i body. identifier i (λ ci x. ruledFunction w self ph e p c h ci x body))
+
+unfoldable pub ruledApplication : Rules → Expander → ℕ → Env → Scopes → Sets → Stxs → Step Stx
+unfolding made
+ruledApplication w self ph e p c l = do
+  r ← w .parts (self ph e p) l
+  made (list c r)
+
+unfoldable pub ruledForm : Rules → Expander → ℕ → ℕ → Env → Scopes → Sets → Stx → Stxs → Meaning → Step Stx
+unfolding ruledLambda expandLetSyntax expandSyntax expandMacro ruledApplication parts1
+ruledForm w self d ph e p c h l (core lambda) = ruledLambda w self ph e p c h l
+ruledForm w self d ph e p c h l (core letSyntax) = expandLetSyntax self d ph e p l
+ruledForm w self d ph e p c h l (core quote) = parts1 l (λ s. done (list c (cons h l)))
+ruledForm w self d ph e p c h l (core syntax) = expandSyntax ph p c h l
+ruledForm w self d ph e p c h l (variable b x) = ruledApplication w self ph e p c (cons h l)
+ruledForm w self d ph e p c h l (macro v) = expandMacro self d ph e p v (list c (cons h l))
+ruledForm w self d ph e p c h l unknown = ruledApplication w self ph e p c (cons h l)
+
+unfoldable pub ruledEntry : Rules → Expander → ℕ → ℕ → Env → Scopes → Stx → Step Stx
+unfolding resolveAt meaning expandName headMeaning ruledForm
+ruledEntry w self d ph e p (atom c (symbol x)) = do
+  n ← resolveAt ph c x
+  expandName (w .means c x (meaning n e))
+ruledEntry w self d ph e p (atom c (number x)) = done (atom c (number x))
+ruledEntry w self d ph e p (atom c (point x)) = done (atom c (point x))
+ruledEntry w self d ph e p (atom c (prim x)) = done (atom c (prim x))
+ruledEntry w self d ph e p (atom c (rung x)) = done (atom c (rung x))
+ruledEntry w self d ph e p (list c nil) = refuse noRule
+ruledEntry w self d ph e p (list c (cons h l)) = do
+  m ← headMeaning ph e h
+  ruledForm w self d ph e p c h l m
+
+unfoldable pub ruledExpand : Rules → ℕ → ℕ → Env → Scopes → Stx → Step Stx
+unfolding charge ruledEntry
+ruledExpand w zero ph e p s = refuse tooManyEntries
+ruledExpand w (suc d) ph e p s = do
+  charge 1
+  ruledEntry w (λ q f r x. ruledExpand w d q f r x) d ph e p s
+
+unfoldable pub ruledRoot : Rules → ℕ → Stx → Step Stx
+unfolding charge size ruledExpand mostEntries
+ruledRoot w ph x = do
+  charge (size x)
+  ruledExpand w mostEntries ph coreOnly 0 x
+
+unfoldable pub ruledEnding : Rules → List ℕ → ℕ → ℕ → ℕ → Ending
+unfolding atPhase withImage readImage readSyntax worked start ruledRoot fitted syntaxBytes reached
+ruledEnding w image ph budget room =
+    atPhase ph (withImage (readImage readSyntax image) (λ i.
+    worked budget (ruledRoot w ph (i .root) (start budget i)) (λ r s.
+    fitted room (syntaxBytes (reached (i .head) s) (s .binds) r) (budget - s .left))))
+
+unfoldable pub ruled : Rules → Expanding
+unfolding lent ruledEnding
+ruled w image ph budget table output = lent budget table output (ruledEnding w image ph budget (length output))
+
+-- ---- the rules as defined
+
+unfoldable pub rightRules : Rules
+unfolding bindFresh addTo expandAll
+rightRules = record { binder = bindFresh; inScope = addTo; means = λ c x m. m; parts = expandAll }
+
+-- ---- one wrong rule each
+
+-- an application's first part expanded, the others copied
+unfoldable pub expandFirst : (Stx → Step Stx) → Stxs → Step Stxs
+expandFirst self nil = done nil
+expandFirst self (cons s l) = do
+  t ← self s
+  done (cons t l)
+
+unfoldable pub copiesOthers : Rules
+unfolding bindFresh addTo expandFirst
+copiesOthers = record { binder = bindFresh; inScope = addTo; means = λ c x m. m; parts = expandFirst }
+
+-- the fresh name not advanced
+unfoldable pub staleBinder : ℕ → Sets → ℕ → Step Binder
+unfolding freshScope charge changeAt add bind setAt
+staleBinder ph c x = do
+  n ← (λ s. ok (s .names) s)
+  k ← freshScope
+  charge 1
+  bind (record { symb = x; target = n; set = setAt ph (changeAt (add k) ph c) })
+  done (record { name = n; scope = k; sets = changeAt (add k) ph c })
+
+unfoldable pub staleNames : Rules
+unfolding staleBinder addTo expandAll
+staleNames = record { binder = staleBinder; inScope = addTo; means = λ c x m. m; parts = expandAll }
+
+-- the binder's scope not added to the body
+unfoldable pub bareBodies : Rules
+unfolding bindFresh expandAll
+bareBodies = record { binder = bindFresh; inScope = λ k ph x. done x; means = λ c x m. m; parts = expandAll }
+
+-- an identifier answered with itself instead of its binder
+unfoldable pub itself : Sets → ℕ → Meaning → Meaning
+itself c x (core f) = core f
+itself c x (variable b y) = variable c x
+itself c x (macro v) = macro v
+itself c x unknown = unknown
+
+unfoldable pub ownIdentifiers : Rules
+unfolding bindFresh addTo itself expandAll
+ownIdentifiers = record { binder = bindFresh; inScope = addTo; means = itself; parts = expandAll }
