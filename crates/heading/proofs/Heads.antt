@@ -135,6 +135,15 @@ head-length-is s h end names scopes {a = a} w e f = record {
       omega (arith, w .means g, head-long kind k (g .words) names scopes);
 }
 
+-- a head with the words of an image that was read is not much longer than an image
+pub head-few : {s : List ℕ} {h : Head} {end : ℕ} (g : Headed s h end) (kind : ℕ) → kind < 128 → (names scopes : ℕ) → length (headBytes kind (headWith (g .words) names scopes)) ≤ 65546
+head-few g kind k names scopes =
+    let a = head-long kind k (g .words) names scopes in
+    let b = end-is g in
+    let c = inside g in
+    let d = g .small in
+    omega (arith, num-short (names - 4 - length (g .words)), num-short scopes)
+
 pub ruleset length-laws = (longer-headed, longer-enough, longer-words, first-fits, second-fits, head-length-is)
 
 -- ---- writing
