@@ -15,7 +15,7 @@ use Rattle.model.specs.Trees.{Tree, var, app, fun, datum, lst, stx, Trees, tnil
 use Rattle.model.specs.Steps.{State, Out, Step, after, charge, madeTree}
 use Rattle.model.specs.Evaluating.{content, setsOf, remade, firstOf, restOf, picked, primitive, applicable, eachTree, argument, orWrongKind, apply, evalEntry, evaluate}
 use Rattle.model.specs.Jobs.{isAmong, closed, closedAll}
-use Rattle.laws.proofs.Members.{SetsIn}
+use Rattle.laws.specs.Ordered.{SetsIn}
 use Rattle.codec_laws.specs.WellFormed.{StxFits, StxsFit, IsValue, TreeFits, TreesFit, ValuesFit}
 use Rattle.codec_laws.proofs.Sequence.{and-both}
 use Rattle.addresses.proofs.Outcomes.{Outcome, gives, stops, chain, Kept, kept-refl, kept-same, kept-trans, charge-out, unless-out, madeTree-out}

@@ -14,7 +14,7 @@ use Rattle.model.specs.Steps.{State, Out, ok, parts1}
 use Rattle.model.specs.Parsing.{lambda, letSyntax, quote, syntax, headForm}
 use Rattle.model.specs.Expanding.{Meaning, core, variable, macro, unknown, Env, coreOnly, extend, meaning, expandName, Expander, expandAll, expandApplication, expandFunction, expandLambda, expandSyntax, expandBinding, expandLetSyntax, orNoSyntax, expandMacro, expandForm, expandEntry, expand}
 use Rattle.model.specs.Jobs.{closed}
-use Rattle.laws.proofs.Members.{SetsIn}
+use Rattle.laws.specs.Ordered.{SetsIn}
 use Rattle.laws.proofs.Stable.{later-trans, same}
 use Rattle.laws.proofs.StepLaws.{spend}
 use Rattle.codec_laws.specs.WellFormed.{StxFits, StxsFit}
@@ -191,9 +191,9 @@ module _ (k : ℕ) where
   -- ---- let-syntax
 
   -- the tree of a right-hand side keeps the limits, and none of its variables is free
-  parsed-good : (d ph : ℕ) (s s′ : State) (r : Stx) (x : Expanded k d ph coreOnly s r s′) → TreeGood k (s′ .names) (s′ .scopes) (x .tree)
+  pub right-hand-side-has-no-free-variable : (d ph : ℕ) (s s′ : State) (r : Stx) (x : Expanded k d ph coreOnly s r s′) → TreeGood k (s′ .names) (s′ .scopes) (x .tree)
   unfolding vars
-  parsed-good d ph s s′ r x = record { fits = x .tree-fits; owned = x .owned; shallow = le-trans (x .tree-shallow) (x .shallow) }
+  right-hand-side-has-no-free-variable d ph s s′ r x = record { fits = x .tree-fits; owned = x .owned; shallow = le-trans (x .tree-shallow) (x .shallow) }
 
   binding-out : (d : ℕ) (self : Expander) → ExpandGood d self → (ph : ℕ) (e : Env) (p : Scopes) (ci : Sets) (x : ℕ) (rhs body : Stx) (s : State)
       → StateFits k s → EnvGood k ph s e → SetsIn (s .scopes) ci → x < k → Piece s rhs → Piece s body
@@ -204,7 +204,7 @@ module _ (k : ℕ) where
       let g₂ : Grows k s t₂ = subst (λ (z : State). Grows k s z) (un .1) (bd .grows) in
       chain _ (rec (ph + 1) coreOnly 0 rhs t₂ (g₂ .keeps g) tt (piece-grows s t₂ rhs g₂ ir)) (λ r t₃ rh.
       chain _ (costs-out (rh .parses d (le-refl d) t₃ same)) (λ tr t₄ pa.
-      let good : TreeGood k (t₃ .names) (t₃ .scopes) tr = subst (TreeGood k (t₃ .names) (t₃ .scopes)) (pa .0) (parsed-good d (ph + 1) t₂ t₃ r rh) in
+      let good : TreeGood k (t₃ .names) (t₃ .scopes) tr = subst (TreeGood k (t₃ .names) (t₃ .scopes)) (pa .0) (right-hand-side-has-no-free-variable d (ph + 1) t₂ t₃ r rh) in
       chain _ (evaluate-good k (t₃ .names) (t₃ .scopes) d tr good t₄) (λ val t₅ ev. chain _ (addTo-out (b .scope) ph body t₅) (λ y u ad.
       let kp₅ : Kept t₃ t₅ = kept-trans (pa .1) (ev .1) in
       let kp : Kept t₃ u = kept-trans kp₅ (ad .1) in

@@ -9,7 +9,7 @@ use Rattle.model.specs.Objects.{Sets, changeAt, Stx, atom, list, Stxs, nil, con
 use Rattle.model.specs.Trees.{Tree, var, app, fun, datum, lst, stx, Trees, tnil, tcons, tnesting, tnestings, strip, stripAll}
 use Rattle.codec_laws.specs.WellFormed.{StxFits, StxsFit, IsValue, TreeFits, TreesFit, ValuesFit}
 use Rattle.codec_laws.proofs.SetTrip.{pow-mono}
-use Rattle.laws.proofs.Members.{SetsIn}
+use Rattle.laws.specs.Ordered.{SetsIn}
 
 -- ---- more scopes and names
 

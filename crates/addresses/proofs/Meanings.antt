@@ -15,7 +15,7 @@ use Rattle.model.specs.Steps.{State, ok, resolveAt}
 use Rattle.model.specs.Parsing.{Form, formOf, headForm}
 use Rattle.model.specs.Expanding.{Meaning, core, variable, macro, unknown, Env, coreOnly, extend, coreMeaning, meaning, headMeaning}
 use Rattle.model.specs.Jobs.{isAmong}
-use Rattle.laws.proofs.Members.{SetsIn}
+use Rattle.laws.specs.Ordered.{SetsIn}
 use Rattle.laws.proofs.ScopeSets.{eqb-eq}
 use Rattle.laws.proofs.ResolveRule.{In}
 use Rattle.laws.proofs.Stable.{Later, resolve-later, later-in, keys-later, resolve-own}
@@ -164,19 +164,19 @@ module _ (k : ℕ) where
   Stays ph h f s = (st : State) → Later (s .scopes) (s .binds) (st .binds) → headForm ph h st ≡ ok (some f) st
 
   -- resolved heads stay resolved
-  pub core-head-stays : (ph : ℕ) (c : Sets) (x n : ℕ) (e : Env) (s : State) (f : Form) → EnvGood ph s e → SetsIn (s .scopes) c
+  pub resolved-heads-stay-resolved : (ph : ℕ) (c : Sets) (x n : ℕ) (e : Env) (s : State) (f : Form) → EnvGood ph s e → SetsIn (s .scopes) c
       → resolve x (setAt ph c) (s .binds) ≡ means n → meaning n e ≡ core f → Stays ph (atom c (symbol x)) f s
   unfolding headForm
-  core-head-stays ph c x n e s f g i q p st w =
+  resolved-heads-stay-resolved ph c x n e s f g i q p st w =
       rw (
         resolveAt-is ph c x n st (resolve-later (s .scopes) (s .binds) (st .binds) w x (setAt ph c) (setAt-in ph (s .scopes) c i) ∙ q),
         meaning-core ph s n e g f p,
       )
 
   -- a binder resolves to its own name for ever
-  pub binder-is-its-name : (ph n : ℕ) (c : Sets) (x : ℕ) (s st : State) → StateFits k s → In (record { symb = x; target = n; set = setAt ph c }) (s .binds)
+  pub binder-resolves-to-its-name : (ph n : ℕ) (c : Sets) (x : ℕ) (s st : State) → StateFits k s → In (record { symb = x; target = n; set = setAt ph c }) (s .binds)
       → Later (s .scopes) (s .binds) (st .binds) → resolveAt ph c x st ≡ ok n st
-  binder-is-its-name ph n c x s st g i w =
+  binder-resolves-to-its-name ph n c x s st g i w =
       resolveAt-is ph c x n st
       (resolve-own (record { symb = x; target = n; set = setAt ph c }) (st .binds)
       (keys-later (s .scopes) (s .binds) (st .binds) w (keys k s g))
@@ -191,7 +191,7 @@ module _ (k : ℕ) where
 
   head-good : (ph : ℕ) (c : Sets) (x n : ℕ) (e : Env) (s : State) → EnvGood ph s e → SetsIn (s .scopes) c → resolve x (setAt ph c) (s .binds) ≡ means n
       → (m : Meaning) → meaning n e ≡ m → HeadGood ph (atom c (symbol x)) s m
-  head-good ph c x n e s g i q (core f) p = core-head-stays ph c x n e s f g i q p
+  head-good ph c x n e s g i q (core f) p = resolved-heads-stay-resolved ph c x n e s f g i q p
   head-good ph c x n e s g i q (variable b y) p = tt
   head-good ph c x n e s g i q (macro v) p = meaning-macro ph s n e g v p
   head-good ph c x n e s g i q unknown p = tt

@@ -17,7 +17,7 @@ use Rattle.model.specs.Steps.{State, ok, resolveAt, parts1, parts2, identifier}
 use Rattle.model.specs.Parsing.{lambda, quote, syntax, headForm, parseAll, parseForm, parseEntry, parse}
 use Rattle.model.specs.Expanding.{Env, extend, variable, Binder}
 use Rattle.model.specs.Jobs.{isAmong, closed, closedAll}
-use Rattle.laws.proofs.Members.{SetsIn}
+use Rattle.laws.specs.Ordered.{SetsIn}
 use Rattle.laws.proofs.Stable.{Later, later-trans, later-in}
 use Rattle.laws.proofs.StepLaws.{spend}
 use Rattle.codec_laws.specs.WellFormed.{StxFits, StxsFit, TreeFits, TreesFit}
@@ -26,7 +26,7 @@ use Rattle.addresses.proofs.Outcomes.{Kept}
 use Rattle.addresses.proofs.Fitting.{sets-more, stx-more, tree-more, strip-fits, strip-nesting}
 use Rattle.addresses.proofs.Owned.{both-true, strip-closed}
 use Rattle.addresses.proofs.States.{StateFits, Grows, grows-refl, grows-trans, kept-grows, binds-in, Bound}
-use Rattle.addresses.proofs.Meanings.{vars, MeaningGood, Stays, formOf-none, binder-is-its-name}
+use Rattle.addresses.proofs.Meanings.{vars, MeaningGood, Stays, formOf-none, binder-resolves-to-its-name}
 use Rattle.addresses.proofs.Costs.{Costs, free, charge-costs, costs-then, costs-map}
 use Rattle.addresses.proofs.Shorter.{var-shorter, datum-shorter, quote-shorter, syntax-shorter, function-shorter, application-shorter, none-shorter, trees-shorter}
 
@@ -210,7 +210,7 @@ module _ (k : ℕ) where
   variable-plain : (ph n : ℕ) (c : Sets) (x : ℕ) (s st : State) → StateFits k s → MeaningGood k ph n s (variable c x)
       → Later (s .scopes) (s .binds) (st .binds) → headForm ph (atom c (symbol x)) st ≡ ok none st
   unfolding headForm
-  variable-plain ph n c x s st g v w = rw (binder-is-its-name k ph n c x s st g (v .1) w, formOf-none n (v .0))
+  variable-plain ph n c x s st g v w = rw (binder-resolves-to-its-name k ph n c x s st g (v .1) w, formOf-none n (v .0))
 
   pub variable-expanded : (d ph n : ℕ) (e : Env) (c : Sets) (x : ℕ) (s : State) → StateFits k s → MeaningGood k ph n s (variable c x)
       → isAmong n (vars e) ≡ true → Expanded (suc d) ph e s (atom c (symbol x)) s
@@ -235,7 +235,7 @@ module _ (k : ℕ) where
 
       par : (m : ℕ) → suc d ≤ m → (st : State) → Later (s .scopes) (s .binds) (st .binds) → Costs Tree (var n) 1 st (parse m ph (atom c (symbol x)) st)
       par zero h st w = absurd (not-suc-le-zero h)
-      par (suc m) h st w = parse-id m ph c x n st (binder-is-its-name k ph n c x s (spend 1 st) g (v .1) (later-spend s st 1 w))
+      par (suc m) h st w = parse-id m ph c x n st (binder-resolves-to-its-name k ph n c x s (spend 1 st) g (v .1) (later-spend s st 1 w))
 
   -- ---- any other atom
 
@@ -456,6 +456,6 @@ module _ (k : ℕ) where
           let st₁ = spend 1 st in
           let w₁ : Later (s′ .scopes) (s′ .binds) (st₁ .binds) = later-spend s′ st 1 w in
           parse-lambda m ph c (b .sets) h out x (b .name) (a .cost) (a .tree) st (hd st₁ (earlier s s′ st₁ all w₁))
-          (binder-is-its-name k ph (b .name) (b .sets) x s′ st₁ (all .keeps g)
+          (binder-resolves-to-its-name k ph (b .name) (b .sets) x s′ st₁ (all .keeps g)
           (later-in (t .scopes) (t .binds) (s′ .binds) (from-t .later) B (bd .bound-in)) w₁)
           (a .parses m (le-of-suc-le-suc q) st₁ w₁)

@@ -18,11 +18,12 @@ use Rattle.model.specs.Objects.{Sets, setAt, changeAt}
 use Rattle.model.specs.Resolving.{Bind, bindBefore, bound, insert}
 use Rattle.model.specs.Steps.{State, ok, no, Step, after, charge, freshName, freshScope, bind}
 use Rattle.model.specs.Expanding.{Binder, bindFresh}
-use Rattle.laws.proofs.Members.{SetsIn, Small}
+use Rattle.laws.specs.Ordered.{SetsIn, Sorted}
+use Rattle.laws.proofs.Members.{Small}
 use Rattle.laws.proofs.Tests.{ltb-lt}
 use Rattle.laws.proofs.ScopeSets.{has-add, eqb-true}
 use Rattle.laws.proofs.ResolveRule.{In}
-use Rattle.laws.proofs.Order.{Sorted, sorted-keys}
+use Rattle.laws.proofs.Order.{sorted-keys}
 use Rattle.laws.proofs.Store.{insert-sorted}
 use Rattle.laws.proofs.Stable.{New, Later, same, more, later-trans, insert-new, unbound, fresh-unbound, Keys}
 use Rattle.laws.proofs.StepLaws.{spend}

@@ -9,7 +9,7 @@ use Rattle.model.specs.Refusals.{layout, overLimit}
 use Rattle.model.specs.Resolving.{Bind, bindBefore}
 use Rattle.model.specs.Reading.{got, need, numUpTo, numBelow, readSet, Head, symbols, readBind, readBindsAfter, readSomeBinds, readBinds}
 use Rattle.model.specs.Writing.{numBytes, setBytes, bindBytes, bindsBytes}
-use Rattle.laws.proofs.Order.{Ascending, Sorted}
+use Rattle.laws.specs.Ordered.{Ascending, Sorted}
 use Rattle.codec_laws.specs.WellFormed.{Bytes, HeadFits, BindFits, BindsFit}
 use Rattle.codec_laws.proofs.Sequence.{next-got, need-got, moved, Wrote, wrote, join, upTo-w, below-w, upTo-back, below-back}
 use Rattle.codec_laws.proofs.SetTrip.{set-same, set-back}

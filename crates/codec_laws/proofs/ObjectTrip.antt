@@ -13,7 +13,7 @@ use Rattle.model.specs.Objects.{Atom, symbol, number, point, prim, rung, tagOf,
 use Rattle.model.specs.Reading.{got, Reader, num, numUpTo, numBelow, readSet, readSets, readAtom, readParts, readContent, readStx, Head, symbols}
 use Rattle.model.specs.Writing.{numBytes, setBytes, setsBytes, stxBytes, stxsBytes}
 use Rattle.laws.proofs.ScopeSets.{eqb-eq}
-use Rattle.laws.proofs.Members.{SetsIn}
+use Rattle.laws.specs.Ordered.{SetsIn}
 use Rattle.codec_laws.specs.WellFormed.{Bytes, AtomFits, StxFits, StxsFit}
 use Rattle.codec_laws.proofs.NumberTrip.{num-back, fault≢got}
 use Rattle.codec_laws.proofs.Sequence.{next-got, moved, Wrote, wrote, join, num-w, upTo-w, below-w, upTo-back, below-back}

@@ -10,8 +10,7 @@ use Rattle.model.specs.Trees.{Tree, var, app, fun, datum, lst, stx, Trees, tnil
 use Rattle.model.specs.Resolving.{Bind}
 use Rattle.model.specs.Reading.{goodWord, among, coreWords, Head, symbols}
 use Rattle.model.specs.Writing.{syntaxBytes, treeImageBytes}
-use Rattle.laws.proofs.Members.{SetsIn}
-use Rattle.laws.proofs.Order.{Sorted}
+use Rattle.laws.specs.Ordered.{SetsIn, Sorted}
 
 -- every number of the list is a byte
 abbrev pub Bytes : List ℕ → Type 0

@@ -10,7 +10,6 @@ use lib.Dec.{eqb, ltb, leb}
 use lib.Arith.{lt-one}
 use Rattle.model.specs.Limits.{mostScopes}
 use Rattle.model.specs.Scopes.{Scopes, digit, has, add, keep, membersFrom, members}
-use Rattle.model.specs.Objects.{Sets}
 use Rattle.laws.proofs.Tests.{eqb-false, leb-le, leb-gt, ltb-lt, ltb-ge}
 use Rattle.laws.proofs.ScopeSets.{digit-zero, has-add, has-none, set-ext, eqb-true}
 
@@ -185,7 +184,3 @@ members-of-set l a h =
     asc-ext 0 64 (members (addAll l 0)) l (asc-of (addAll l 0) 64 h) a
     (λ j. member-has j (addAll l 0) h ∙ has-addAll 0 64 l a j 0 ∙ ap (λ (x : Bool). member j l || x) (has-none j)
     ∙ or-false (member j l))
-
--- three sets with no scope past the n-th
-abbrev pub SetsIn : ℕ → Sets → Type 0
-SetsIn n c = (c .at0 < 2 ^ n) × (c .at1 < 2 ^ n) × (c .at2 < 2 ^ n)

@@ -8,6 +8,7 @@ use mathlib.Core.List.{List, [], _∷_}
 use lib.Dec.{eqb, ltb}
 use Rattle.model.specs.Scopes.{Scopes, lessThen, listBefore, setBefore, members}
 use Rattle.model.specs.Resolving.{Bind, bindBefore}
+use Rattle.laws.specs.Ordered.{Ascending, Sorted}
 use Rattle.laws.proofs.Tests.{ltb-true, ltb-false, ltb-lt}
 use Rattle.laws.proofs.ScopeSets.{eqb-true, eqb-eq}
 use Rattle.laws.proofs.ResolveRule.{In}
@@ -84,15 +85,6 @@ before-other a b q p r = go (less-cases (a .symb) (b .symb) (setBefore (a .set) 
     go (inr h) = list-self (members (a .set)) (ap (λ (z : Scopes). listBefore (members (a .set)) (members z)) r ∙ h .1)
 
 -- ---- ascending stores
-
--- all of l are after b, each after the one before
-abbrev pub Ascending : Bind → List Bind → Type 0
-Ascending b [] = Unit {0}
-Ascending b (c ∷ l) = (bindBefore b c ≡ true) × Ascending c l
-
-abbrev pub Sorted : List Bind → Type 0
-Sorted [] = Unit {0}
-Sorted (b ∷ l) = Ascending b l
 
 all-after : (b : Bind) (l : List Bind) → Ascending b l → (c : Bind) → In c l → bindBefore b c ≡ true
 all-after b [] a c i = absurd i

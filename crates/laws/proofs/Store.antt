@@ -13,7 +13,7 @@ use Rattle.laws.proofs.Tests.{ltb-ge, eqb-ne}
 use Rattle.laws.proofs.ScopeSets.{eqb-eq}
 use Rattle.laws.proofs.Members.{Small, addAll, set-of-members}
 use Rattle.laws.proofs.ResolveRule.{In}
-use Rattle.laws.proofs.Order.{Ascending, Sorted}
+use Rattle.laws.specs.Ordered.{Ascending, Sorted}
 
 -- not less either way: equal, and so is the rest neither way
 less-neither : (x y : ℕ) (r t : Bool) → lessThen (ltb x y) (eqb x y) r ≡ false → lessThen (ltb y x) (eqb y x) t ≡ false
