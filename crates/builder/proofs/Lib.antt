@@ -1,0 +1,7 @@
+mod Inverting
+mod Fronts
+mod Sizes
+mod Standing
+mod ObjectLaws
+mod ChainLaws
+mod TreeLaws
