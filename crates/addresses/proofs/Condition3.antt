@@ -4,28 +4,26 @@ use mathlib.Core.Logic.{_≢_}
 use Prim.Native.Nat.{ℕ, suc, _+_, _-_, _≤_, _<_}
 use native.Mathlib.Nat.{le-refl, le-trans, le-of-eq}
 use native.Mathlib.Omega.{arith}
-use mathlib.Core.Bool.{Bool, true, false, _&&_, false≢true}
+use mathlib.Core.Bool.{Bool, true, false, false≢true}
 use mathlib.Core.List.{List, [], _∷_}
-use lib.Dec.{leb}
-use lib.ListN.{length, drop}
+use lib.ListN.{length}
 use Rattle.model.specs.Choice.{if_then_else_}
-use Rattle.model.specs.Limits.{mostEntries, mostImage, lastPhase}
-use Rattle.model.specs.Refusals.{overBudget, noPhase, tooLong, unowned}
+use Rattle.model.specs.Limits.{mostEntries, mostImage}
+use Rattle.model.specs.Refusals.{Refusal, overBudget, unowned}
 use Rattle.model.specs.Objects.{Stx, size}
 use Rattle.model.specs.Trees.{Tree, loadSize}
 use Rattle.model.specs.Resolving.{Bind}
-use Rattle.model.specs.Reading.{Read, got, fault, symbols, Image, readSyntax, readTreeImage, readImage}
+use Rattle.model.specs.Reading.{got, symbols, Image, readSyntax, readTreeImage, readImage}
 use Rattle.model.specs.Writing.{syntaxBytes, treeImageBytes}
-use Rattle.model.specs.Steps.{State, Out, ok, no, after}
+use Rattle.model.specs.Steps.{State, ok, no, after}
 use Rattle.model.specs.Parsing.{parse}
 use Rattle.model.specs.Evaluating.{evaluate}
 use Rattle.model.specs.Expanding.{coreOnly}
-use Rattle.model.specs.Jobs.{Ending, refused, named, written, answerOf, outputAfter, Result, budgetFits, lent, atPhase, withImage, start, worked, fitted, reached, expandRoot, parseRoot, evaluateRoot, isAmong, closed, expandEnding, parseEnding, evaluateEnding, expandJob, parseJob, evaluateJob}
-use Rattle.laws.proofs.Tests.{leb-le, eqb-false}
+use Rattle.model.specs.Jobs.{Ending, refused, written, Result, budgetFits, lent, withImage, start, worked, fitted, reached, expandRoot, parseRoot, evaluateRoot, isAmong, closed, expandEnding, parseEnding, evaluateEnding, expandJob, parseJob, evaluateJob}
+use Rattle.laws.proofs.Tests.{eqb-false}
 use Rattle.laws.proofs.Stable.{Later, same}
 use Rattle.laws.proofs.StepLaws.{spend}
 use Rattle.codec_laws.specs.WellFormed.{Bytes, SyntaxFits, TreeImageFits}
-use Rattle.codec_laws.proofs.Sequence.{and-both}
 use Rattle.codec_laws.proofs.ImageLaws.{syntax-read-keeps-limits, syntax-read-then-written, syntax-written-then-read, tree-written-then-read}
 use Rattle.addresses.specs.Charge.{entryCharge, parseCharge}
 use Rattle.addresses.specs.OneNameOneAddress.{functionNames, AllDifferent, NoneBelow, imageWritten, OneNameOneAddress}
@@ -36,7 +34,7 @@ use Rattle.addresses.proofs.Costs.{Costs, charge-costs, costs-then, cos
 use Rattle.addresses.proofs.Shorter.{image-shorter}
 use Rattle.addresses.proofs.Results.{Expanded, Rise}
 use Rattle.addresses.proofs.ParseCharge.{parse-spends, cost-is-charge}
-use Rattle.addresses.proofs.Endings.{after-ending, parseRoot-is, evaluateRoot-is, expandWork, parseWork, evaluateWork, expandEnding-is, parseEnding-is, evaluateEnding-is, expandJob-is, parseJob-is, evaluateJob-is, with-read, worked-ok, worked-no, fitted-is, lent-code, Ended, lent-ended, take-whole}
+use Rattle.addresses.proofs.Endings.{Wrote, nothing-wrote, job-wrote, fitted-case, worked-case, image-case, phase-case, parseRoot-is, evaluateRoot-is, expandWork, parseWork, evaluateWork, expandEnding-is, parseEnding-is, evaluateEnding-is, expandJob-is, parseJob-is, evaluateJob-is, with-read, worked-ok, worked-no, fitted-is, lent-code}
 use Rattle.addresses.proofs.ExpandJob.{expand-root-good, outcome-ok, limits-kept, Fine, worked-fine, fitted-fine, lent-fine}
 
 -- ---- names that rise are all different, and none is below where they start
@@ -75,48 +73,20 @@ record Ran (image : List ℕ) (budget : ℕ) (b : List ℕ) : Type 0 where
   bytes : syntaxBytes (reached (i .head) s) (s .binds) r ≡ b
   short : length b ≤ mostImage
 
--- of an ending: where it has written, it was such a run
-abbrev Wrote : List ℕ → ℕ → Ending → Type 0
-Wrote image budget (refused r u) = Unit {0}
-Wrote image budget (named n u) = ⊥
-Wrote image budget (written b u) = Ran image budget b
-
-fitted-wrote : (image : List ℕ) (budget room : ℕ) (b : List ℕ) (u : ℕ) → (length b ≤ mostImage → Ran image budget b) → Wrote image budget (fitted room b u)
-unfolding fitted
-fitted-wrote image budget room b u h = go (leb (length b) room && leb (length b) mostImage) refl
-  where
-    go : (t : Bool) → (leb (length b) room && leb (length b) mostImage) ≡ t → Wrote image budget (if t then written b u else refused tooLong u)
-    go true e = h (leb-le (length b) mostImage (and-both (leb (length b) room) (leb (length b) mostImage) e .1))
-    go false e = tt
-
-worked-wrote : (image : List ℕ) (budget budget′ : ℕ) (o : Out Stx) (f : Stx → State → Ending) → ((r : Stx) (s : State) → o ≡ ok r s → Wrote image budget (f r s))
-    → Wrote image budget (worked budget′ o f)
-unfolding worked
-worked-wrote image budget budget′ (ok r s) f h = h r s refl
-worked-wrote image budget budget′ (no r u) f h = tt
-
-image-wrote : (image : List ℕ) (budget : ℕ) (o : Read (Image Stx)) (f : Image Stx → Ending) → ((i : Image Stx) (rest : List ℕ) → o ≡ got i rest → Wrote image budget (f i))
-    → Wrote image budget (withImage o f)
-unfolding withImage
-image-wrote image budget (got i rest) f h = h i rest refl
-image-wrote image budget (fault r) f h = tt
-
-phase-wrote : (image : List ℕ) (budget ph : ℕ) (e : Ending) → Wrote image budget e → Wrote image budget (atPhase ph e)
-unfolding atPhase
-phase-wrote image budget ph e h = go (leb ph lastPhase)
-  where
-    go : (t : Bool) → Wrote image budget (if t then e else refused noPhase 0)
-    go true = h
-    go false = tt
-
-expand-wrote : (image : List ℕ) (budget room : ℕ) → Wrote image budget (expandEnding image 0 budget room)
+expand-wrote : (image : List ℕ) (budget room : ℕ) → Wrote (Ran image budget) (expandEnding image 0 budget room)
 expand-wrote image budget room =
-    subst (Wrote image budget) (sym (expandEnding-is image 0 budget room))
-    (phase-wrote image budget 0 (withImage (readImage readSyntax image) (expandWork 0 budget room))
-    (image-wrote image budget (readImage readSyntax image) (expandWork 0 budget room) (λ i rest e.
-    worked-wrote image budget budget (expandRoot 0 (i .root) (start budget i)) _ (λ r s q.
-    fitted-wrote image budget room (syntaxBytes (reached (i .head) s) (s .binds) r) (budget - s .left) (λ n.
+    subst W (sym (expandEnding-is image 0 budget room))
+    (phase-case W no 0 (withImage (readImage readSyntax image) (expandWork 0 budget room))
+    (image-case W no (readImage readSyntax image) (expandWork 0 budget room) (λ i rest e.
+    worked-case W no budget (expandRoot 0 (i .root) (start budget i)) _ (λ r s q.
+    fitted-case W no room (syntaxBytes (reached (i .head) s) (s .binds) r) (budget - s .left) (λ n.
     record { i = i; rest = rest; read = e; r = r; s = s; work = q; bytes = refl; short = n })))))
+  where
+    W : Ending → Type 0
+    W = Wrote (Ran image budget)
+
+    no : (r : Refusal) (u : ℕ) → Wrote (Ran image budget) (refused r u)
+    no = nothing-wrote (Ran image budget)
 
 -- ---- the parse job on what was written, and the evaluate job on what that writes
 
@@ -303,15 +273,9 @@ module _ (image : List ℕ) (is-bytes : Bytes image) (budget : ℕ) (b : List �
 
 pub one-name-one-address : (image : List ℕ) → Bytes image → (budget : ℕ) (table output : List ℕ)
     → (expandJob image 0 budget table output) .answer .code ≡ 0 → OneNameOneAddress image (imageWritten (expandJob image 0 budget table output))
-unfolding imageWritten answerOf outputAfter
 one-name-one-address image is-bytes budget table output q =
     let e = expandEnding image 0 budget (length output) in
-    let p = lent-ended budget table output e (ap (λ (z : Result). z .answer .code) (sym (expandJob-is image 0 budget table output)) ∙ q) in
-    subst (λ (z : Result). OneNameOneAddress image (imageWritten z)) (sym (expandJob-is image 0 budget table output ∙ p .1))
-    (go e (p .0) (expand-wrote image budget (length output)))
-  where
-    go : (e : Ending) → Ended e → Wrote image budget e
-        → OneNameOneAddress image (imageWritten (after-ending budget table output e))
-    go (refused r u) d w = absurd d
-    go (named n u) d w = absurd w
-    go (written b u) d w = subst (OneNameOneAddress image) (sym (take-whole b (drop (length b) output))) (holds image is-bytes budget b w)
+    let job = expandJob-is image 0 budget table output in
+    subst (λ (z : Result). OneNameOneAddress image (imageWritten z)) (sym job)
+    (holds image is-bytes budget (imageWritten (lent budget table output e))
+    (job-wrote (Ran image budget) budget table output e (expand-wrote image budget (length output)) (ap (λ (z : Result). z .answer .code) (sym job) ∙ q)))

@@ -1,23 +1,26 @@
 -- How the jobs end, taken apart: each as its work's parts say.
-use mathlib.Core.Path.{_≡_, refl, ap}
+use mathlib.Core.Path.{_≡_, refl, sym, ap, subst}
 use Prim.Native.Nat.{ℕ, _-_, _≤_}
 use native.Mathlib.Omega.{arith}
-use mathlib.Core.Bool.{Bool, true, false}
+use mathlib.Core.Bool.{Bool, true, false, _&&_}
 use mathlib.Core.List.{List, [], _∷_, _++_}
-use lib.ListN.{length, take}
+use lib.Dec.{leb}
+use lib.ListN.{length, take, drop}
 use Rattle.model.specs.Choice.{if_then_else_}
-use Rattle.model.specs.Limits.{mostImage, mostEntries}
+use Rattle.model.specs.Limits.{mostImage, mostEntries, lastPhase}
 use Rattle.model.specs.Refusals.{Refusal, layout, overLimit, unowned, wrongKind, smallTable, ambiguous, noMeaning, noRule, noSyntax, notApplicable, wrongArgument, noPhase, noNameLeft, noScopeLeft, noBindingLeft, boundAlready, tooDeep, tooManyEntries, overBudget, tooLong, codeOf}
 use Rattle.model.specs.Objects.{Stx, size}
 use Rattle.model.specs.Trees.{Tree, loadSize}
-use Rattle.model.specs.Reading.{Read, got, Image, readSyntax, readTreeImage, readImage}
+use Rattle.model.specs.Reading.{Read, got, fault, Image, readSyntax, readTreeImage, readImage}
 use Rattle.model.specs.Writing.{syntaxBytes, treeImageBytes}
 use Rattle.model.specs.Steps.{State, Out, ok, no, after, charge}
 use Rattle.model.specs.Parsing.{parse}
 use Rattle.model.specs.Evaluating.{evaluate}
 use Rattle.model.specs.Expanding.{expand, coreOnly}
 use Rattle.model.specs.Jobs.{Ending, refused, named, written, answerOf, outputAfter, Result, budgetFits, lent, cleared, atPhase, withImage, start, worked, fitted, reached, expandRoot, parseRoot, evaluateRoot, closed, expandEnding, parseEnding, evaluateEnding, expandJob, parseJob, evaluateJob}
-use Rattle.laws.proofs.Tests.{leb-true}
+use Rattle.laws.proofs.Tests.{leb-true, leb-le}
+use Rattle.codec_laws.proofs.Sequence.{and-both}
+use Rattle.addresses.specs.OneNameOneAddress.{imageWritten}
 
 -- ---- the definitions, one step open
 
@@ -114,6 +117,35 @@ pub lent-code : (budget : ℕ) (table output : List ℕ) (r : Refusal) (u : ℕ)
 unfolding lent answerOf
 lent-code budget table output r u e = rw e
 
+-- ---- what holds of every refusal, and of what is written where something is
+
+module _ (P : Ending → Type 0) (by-refusal : (r : Refusal) (u : ℕ) → P (refused r u)) where
+  pub fitted-case : (room : ℕ) (b : List ℕ) (u : ℕ) → (length b ≤ mostImage → P (written b u)) → P (fitted room b u)
+  unfolding fitted
+  fitted-case room b u h = go (leb (length b) room && leb (length b) mostImage) refl
+    where
+      go : (t : Bool) → (leb (length b) room && leb (length b) mostImage) ≡ t → P (if t then written b u else refused tooLong u)
+      go true e = h (leb-le (length b) mostImage (and-both (leb (length b) room) (leb (length b) mostImage) e .1))
+      go false e = by-refusal tooLong u
+
+  pub worked-case : {A : Type 0} (budget : ℕ) (o : Out A) (f : A → State → Ending) → ((a : A) (s : State) → o ≡ ok a s → P (f a s)) → P (worked budget o f)
+  unfolding worked
+  worked-case budget (ok a s) f h = h a s refl
+  worked-case budget (no r u) f h = by-refusal r (budget - u)
+
+  pub image-case : {R : Type 0} (o : Read (Image R)) (f : Image R → Ending) → ((i : Image R) (rest : List ℕ) → o ≡ got i rest → P (f i)) → P (withImage o f)
+  unfolding withImage
+  image-case (got i rest) f h = h i rest refl
+  image-case (fault r) f h = by-refusal r 0
+
+  pub phase-case : (ph : ℕ) (e : Ending) → P e → P (atPhase ph e)
+  unfolding atPhase
+  phase-case ph e h = go (leb ph lastPhase)
+    where
+      go : (t : Bool) → P (if t then e else refused noPhase 0)
+      go true = h
+      go false = by-refusal noPhase 0
+
 -- ---- code 0
 
 -- no refusal has code 0
@@ -163,3 +195,25 @@ lent-ended budget table output e =
 pub take-whole : (b l : List ℕ) → take (length b) (b ++ l) ≡ b
 take-whole [] l = refl
 take-whole (n ∷ b) l = ap (λ (z : List ℕ). n ∷ z) (take-whole b l)
+
+-- ---- what holds of the image that a job has written
+
+abbrev pub Wrote : (List ℕ → Type 0) → Ending → Type 0
+Wrote Q (refused r u) = Unit {0}
+Wrote Q (named n u) = ⊥
+Wrote Q (written b u) = Q b
+
+pub nothing-wrote : (Q : List ℕ → Type 0) (r : Refusal) (u : ℕ) → Wrote Q (refused r u)
+nothing-wrote Q r u = tt
+
+pub job-wrote : (Q : List ℕ → Type 0) (budget : ℕ) (table output : List ℕ) (e : Ending) → Wrote Q e → (lent budget table output e) .answer .code ≡ 0
+    → Q (imageWritten (lent budget table output e))
+unfolding imageWritten answerOf outputAfter
+job-wrote Q budget table output e w q =
+    let p = lent-ended budget table output e q in
+    subst (λ (z : Result). Q (imageWritten z)) (sym (p .1)) (go e (p .0) w)
+  where
+    go : (e : Ending) → Ended e → Wrote Q e → Q (imageWritten (after-ending budget table output e))
+    go (refused r u) d w = absurd d
+    go (named n u) d w = absurd w
+    go (written b u) d w = subst Q (sym (take-whole b (drop (length b) output))) w

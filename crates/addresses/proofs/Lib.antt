@@ -1,5 +1,6 @@
--- Condition 3, from what is kept by each step up to the jobs. `Condition3` has the theorem, `ExpandJob` what it rests on at the level of
--- the expand job; `Meanings` has that a binder resolves to its own name for ever and that resolved heads stay resolved.
+-- Condition 3, from what each step keeps up to the jobs. `Condition3` has the theorem; `ExpandJob` what it rests on at the level of the
+-- expand job; `Meanings` that a binder resolves to its own name for ever and that resolved heads stay resolved; `Expansion` that a
+-- right-hand side has no free variable; `Readable` that whatever a job writes can be read again.
 pub mod Outcomes
 pub mod Fitting
 pub mod Owned
@@ -13,5 +14,7 @@ pub mod Expansion
 pub mod ParseCharge
 pub mod Faults
 pub mod Endings
+pub mod ParseLimits
 pub mod ExpandJob
+pub mod Readable
 pub mod Condition3

@@ -268,12 +268,12 @@ module _ (k : ℕ) where
   list-plain ph c l st = refl
 
   -- the second part of a list is less deep than it
-  second-nesting : (c : Sets) (h x : Stx) (l : Stxs) → suc (nesting x) ≤ nesting (list c (cons h (cons x l)))
+  pub second-nesting : (c : Sets) (h x : Stx) (l : Stxs) → suc (nesting x) ≤ nesting (list c (cons h (cons x l)))
   unfolding nesting
   second-nesting c h x l =
       suc-le-suc (le-trans (le-max-left (nesting x) (nestings l)) (le-max-right (nesting h) (nestings (cons x l))))
 
-  body-nesting : (c : Sets) (h i out : Stx) → suc (nesting out) ≤ nesting (list c (cons h (cons i (cons out nil))))
+  pub body-nesting : (c : Sets) (h i out : Stx) → suc (nesting out) ≤ nesting (list c (cons h (cons i (cons out nil))))
   unfolding nesting
   body-nesting c h i out =
       suc-le-suc (le-trans (le-max-left (nesting out) (nestings nil)) (le-trans (le-max-right (nesting i) (nestings (cons out nil))) (le-max-right (nesting h) (nestings (cons i (cons out nil))))))
@@ -361,7 +361,7 @@ module _ (k : ℕ) where
   earlier : (t s′ st : State) → Grows k t s′ → Later (s′ .scopes) (s′ .binds) (st .binds) → Later (t .scopes) (t .binds) (st .binds)
   earlier t s′ st w l = later-trans (t .scopes) (s′ .scopes) (t .binds) (s′ .binds) (st .binds) (w .scopes-le) (w .later) l
 
-  max-both : {a b c d : ℕ} → a ≤ c → b ≤ d → max a b ≤ max c d
+  pub max-both : {a b c d : ℕ} → a ≤ c → b ≤ d → max a b ≤ max c d
   max-both {c = c} {d = d} p q = max-le (le-trans p (le-max-left c d)) (le-trans q (le-max-right c d))
 
   pub cons-expanded : (d ph : ℕ) (e : Env) (s t s′ : State) (x : Stx) (l : Stxs) → Expanded d ph e s x t → ExpandedAll d ph e t l s′
