@@ -12,6 +12,7 @@ use Rattle.addresses.proofs.Condition3.{one-name-one-address}
 use Rattle.proof_bench.specs.Contracts.{Call, Meets, Expanding, Working, MeetsExpand, MeetsParse, MeetsEvaluate}
 use Rattle.proof_bench.specs.Shams.{Condition3Of}
 use Rattle.proof_bench.proofs.Uniqueness.{one-result}
+use Rattle.proof_bench.proofs.Samples.{identity, words, room, expanded, identity-code, identity-call}
 
 -- a result that is the expected one is it
 is-expected : (expected result : Result) → Meets expected result → result ≡ expected
@@ -42,3 +43,8 @@ evaluating-meets-condition-3 h meets image expanded o budget table output c q =
     let b = treeImageBytes (o .result .head) (o .tree) in
     let e = is-expected (evaluateJob b budget table output) (h b budget table output) (meets b budget table output c) in
     o .never-unowned budget table output (ap (λ (z : Result). z .answer .code) (sym e) ∙ q)
+
+-- the theorem at work: (lambda x x), the image that document 01 shows whole
+pub identity-meets-condition-3 : OneNameOneAddress identity (imageWritten (expanded identity))
+unfolding expanded
+identity-meets-condition-3 = one-name-one-address identity (identity-call .image-bytes) 32 words room identity-code

@@ -1,4 +1,5 @@
 -- The proof bench of document 01.
+pub mod Answers
 pub mod Uniqueness
 pub mod Samples
 pub mod ShamsRefuted
