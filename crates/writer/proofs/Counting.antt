@@ -17,7 +17,7 @@ use Rattle.table.specs.declared.Body.{Body}
 use Rattle.table.specs.declared.Cell.{Cell}
 use Rattle.things.specs.Rep.{Rep, RepP, is-var, is-app, is-fun, is-lst, is-datum, is-atom, is-list, setsOf}
 use Rattle.things.specs.Measuring.{Seen, SeenP}
-use Rattle.things.proofs.ByTag.{tag-low, tag-is, content-is, app-at, fun-at, lst-at, list-at, part-at, none-at}
+use Rattle.things.proofs.ByTag.{tag-low, tag-is, content-is, app-at, fun-at, lst-at, list-at, PartAt, part-at, none-at}
 use Rattle.things.proofs.Measuring.{node-inside, stx-seen, app-seen, lst-seen}
 use Rattle.writer.specs.Bytes.{leading, prefix, number, numberStx, front, parts, partsStx, written, writtenAll}
 use Rattle.writer.specs.Counting.{PartsAre, NumberIs, LengthIs, Countable, CountableP, Counts, CountsP, CountsObject}
@@ -252,53 +252,79 @@ module _ {l : List ℕ} {i n m cap : ℕ} (k : ℕ) {o : Node} (e : o ≡ getNod
       pub plain-counts : Counts (written lead) l i n cap m
       plain-counts = record { means = λ top t x. behind [] x (no-parts e n5 n7 n9 n8 x) (omega (arith, z)) }
 
--- ---- a chain
+-- ---- a chain: m bytes are counted up to a place of it
 
-module _ {l : List ℕ} {c n cap : ℕ} (s : CountableP l c n cap) where
-  pub none-counts : (lead : Bool) → c ≡ 0 → CountsP (writtenAll lead) l c n cap n
-  none-counts lead h =
-      record { means = λ top ts r. omega (arith, s .so-far, ap (λ (x : Trees). length (writtenAll lead x)) (none-at r h), ap length (all-none lead)) }
+pub record Uncounted (lead : Bool) (l : List ℕ) (n cap top place m : ℕ) (ts : Trees) : Type 0 where
+  pub others : Trees
+  pub shown : RepP l top place others
+  pub sum : min (cap + 1) (m + length (writtenAll lead others)) ≡ min (cap + 1) (n + length (writtenAll lead ts))
 
-  pub over-counts : (lead : Bool) → cap < n → CountsP (writtenAll lead) l c n cap n
-  over-counts lead h = record { means = λ top ts r. omega (arith, s .so-far) }
+pub record Count (lead : Bool) (l : List ℕ) (c n cap place m : ℕ) : Type 0 where
+  pub ready : CountableP l place m cap
+  pub so-far : place ≤ c
+  pub left : (top : ℕ) (ts : Trees) → RepP l top c ts → Uncounted lead l n cap top place m ts
 
-  module _ (h : ¬ (c ≡ 0)) where
-    pub part-inside : c + 5 ≤ length l
-    part-inside = let p = part-at (s .seen .shown) h refl in omega (arith, p .cell .inside, s .seen .inside)
+pub count-start : {l : List ℕ} {c n cap : ℕ} (lead : Bool) → CountableP l c n cap → Count lead l c n cap c n
+count-start lead s = record { ready = s; so-far = omega arith; left = λ top ts r. record { others = ts; shown = r; sum = refl } }
 
-    module _ {x : Cell} (e : x ≡ getCell l c) where
-      pub head-countable : Countable l (x .head) n cap
+module _ {l : List ℕ} {c n cap place m : ℕ} (lead : Bool) (w : Count lead l c n cap place m) where
+  pub count-over : cap < m → CountsP (writtenAll lead) l c n cap m
+  count-over h = record { means = λ top ts r. let k = w .left top ts r in omega (arith, w .ready .so-far, k .sum) }
+
+  pub count-done : place ≡ 0 → CountsP (writtenAll lead) l c n cap m
+  count-done h =
+      record {
+        means = λ top ts r.
+            let k = w .left top ts r in
+            omega (arith, w .ready .so-far, k .sum, ap (λ (x : Trees). length (writtenAll lead x)) (none-at (k .shown) h), ap length (all-none lead));
+      }
+
+  module _ (h : ¬ (place ≡ 0)) where
+    pub part-inside : place + 5 ≤ length l
+    part-inside = let p = part-at (w .ready .seen .shown) h refl in omega (arith, p .cell .inside, w .ready .seen .inside)
+
+    module _ {x : Cell} (e : x ≡ getCell l place) where
+      part : PartAt l (w .ready .seen .top) place x (w .ready .seen .thing)
+      part = part-at (w .ready .seen .shown) h e
+
+      pub head-countable : Countable l (x .head) m cap
       head-countable =
-          let p = part-at (s .seen .shown) h e in
           record {
-            seen = record { top = s .seen .top; thing = p .first; shown = p .cell .shown; inside = s .seen .inside; small = s .seen .small };
-            so-far = s .so-far;
-            most = s .most;
+            seen = record { top = w .ready .seen .top; thing = part .first; shown = part .cell .shown; inside = w .ready .seen .inside; small = w .ready .seen .small };
+            so-far = w .ready .so-far;
+            most = w .ready .most;
           }
 
-      module _ (lead : Bool) {m : ℕ} (q : Counts (written lead) l (x .head) n cap m) where
-        pub tail-countable : CountableP l (x .tail) m cap
-        tail-countable =
-            let p = part-at (s .seen .shown) h e in
-            record {
-              seen = record { top = s .seen .top; thing = p .others; shown = p .cell .shown-others; inside = s .seen .inside; small = s .seen .small };
-              so-far = omega (arith, q .means (s .seen .top) (p .first) (p .cell .shown));
-              most = s .most;
-            }
+      pub head-less : {t : ℕ} → c * 2 ≡ t → x .head * 2 + 1 < t
+      head-less z = omega (arith, part .cell .low .0, w .so-far)
 
-        pub part-counts : {r : ℕ} → CountsP (writtenAll lead) l (x .tail) m cap r → CountsP (writtenAll lead) l c n cap r
-        part-counts w =
-            record {
-              means = λ top ts r.
-                  let p = part-at r h e in
-                  omega (
+      pub tail-less : x .tail < place
+      tail-less = part .cell .low .1
+
+      pub count-more : {m′ : ℕ} → Counts (written lead) l (x .head) m cap m′ → Count lead l c n cap (x .tail) m′
+      count-more q =
+          record {
+            ready = record {
+              seen = record { top = w .ready .seen .top; thing = part .others; shown = part .cell .shown-others; inside = w .ready .seen .inside; small = w .ready .seen .small };
+              so-far = omega (arith, q .means (w .ready .seen .top) (part .first) (part .cell .shown));
+              most = w .ready .most;
+            };
+            so-far = omega (arith, part .cell .low .1, w .so-far);
+            left = λ top ts r.
+                let k = w .left top ts r in
+                let p = part-at (k .shown) h e in
+                record {
+                  others = p .others;
+                  shown = p .cell .shown-others;
+                  sum = omega (
                     arith,
+                    k .sum,
                     q .means top (p .first) (p .cell .shown),
-                    w .means top (p .others) (p .cell .shown-others),
                     ap (λ (y : Trees). length (writtenAll lead y)) (p .is),
                     all-long lead (p .first) (p .others),
                   );
-            }
+                };
+          }
 
 -- ---- what is called lies lower
 
@@ -315,13 +341,6 @@ module _ {l : List ℕ} {i t : ℕ} {o : Node} (e : o ≡ getNode l i) (s : Seen
   pub fun-less : {y : Body} → o .tag ≡ functionTag → y ≡ getBody l i → y .at * 2 + 1 < t
   fun-less h f = omega (arith, fun-at (s .shown) e h f .low)
 
-module _ {l : List ℕ} {c t : ℕ} {x : Cell} (s : SeenP l c) (h : ¬ (c ≡ 0)) (e : x ≡ getCell l c) (z : c * 2 ≡ t) where
-  pub head-less : x .head * 2 + 1 < t
-  head-less = omega (arith, part-at (s .shown) h e .cell .low .0)
-
-  pub tail-less : x .tail * 2 < t
-  tail-less = omega (arith, part-at (s .shown) h e .cell .low .1)
-
 -- ---- by the definitions' names
 
 pub object-counts : {l : List ℕ} {i n cap r : ℕ} → Counts (written false) l i n cap r → CountsObject stxBytes l i n cap r
@@ -332,4 +351,6 @@ tree-counts q = record { means = λ top t r. omega (arith, q .means top t r, ap 
 
 pub ruleset walking = (walk-start, walk-inside, walk-less, walk-more, walk-fits, walk-done)
 
-pub ruleset laws = (node-inside, stx-seen, app-seen, lst-seen, stx-number, app-number, lst-number, own-number, sets-counted, led-prefix, bare-prefix, one-prefix, two-prefix, front-fits, front-counted, front-short, list-countable, app-countable, lst-countable, fun-countable, list-counts, app-counts, lst-counts, fun-counts, plain-counts, none-counts, over-counts, part-inside, head-countable, tail-countable, part-counts, list-less, app-less, lst-less, fun-less, head-less, tail-less, object-counts, tree-counts)
+pub ruleset laws = (node-inside, stx-seen, app-seen, lst-seen, stx-number, app-number, lst-number, own-number, sets-counted, led-prefix, bare-prefix, one-prefix, two-prefix, front-fits, front-counted, front-short, list-countable, app-countable, lst-countable, fun-countable, list-counts, app-counts, lst-counts, fun-counts, plain-counts, list-less, app-less, lst-less, fun-less, object-counts, tree-counts)
+
+pub ruleset chain-laws = (count-start, count-over, count-done, part-inside, head-countable, head-less, tail-less, count-more)

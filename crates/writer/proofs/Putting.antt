@@ -2,7 +2,7 @@
 use mathlib.Core.Path.{_≡_, refl, sym, ap, _∙_}
 use mathlib.Core.Bool.{Bool, true, false}
 use mathlib.Core.List.{List, [], _++_}
-use Prim.Native.Nat.{ℕ, _+_, _-_, _≤_, _<_}
+use Prim.Native.Nat.{ℕ, _+_, _-_, _*_, _≤_, _<_}
 use native.Mathlib.Omega.{arith}
 use lib.ListN.{length, length-append}
 use lib.Seq.{sets, length-sets}
@@ -16,15 +16,15 @@ use Rattle.table.specs.declared.Node.{Node}
 use Rattle.table.specs.declared.Sets.{Sets}
 use Rattle.table.specs.declared.Body.{Body}
 use Rattle.table.specs.declared.Cell.{Cell}
-use Rattle.things.specs.Rep.{Rep, is-var, is-app, is-fun, is-lst, is-datum, is-atom, is-list, setsOf}
-use Rattle.things.specs.Measuring.{Seen, SeenP}
+use Rattle.things.specs.Rep.{Rep, RepP, is-var, is-app, is-fun, is-lst, is-datum, is-atom, is-list, setsOf}
+use Rattle.things.specs.Measuring.{Seen}
 use Rattle.things.proofs.Frame.{below}
-use Rattle.things.proofs.ByTag.{tag-low, tag-is, app-at, fun-at, lst-at, list-at, part-at, none-at}
+use Rattle.things.proofs.ByTag.{tag-low, tag-is, app-at, fun-at, lst-at, list-at, PartAt, part-at, none-at}
 use Rattle.writer.specs.Bytes.{leading, prefixStx, prefix, number, front, parts, written, writtenAll}
 use Rattle.writer.specs.Counting.{NumberIs}
 use Rattle.writer.specs.Putting.{Fitting, FittingP, FittingPrefix, FittingObject, Wrote, Puts, PutsP, PutsObject}
 use Rattle.writer.proofs.Bytes.{written-stx, written-tree, front-long, written-long, all-none, all-long, parts-list, parts-app, parts-lst, parts-fun}
-use Rattle.writer.proofs.Counting.{no-parts, list-less, app-less, lst-less, fun-less, head-less, tail-less}
+use Rattle.writer.proofs.Counting.{no-parts, list-less, app-less, lst-less, fun-less}
 
 -- ---- one run of bytes behind another
 
@@ -45,9 +45,6 @@ as-wrote e w = rw (← e) w
 
 pub fitting-seen : {bytes : Tree → List ℕ} {l : List ℕ} {i : ℕ} {out : List ℕ} {at : ℕ} → Fitting bytes l i out at → Seen l i
 fitting-seen s = record { top = s .top; thing = s .thing; shown = s .shown; inside = s .inside; small = s .small }
-
-pub fitting-seenP : {bytes : Trees → List ℕ} {l : List ℕ} {c : ℕ} {out : List ℕ} {at : ℕ} → FittingP bytes l c out at → SeenP l c
-fitting-seenP s = record { top = s .top; thing = s .thing; shown = s .shown; inside = s .inside; small = s .small }
 
 pub fitting-inside : {bytes : Tree → List ℕ} {l : List ℕ} {i : ℕ} {out : List ℕ} {at : ℕ} → Fitting bytes l i out at → i + 8 ≤ length l
 fitting-inside s = omega (arith, below (s .shown), s .inside)
@@ -326,53 +323,96 @@ module _ {l : List ℕ} {i : ℕ} (lead : Bool) {out l1 : List ℕ} {at mid : �
       let z : Wrote [] l1 l1 mid mid = record { past-is = omega arith; out-is = refl } in
       record { means = λ top t x. whole [] x (no-parts e n5 n7 n9 n8 x) z }
 
--- ---- a chain
+-- ---- a chain: what is left of it is to be put from a place on
 
-pub none-puts : {l : List ℕ} {c : ℕ} (lead : Bool) {out : List ℕ} {at : ℕ} → c ≡ 0 → PutsP (writtenAll lead) l c out out at at
-none-puts lead {out} {at} h =
-    let z : Wrote [] out out at at = record { past-is = omega arith; out-is = refl } in
-    record { means = λ top ts r. as-wrote (sym (ap (writtenAll lead) (none-at r h) ∙ all-none lead)) z }
+pub record Unput (lead : Bool) (l : List ℕ) (out₀ : List ℕ) (at top place : ℕ) (out : List ℕ) (here : ℕ) (ts : Trees) : Type 0 where
+  pub others : Trees
+  pub shown : RepP l top place others
+  pub past-is : here + length (writtenAll lead others) ≡ at + length (writtenAll lead ts)
+  pub out-is : sets out here (writtenAll lead others) ≡ sets out₀ at (writtenAll lead ts)
 
-module _ {l : List ℕ} {c : ℕ} {out : List ℕ} {at : ℕ} (lead : Bool) (h : ¬ (c ≡ 0)) where
-  pub part-inside : FittingP (writtenAll lead) l c out at → c + 5 ≤ length l
-  part-inside s = let p = part-at (s .shown) h refl in omega (arith, p .cell .inside, s .inside)
+pub record Put (lead : Bool) (l : List ℕ) (c : ℕ) (out₀ : List ℕ) (at place : ℕ) (out : List ℕ) (here : ℕ) : Type 0 where
+  pub ready : FittingP (writtenAll lead) l place out here
+  pub same : length out ≡ length out₀
+  pub so-far : place ≤ c
+  pub left : (top : ℕ) (ts : Trees) → RepP l top c ts → Unput lead l out₀ at top place out here ts
 
-  module _ {x : Cell} (e : x ≡ getCell l c) where
-    module _ (s : FittingP (writtenAll lead) l c out at) where
-      pub head-fitting : Fitting (written lead) l (x .head) out at
+pub put-start : {l : List ℕ} {c : ℕ} {out : List ℕ} {at : ℕ} (lead : Bool) → FittingP (writtenAll lead) l c out at → Put lead l c out at c out at
+put-start lead s = record { ready = s; same = refl; so-far = omega arith; left = λ top ts r. record { others = ts; shown = r; past-is = refl; out-is = refl } }
+
+module _ {l : List ℕ} {c : ℕ} {out₀ : List ℕ} {at place : ℕ} {out : List ℕ} {here : ℕ} (lead : Bool) (w : Put lead l c out₀ at place out here) where
+  pub put-same : length out ≡ length out₀
+  put-same = w .same
+
+  pub put-done : place ≡ 0 → PutsP (writtenAll lead) l c out₀ out at here
+  put-done h =
+      record {
+        means = λ top ts r.
+            let k = w .left top ts r in
+            let z : writtenAll lead (k .others) ≡ [] = ap (writtenAll lead) (none-at (k .shown) h) ∙ all-none lead in
+            record {
+              past-is = omega (arith, k .past-is, ap length z);
+              out-is = ap (λ (bs : List ℕ). sets out here bs) (sym z) ∙ k .out-is;
+            };
+      }
+
+  module _ (h : ¬ (place ≡ 0)) where
+    pub part-inside : place + 5 ≤ length l
+    part-inside = let p = part-at (w .ready .shown) h refl in omega (arith, p .cell .inside, w .ready .inside)
+
+    module _ {x : Cell} (e : x ≡ getCell l place) where
+      part : PartAt l (w .ready .top) place x (w .ready .thing)
+      part = part-at (w .ready .shown) h e
+
+      whole-long : length (writtenAll lead (w .ready .thing)) ≡ length (written lead (part .first)) + length (writtenAll lead (part .others))
+      whole-long = ap (λ (y : Trees). length (writtenAll lead y)) (part .is) ∙ all-long lead (part .first) (part .others)
+
+      pub head-fitting : Fitting (written lead) l (x .head) out here
       head-fitting =
-          let p = part-at (s .shown) h e in
           record {
-            top = s .top;
-            thing = p .first;
-            shown = p .cell .shown;
-            inside = s .inside;
-            small = s .small;
-            fits = omega (arith, s .fits, ap (λ (y : Trees). length (writtenAll lead y)) (p .is), all-long lead (p .first) (p .others));
+            top = w .ready .top;
+            thing = part .first;
+            shown = part .cell .shown;
+            inside = w .ready .inside;
+            small = w .ready .small;
+            fits = omega (arith, w .ready .fits, whole-long);
           }
 
-      pub tail-fitting : {l1 : List ℕ} {mid : ℕ} → Puts (written lead) l (x .head) out l1 at mid → FittingP (writtenAll lead) l (x .tail) l1 mid
-      tail-fitting w =
-          let p = part-at (s .shown) h e in
-          let v = w .means (s .top) (p .first) (p .cell .shown) in
-          record {
-            top = s .top;
-            thing = p .others;
-            shown = p .cell .shown-others;
-            inside = s .inside;
-            small = s .small;
-            fits = omega (arith, s .fits, ap (λ (y : Trees). length (writtenAll lead y)) (p .is), all-long lead (p .first) (p .others), v .past-is, same-length v);
-          }
+      pub head-less : {t : ℕ} → c * 2 ≡ t → x .head * 2 + 1 < t
+      head-less z = omega (arith, part .cell .low .0, w .so-far)
 
-    pub part-puts : {l1 l2 : List ℕ} {mid r : ℕ} → Puts (written lead) l (x .head) out l1 at mid → PutsP (writtenAll lead) l (x .tail) l1 l2 mid r
-        → PutsP (writtenAll lead) l c out l2 at r
-    unfolding writtenAll
-    part-puts w q =
-        record {
-          means = λ top ts y.
-              let p = part-at y h e in
-              as-wrote (ap (writtenAll lead) (sym (p .is))) (run (w .means top (p .first) (p .cell .shown)) (q .means top (p .others) (p .cell .shown-others)));
-        }
+      pub tail-less : x .tail < place
+      tail-less = part .cell .low .1
+
+      pub put-more : {out′ : List ℕ} {here′ : ℕ} → Puts (written lead) l (x .head) out out′ here here′ → Put lead l c out₀ at (x .tail) out′ here′
+      unfolding writtenAll
+      put-more {out′} {here′} q =
+          let v = q .means (w .ready .top) (part .first) (part .cell .shown) in
+          record {
+            ready = record {
+              top = w .ready .top;
+              thing = part .others;
+              shown = part .cell .shown-others;
+              inside = w .ready .inside;
+              small = w .ready .small;
+              fits = omega (arith, w .ready .fits, whole-long, v .past-is, same-length v);
+            };
+            same = same-length v ∙ w .same;
+            so-far = omega (arith, part .cell .low .1, w .so-far);
+            left = λ top ts r.
+                let k = w .left top ts r in
+                let p = part-at (k .shown) h e in
+                let u = q .means top (p .first) (p .cell .shown) in
+                let rest : Wrote (writtenAll lead (p .others)) out′ (sets out′ here′ (writtenAll lead (p .others))) here′ (here′ + length (writtenAll lead (p .others))) =
+                record { past-is = refl; out-is = refl } in
+                let b = as-wrote (ap (writtenAll lead) (sym (p .is))) (run u rest) in
+                record {
+                  others = p .others;
+                  shown = p .cell .shown-others;
+                  past-is = b .past-is ∙ k .past-is;
+                  out-is = b .out-is ∙ k .out-is;
+                };
+          }
 
 -- ---- by the definitions' names
 
@@ -392,4 +432,6 @@ tree-puts q = record { means = λ top t r. as-wrote (written-tree t) (q .means t
 
 pub ruleset fronts = (fitting-seen, fitting-inside, tag-fits, object-inside, sets-fit, object-prefix-put, bare-fitting, bare-put, led-fits, led-fitting, led-put, low-fits, low-put, lst-fits, lst-put, atom-fits, datum-fits, datum-put, atom-tag, prefix-fitting, number-fits, front-put)
 
-pub ruleset laws = (fitting-seen, fitting-seenP, fitting-inside, front-fitting, list-fitting, app-fitting, lst-fitting, fun-fitting, list-puts, app-puts, lst-puts, fun-puts, plain-puts, none-puts, part-inside, head-fitting, tail-fitting, part-puts, list-less, app-less, lst-less, fun-less, head-less, tail-less, object-fitting, object-puts, tree-fitting, tree-puts)
+pub ruleset laws = (fitting-seen, fitting-inside, front-fitting, list-fitting, app-fitting, lst-fitting, fun-fitting, list-puts, app-puts, lst-puts, fun-puts, plain-puts, list-less, app-less, lst-less, fun-less, object-fitting, object-puts, tree-fitting, tree-puts)
+
+pub ruleset chain-laws = (put-start, put-same, put-done, part-inside, head-fitting, head-less, tail-less, put-more)

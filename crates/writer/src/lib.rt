@@ -120,15 +120,17 @@ fn things_len(table: &[u32], c: u32, lead: bool, n: usize, cap: usize) -> usize
     requires { ⌜ CountableP (now table) c n cap ⌝ }
     ensures { λ r. ⌜ CountsP (writtenAll lead) (now (table .entry)) c n cap r ⌝ }
 {
-    if c == 0 {
-        return n;
+    let mut place = c;
+    let mut m = n;
+    while place != 0 {
+        if cap < m {
+            return m;
+        }
+        let cell = table::get_cell(table, place);
+        m = thing_len(table, cell.head, lead, m, cap);
+        place = cell.tail;
     }
-    if cap < n {
-        return n;
-    }
-    let cell = table::get_cell(table, c);
-    let m = thing_len(table, cell.head, lead, n, cap);
-    things_len(table, cell.tail, lead, m, cap)
+    m
 }
 
 // Of a syntax object.
@@ -218,12 +220,14 @@ fn put_things(out: &mut [u8], at: usize, table: &[u32], c: u32, lead: bool) -> u
     requires { ⌜ FittingP (writtenAll lead) (now table) c (now out) at ⌝ }
     ensures { λ r. ⌜ PutsP (writtenAll lead) (now (table .entry)) c (now (out .entry)) (now (out .exit)) at r ⌝ }
 {
-    if c == 0 {
-        return at;
+    let mut place = c;
+    let mut here = at;
+    while place != 0 {
+        let cell = table::get_cell(table, place);
+        here = put_thing(out, here, table, cell.head, lead);
+        place = cell.tail;
     }
-    let cell = table::get_cell(table, c);
-    let mid = put_thing(out, at, table, cell.head, lead);
-    put_things(out, mid, table, cell.tail, lead)
+    here
 }
 
 // A syntax object.
