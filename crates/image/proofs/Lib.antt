@@ -1,3 +1,4 @@
 pub mod Spans
 pub mod Trees
 pub mod Kept
+pub mod Roots
