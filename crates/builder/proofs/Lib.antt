@@ -1,6 +1,6 @@
 mod Inverting
 mod Fronts
-mod Sizes
+pub mod Sizes
 mod Standing
 mod ObjectLaws
 mod ChainLaws

@@ -1,11 +1,16 @@
 -- Sizes of what is loaded, by the outermost part.
 use mathlib.Core.Path.{_≡_, refl, ap}
-use Prim.Native.Nat.{ℕ, _+_, _-_, _≤_}
+use Prim.Native.Nat.{ℕ, _+_, _≤_}
 use native.Mathlib.Omega.{arith}
 use Rattle.model.specs.Objects as m
 use Rattle.model.specs.Objects.{Atom, Stxs, nil, cons, atom, list, size, sizes}
 use Rattle.model.specs.Trees.{Tree, Trees, var, app, fun, datum, lst, stx, tnil, tcons, fromStxs, loadSize, tsizeBy}
 use Rattle.builder.specs.Building.{loadSizes}
+
+-- a syntax value counts as its object
+pub load-stx : (x : m.Stx) → loadSize (stx x) ≡ size x
+unfolding loadSize tsizeBy
+load-stx x = refl
 
 pub load-atom : (c : m.Sets) (a : Atom) → loadSize (stx (atom c a)) ≡ 1
 unfolding loadSize tsizeBy size
