@@ -1,6 +1,6 @@
 -- What is read over the counts of a head is what the definition reads with that head.
-use mathlib.Core.Path.{_≡_, refl, sym, ap, _∙_}
-use mathlib.Core.List.{List, [], _∷_}
+use mathlib.Core.Path.{_≡_, refl, ap, _∙_}
+use mathlib.Core.List.{List, _∷_}
 use Prim.Native.Nat.{ℕ, zero, suc}
 use Rattle.model.specs.Limits.{mostBindings}
 use Rattle.model.specs.Refusals.{layout, overLimit}

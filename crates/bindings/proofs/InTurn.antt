@@ -1,5 +1,5 @@
 -- Bindings read one behind the other, by the tests that the code makes.
-use mathlib.Core.Path.{_≡_, refl, sym, ap, ap₂, _∙_, subst}
+use mathlib.Core.Path.{_≡_, refl, sym, ap, ap₂, _∙_}
 use mathlib.Core.Bool.{Bool, true, false}
 use mathlib.Core.List.{List, [], _∷_}
 use Prim.Native.Nat.{ℕ, zero, suc, _+_, _-_, _*_, _≤_, _<_}
@@ -12,7 +12,7 @@ use Rattle.model.specs.Refusals as m
 use Rattle.model.specs.Refusals.{layout, overLimit}
 use Rattle.model.specs.Scopes.{Scopes}
 use Rattle.model.specs.Resolving.{Bind, bindBefore}
-use Rattle.model.specs.Reading.{Read, Reader, got, fault, next, need, num, numBelow, numUpTo, readSet}
+use Rattle.model.specs.Reading.{Read, got, fault, next, need, num, numBelow, numUpTo, readSet}
 use Rattle.refusals.specs.Refusing.{refusalOf, caseOf}
 use Rattle.refusals.specs.declared.Refusal.{Refusal}
 use Rattle.refusals.specs.declared.Refusal.the-variants.{Layout}
@@ -23,8 +23,8 @@ use Rattle.numbers.specs.declared.Number.the-variants as number
 use Rattle.numbers.specs.declared.Place.{Place}
 use Rattle.numbers.specs.declared.Place.the-variants as place
 use Rattle.numbers.specs.Answers.{numberAt, placeAt, Seen, seen, unseen, seenAt}
-use Rattle.numbers.proofs.Tails.{Tail, tail-give, tail-next, num-tail, below-tail, up-to-tail}
-use Rattle.numbers.proofs.Answering.{Took, took, refused, number-shape, seen-shape, goes, stops, whole, seen-goes, seen-gives, seen-stops, seen-refused}
+use Rattle.numbers.proofs.Tails.{Tail, tail-give, tail-next, tail-need, below-tail, up-to-tail}
+use Rattle.numbers.proofs.Answering.{Took, took, number-shape, seen-shape, goes, stops, whole, seen-gives, seen-stops, seen-refused}
 use Rattle.sets.proofs.Reading.{set-tail}
 use Rattle.store.specs.Words.{bindAt, bindsFrom, bindsOf, written}
 use Rattle.store.proofs.Runs.{run-step, same-bind, written-other}
@@ -40,6 +40,22 @@ target-tail n x s = tail-next _ (below-tail (n .names) s) (λ t u. tail-next _ (
 pub one-tail : (n : Counts) (s : List ℕ) → Tail s (readOne n s)
 unfolding readOne
 one-tail n s = tail-next _ (below-tail (n .symbols) s) (λ x u. target-tail n x u)
+
+more-tail : (n : Counts) (k : ℕ) (p : Bind) (s : List ℕ) → Tail s (readMore n k p s)
+unfolding readMore
+more-tail n zero p s = tail-give [] s
+more-tail n (suc k) p s =
+    tail-next _ (one-tail n s) (λ b t. tail-next _ (tail-need layout (bindBefore p b) t) (λ x u.
+    tail-next _ (more-tail n k b u) (λ r v. tail-give (b ∷ r) v)))
+
+some-tail : (n : Counts) (k : ℕ) (s : List ℕ) → Tail s (readSome n k s)
+unfolding readSome
+some-tail n zero s = tail-give [] s
+some-tail n (suc k) s = tail-next _ (one-tail n s) (λ b t. tail-next _ (more-tail n k b t) (λ r v. tail-give (b ∷ r) v))
+
+pub all-tail : (n : Counts) (s : List ℕ) → Tail s (readAll n s)
+unfolding readAll
+all-tail n s = tail-next _ (up-to-tail overLimit mostBindings s) (λ k t. some-tail n k t)
 
 -- ---- one binding
 

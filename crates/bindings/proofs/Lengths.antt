@@ -1,10 +1,10 @@
 -- Bindings written one behind the other.
 use mathlib.Core.Path.{_≡_, refl, sym, ap, ap₂, _∙_}
-use mathlib.Core.List.{List, [], _∷_, _++_}
+use mathlib.Core.List.{List, [], _++_}
 use Prim.Native.Nat.{ℕ, _+_, _-_, _*_, _≤_, _<_}
 use native.Mathlib.Omega.{arith}
 use lib.ListN.{length, length-append}
-use lib.Seq.{sets, length-sets}
+use lib.Seq.{sets}
 use Rattle.model.specs.Scopes.{Scopes}
 use Rattle.model.specs.Resolving.{Bind}
 use Rattle.model.specs.Writing.{numBytes, setBytes, bindBytes, bindsBytes}

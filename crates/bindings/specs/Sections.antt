@@ -6,7 +6,7 @@ use lib.ListN.{getD}
 use Rattle.model.specs.Limits.{mostBindings}
 use Rattle.model.specs.Refusals.{layout, overLimit}
 use Rattle.model.specs.Resolving.{Bind, bindBefore}
-use Rattle.model.specs.Reading.{Read, Reader, _>>=_, _>>_, got, give, need, numBelow, numUpTo, readSet}
+use Rattle.model.specs.Reading.{Reader, _>>=_, _>>_, got, give, need, numBelow, numUpTo, readSet}
 use Rattle.numbers.specs.Answers.{Seen, placeAt}
 use Rattle.numbers.specs.declared.Place.{Place}
 use Rattle.store.specs.Words.{bindOf, bindsFrom, bindsOf}

@@ -1,0 +1,4 @@
+// The library: the jobs of document 01, on lent byte images.
+pub mod answers;
+pub mod limits;
+pub mod resolve;
