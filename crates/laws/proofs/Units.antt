@@ -1,4 +1,4 @@
--- Units never rise, and fall at each entry: of evaluating, parsing and expanding.
+-- Units never rise, and fall at each entry; names are never given back: of evaluating, parsing and expanding.
 use mathlib.Core.Path.{_≡_, refl, sym, ap, _∙_, subst}
 use Prim.Native.Nat.{ℕ, zero, suc, _+_, _-_, _≤_, _<_}
 use native.Mathlib.Nat.{le-refl, le-trans, sub-le}
@@ -25,9 +25,15 @@ unfoldable pub leftOf : {A : Type 0} → Out A → ℕ
 leftOf (ok a t) = t .left
 leftOf (no r u) = u
 
--- a step that leaves at most what it had
+-- the names reached after a step that is granted; n where it is refused
+unfoldable pub namesOf : {A : Type 0} → Out A → ℕ → ℕ
+namesOf (ok a t) n = t .names
+namesOf (no r u) n = n
+
+-- a step that leaves at most the units, and at least the names, that it had
 pub record NoRise {A : Type 0} (m : Step A) : Type 0 where
   pub at-most : (s : State) → leftOf (m s) ≤ s .left
+  pub names-from : (s : State) → s .names ≤ namesOf (m s) (s .names)
 
 -- ---- what a step is made of
 
@@ -36,16 +42,29 @@ unfolding leftOf
 after-left (ok a t) f n h k = le-trans (k a .at-most t) h
 after-left (no r u) f n h k = h
 
+names-since : {B : Type 0} (o : Out B) (n k : ℕ) → n ≤ k → k ≤ namesOf o k → n ≤ namesOf o n
+unfolding namesOf
+names-since (ok b u) n k h j = le-trans h j
+names-since (no r u) n k h j = le-refl n
+
+pub after-names : {A B : Type 0} (o : Out A) (f : A → Step B) (n : ℕ) → n ≤ namesOf o n → ((a : A) → NoRise (f a)) → n ≤ namesOf (after o f) n
+unfolding namesOf
+after-names (ok a t) f n h k = names-since (f a t) n (t .names) h (k a .names-from t)
+after-names (no r u) f n h k = h
+
 pub then-no-rise : {A B : Type 0} (m : Step A) (f : A → Step B) → NoRise m → ((a : A) → NoRise (f a)) → NoRise (λ s. after (m s) f)
-then-no-rise m f h k = record { at-most = λ s. after-left (m s) f (s .left) (h .at-most s) k }
+then-no-rise m f h k = record {
+  at-most = λ s. after-left (m s) f (s .left) (h .at-most s) k;
+  names-from = λ s. after-names (m s) f (s .names) (h .names-from s) k;
+}
 
 pub done-no-rise : {A : Type 0} (a : A) → NoRise (done a)
-unfolding leftOf
-done-no-rise a = record { at-most = λ s. le-refl (s .left) }
+unfolding leftOf namesOf
+done-no-rise a = record { at-most = λ s. le-refl (s .left); names-from = λ s. le-refl (s .names) }
 
 pub refuse-no-rise : {A : Type 0} (r : Refusal) → NoRise (refuse {A = A} r)
-unfolding leftOf
-refuse-no-rise r = record { at-most = λ s. le-refl (s .left) }
+unfolding leftOf namesOf
+refuse-no-rise r = record { at-most = λ s. le-refl (s .left); names-from = λ s. le-refl (s .names) }
 
 pub unless-no-rise : (r : Refusal) (b : Bool) → NoRise (unless r b)
 unless-no-rise r true = done-no-rise tt
@@ -56,8 +75,12 @@ choice-left : {A : Type 0} (b : Bool) (x y : Out A) (n : ℕ) → leftOf x ≤ n
 choice-left true x y n h k = h
 choice-left false x y n h k = k
 
+choice-names : {A : Type 0} (b : Bool) (x y : Out A) (n : ℕ) → n ≤ namesOf x n → n ≤ namesOf y n → n ≤ namesOf (if b then x else y) n
+choice-names true x y n h k = h
+choice-names false x y n h k = k
+
 pub charge-no-rise : (n : ℕ) → NoRise (charge n)
-unfolding charge leftOf
+unfolding charge leftOf namesOf
 charge-no-rise n =
     record {
       at-most =
@@ -69,10 +92,19 @@ charge-no-rise n =
           (s .left)
           (sub-le (s .left) n)
           (le-refl (s .left));
+      names-from =
+          λ s.
+          choice-names
+          (leb n (s .left))
+          (ok tt (record { left = s .left - n; names = s .names; scopes = s .scopes; binds = s .binds }))
+          (no overBudget (s .left))
+          (s .names)
+          (le-refl (s .names))
+          (le-refl (s .names));
     }
 
 pub freshName-no-rise : NoRise freshName
-unfolding freshName leftOf
+unfolding freshName leftOf namesOf
 freshName-no-rise =
     record {
       at-most =
@@ -84,10 +116,19 @@ freshName-no-rise =
           (s .left)
           (le-refl (s .left))
           (le-refl (s .left));
+      names-from =
+          λ s.
+          choice-names
+          (ltb (s .names) mostNames)
+          (ok (s .names) (record { left = s .left; names = s .names + 1; scopes = s .scopes; binds = s .binds }))
+          (no noNameLeft (s .left))
+          (s .names)
+          (omega arith)
+          (le-refl (s .names));
     }
 
 pub freshScope-no-rise : NoRise freshScope
-unfolding freshScope leftOf
+unfolding freshScope leftOf namesOf
 freshScope-no-rise =
     record {
       at-most =
@@ -99,10 +140,19 @@ freshScope-no-rise =
           (s .left)
           (le-refl (s .left))
           (le-refl (s .left));
+      names-from =
+          λ s.
+          choice-names
+          (ltb (s .scopes) mostScopes)
+          (ok (s .scopes + 1) (record { left = s .left; names = s .names; scopes = s .scopes + 1; binds = s .binds }))
+          (no noScopeLeft (s .left))
+          (s .names)
+          (le-refl (s .names))
+          (le-refl (s .names));
     }
 
 pub bind-no-rise : (b : Bind) → NoRise (bind b)
-unfolding bind leftOf
+unfolding bind leftOf namesOf
 bind-no-rise b =
     record {
       at-most =
@@ -122,6 +172,23 @@ bind-no-rise b =
           (le-refl (s .left))
           (le-refl (s .left)))
           (le-refl (s .left));
+      names-from =
+          λ s.
+          choice-names
+          (ltb (length (s .binds)) mostBindings)
+          (if bound b (s .binds)
+          then no boundAlready (s .left)
+          else ok tt (record { left = s .left; names = s .names; scopes = s .scopes; binds = insert b (s .binds) }))
+          (no noBindingLeft (s .left))
+          (s .names)
+          (choice-names
+          (bound b (s .binds))
+          (no boundAlready (s .left))
+          (ok tt (record { left = s .left; names = s .names; scopes = s .scopes; binds = insert b (s .binds) }))
+          (s .names)
+          (le-refl (s .names))
+          (le-refl (s .names)))
+          (le-refl (s .names));
     }
 
 nameOf-no-rise : (f : Found) → NoRise (nameOf f)
@@ -131,7 +198,10 @@ nameOf-no-rise several = refuse-no-rise ambiguous
 
 pub resolveAt-no-rise : (ph : ℕ) (c : Sets) (x : ℕ) → NoRise (resolveAt ph c x)
 unfolding resolveAt
-resolveAt-no-rise ph c x = record { at-most = λ s. nameOf-no-rise (resolve x (setAt ph c) (s .binds)) .at-most s }
+resolveAt-no-rise ph c x = record {
+  at-most = λ s. nameOf-no-rise (resolve x (setAt ph c) (s .binds)) .at-most s;
+  names-from = λ s. nameOf-no-rise (resolve x (setAt ph c) (s .binds)) .names-from s;
+}
 
 pub made-no-rise : (x : Stx) → NoRise (made x)
 unfolding made
@@ -422,3 +492,13 @@ expand-falls zero ph e p x r s t q = absurd (no≢ok tooManyEntries (s .left) r 
 expand-falls (suc d) ph e p x r s t q =
     entry-falls (expandEntry (λ a b c y. expand d a b c y) d ph e p x)
     (expandEntry-no-rise (λ a b c y. expand d a b c y) (λ a b c y. expand-no-rise d a b c y) d ph e p x) r s t q
+
+-- ---- of a step that is granted, and of one that is refused
+
+pub names-after : {A : Type 0} (m : Step A) → NoRise m → (a : A) (s t : State) → m s ≡ ok a t → s .names ≤ t .names
+unfolding namesOf
+names-after {A = A} m h a s t e = subst (λ (o : Out A). s .names ≤ namesOf o (s .names)) e (h .names-from s)
+
+pub left-after-refusal : {A : Type 0} (m : Step A) → NoRise m → (r : Refusal) (u : ℕ) (s : State) → m s ≡ no r u → u ≤ s .left
+unfolding leftOf
+left-after-refusal {A = A} m h r u s e = subst (λ (o : Out A). leftOf o ≤ s .left) e (h .at-most s)
