@@ -1,0 +1,2 @@
+pub mod BehindHeads
+pub mod Images

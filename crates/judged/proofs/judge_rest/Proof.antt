@@ -1,0 +1,67 @@
+-- The bindings, then the root.
+use Rattle.numbers.proofs.Answering.{answering}
+use Rattle.judged.proofs.BehindHeads.{behind-laws}
+use borrow.Author.Needs.{needs}
+use Rattle.judged.proofs.judge_rest.Statement.{statement}
+use Rattle.judged.proofs.judge_rest.Tie as tie
+
+read-bindings-requires : tie.Need-read-bindings-requires
+read-bindings-requires c κs = search (behind-laws, answering, needs)
+
+cast-bindings : tie.Need-cast-bindings
+cast-bindings c = search (behind-laws, answering, needs)
+
+enum-known-end : tie.Need-enum-known-end
+enum-known-end c = search (behind-laws, answering, needs)
+
+after-requires : tie.Need-after-requires
+after-requires c κs = search (behind-laws, answering, needs)
+
+judge-root-requires : tie.Need-judge-root-requires
+judge-root-requires c κs = search (behind-laws, answering, needs)
+
+enum-known-size : tie.Need-enum-known-size
+enum-known-size c = search (behind-laws, answering, needs)
+
+enum-known-f : tie.Need-enum-known-f
+enum-known-f c = search (behind-laws, answering, needs)
+
+enum-known-end-2 : tie.Need-enum-known-end-2
+enum-known-end-2 c = search (behind-laws, answering, needs)
+
+same-length : tie.Need-same-length
+same-length c = search (behind-laws, answering, needs)
+
+returns : tie.Need-returns
+returns c = search (behind-laws, answering, needs)
+
+same-length-2 : tie.Need-same-length-2
+same-length-2 c = search (behind-laws, answering, needs)
+
+returns-2 : tie.Need-returns-2
+returns-2 c = search (behind-laws, answering, needs)
+
+same-length-3 : tie.Need-same-length-3
+same-length-3 c = search (behind-laws, answering, needs)
+
+returns-3 : tie.Need-returns-3
+returns-3 c = search (behind-laws, answering, needs)
+
+pub judge-rest-spec : {M : Type 1} → statement M
+judge-rest-spec =
+    tie.close
+    (tie.spec
+    read-bindings-requires
+    cast-bindings
+    enum-known-end
+    after-requires
+    judge-root-requires
+    enum-known-size
+    enum-known-f
+    enum-known-end-2
+    same-length
+    returns
+    same-length-2
+    returns-2
+    same-length-3
+    returns-3)
