@@ -1,0 +1,278 @@
+-- Meanings: one law for each way out; and what a caller knows of each.
+use mathlib.Core.Path.{_≡_, refl, sym, ap, _∙_}
+use mathlib.Core.List.{List}
+use mathlib.Core.Bool.{Bool, true, false}
+use mathlib.Core.Option.{Option, none, some}
+use Prim.Native.Nat.{ℕ, zero, suc, _+_, _*_, _^_, _≤_, _<_}
+use native.Mathlib.Omega.{arith}
+use borrow.Author.Tests.{eq-eqb, ne-eqb}
+use lib.ListN.{length}
+use lib.Dec.{eqb}
+use Rattle.model.specs.Choice.{if_then_else_}
+use Rattle.model.specs.Refusals.{ambiguous}
+use Rattle.model.specs.Objects.{Atom, symbol, number, point, prim, rung, Sets, setAt, Stx, atom, list}
+use Rattle.model.specs.Trees.{Tree, stx}
+use Rattle.model.specs.Resolving as res
+use Rattle.model.specs.Resolving.{Found, several, resolve}
+use Rattle.model.specs.Steps.{State, ok, no, nameOf, resolveAt}
+use Rattle.model.specs.Parsing as p
+use Rattle.model.specs.Parsing.{formOf}
+use Rattle.model.specs.Expanding as m
+use Rattle.model.specs.Expanding.{core, variable, macro, unknown, Env, coreOnly, coreMeaning, headMeaning}
+use Rattle.table.specs.Words.{getCell, putCell, Same}
+use Rattle.table.specs.declared.Cell.{Cell}
+use Rattle.table.proofs.Laws.{putCell-below, get-putCell}
+use Rattle.scopes.specs.declared.Name.{Name}
+use Rattle.store.specs.Words.{bindsOf}
+use Rattle.things.specs.Rep.{Rep}
+use Rattle.things.specs.Making.{Roomy}
+use Rattle.things.specs.Measuring.{Seen}
+use Rattle.things.proofs.Frame.{up}
+use Rattle.things.proofs.Making.{room-add, room-fits}
+use Rattle.forms.specs.Names.{nameFound, Names, formed}
+use Rattle.forms.specs.declared.Form.{Form}
+use Rattle.forms.specs.declared.Form.the-variants as form
+use Rattle.forms.specs.declared.Naming.{Naming}
+use Rattle.forms.specs.declared.Naming.the-variants.{Named, Unclear, Unnamed}
+use Rattle.forms.proofs.Names.{on-named, on-unclear, on-unnamed}
+use Rattle.environment.specs.Meanings.{Meant, meant-variable, meant-macro, RepE, is-core, is-entry, Known, Extended, MeaningAs, as-lambda, as-let-syntax, as-quote, as-syntax, as-variable, as-macro, as-unknown, as-unclear, CoreMeans, Means, meaningFound, MeansAt}
+use Rattle.environment.specs.declared.Meaning.{Meaning}
+use Rattle.environment.specs.declared.Meaning.the-variants as meant
+use Rattle.environment.proofs.Frame.{upM, upE, carryM, staysE}
+
+-- ---- one entry more
+
+pub extended : {l l1 : List ℕ} {top n kind i next : ℕ} → Roomy l top 5 → l1 ≡ putCell l top (record { head = i; tail = next; weight = n; size = kind; nesting = 0 })
+    → Extended l l1 top n kind i next top (top + 5)
+extended {l} {l1} {top} {n} {kind} {i} {next} r e =
+    let x : Cell = record { head = i; tail = next; weight = n; size = kind; nesting = 0 } in
+    let sm : Same top l l1 = rw e (putCell-below l top x) in
+    let g : getCell l1 top ≡ x = rw e (get-putCell l top x (r .fits)) in
+    let pos : 0 < top = omega (arith, r .low) in
+    let fits : top + 5 ≤ top + 5 = omega arith in
+    record { kept = sm; grows = refl; means = λ w env a b. is-entry pos fits g (carryM a sm (omega arith)) (staysE b sm) }
+
+-- ---- a name's meaning
+
+module _ (n : ℕ) (f : Form) (h : formed f ≡ formOf n) where
+  core-by : (r : Meaning) → ((l : List ℕ) (top : ℕ) → MeaningAs l top (some (coreMeaning (formed f))) r) → CoreMeans n r
+  core-by r g = record { means = λ l top. rw (sym h) (g l top) }
+
+  pub core-lambda : f ≡ form.Lambda → CoreMeans n meant.Lambda
+  unfolding coreMeaning
+  core-lambda e = core-by meant.Lambda (λ l top. rw e as-lambda)
+
+  pub core-let-syntax : f ≡ form.LetSyntax → CoreMeans n meant.LetSyntax
+  unfolding coreMeaning
+  core-let-syntax e = core-by meant.LetSyntax (λ l top. rw e as-let-syntax)
+
+  pub core-quote : f ≡ form.Quote → CoreMeans n meant.Quote
+  unfolding coreMeaning
+  core-quote e = core-by meant.Quote (λ l top. rw e as-quote)
+
+  pub core-syntax : f ≡ form.Syntax → CoreMeans n meant.Syntax
+  unfolding coreMeaning
+  core-syntax e = core-by meant.Syntax (λ l top. rw e as-syntax)
+
+  pub core-other : f ≡ form.Other → CoreMeans n meant.Unknown
+  unfolding coreMeaning
+  core-other e = core-by meant.Unknown (λ l top. rw e as-unknown)
+
+none-at : {l : List ℕ} {top e : ℕ} {env : Env} → RepE l top e env → e ≡ 0 → env ≡ coreOnly
+none-at is-core h = refl
+none-at (is-entry a b q w y) h = absurd (omega arith)
+
+pub means-core : {l : List ℕ} {e n : ℕ} {r : Meaning} → e ≡ 0 → CoreMeans n r → Means l e n r
+unfolding m.meaning
+means-core {l} h k = record { means = λ top env w. rw (none-at w h) (k .means l top) }
+
+-- what an entry says
+record EntryAt (l : List ℕ) (top e : ℕ) (x : Cell) (env : Env) : Type 0 where
+  meant : m.Meaning
+  others : Env
+  is : env ≡ m.extend (x .weight) meant others
+  inside : e + 5 ≤ top
+  low : x .tail < e
+  shown : Meant l top (x .size) (x .head) meant
+  shown-others : RepE l top (x .tail) others
+
+tail-low : {l : List ℕ} {e r : ℕ} {env : Env} → RepE l e r env → 0 < e → r < e
+tail-low is-core h = h
+tail-low (is-entry a b q w y) h = omega arith
+
+entry-at : {l : List ℕ} {top e : ℕ} {x : Cell} {env : Env} → RepE l top e env → ¬ (e ≡ 0) → x ≡ getCell l e → EntryAt l top e x env
+entry-at is-core h k = absurd (h refl)
+entry-at {l} {top} {e} {x} (is-entry {n = n} {kind = kind} {i = i} {r = r} {w = w} {env = env} a b q y z) h k =
+    let eh : x .head ≡ i = ap (λ (y : Cell). y .head) (k ∙ q) in
+    let et : x .tail ≡ r = ap (λ (y : Cell). y .tail) (k ∙ q) in
+    let en : x .weight ≡ n = ap (λ (y : Cell). y .weight) (k ∙ q) in
+    let ek : x .size ≡ kind = ap (λ (y : Cell). y .size) (k ∙ q) in
+    let y2 : Meant l top kind i w = upM y (omega arith) in
+    let z2 : RepE l top r env = upE z (omega arith) in
+    record {
+      meant = w;
+      others = env;
+      is = ap (λ (j : ℕ). m.extend j w env) (sym en);
+      inside = b;
+      low = omega (arith, et, tail-low z a);
+      shown = rw (ek, eh) y2;
+      shown-others = rw et z2;
+    }
+
+pub entry-inside : {l : List ℕ} {e : ℕ} → Known l e → ¬ (e ≡ 0) → e + 5 ≤ length l
+entry-inside r h = omega (arith, entry-at (r .shown) h refl .inside, r .inside)
+
+here : (k n : ℕ) (w : m.Meaning) (env : Env) → k ≡ n → m.meaning n (m.extend k w env) ≡ w
+unfolding m.meaning
+here k n w env z = rw (eq-eqb n k (sym z)) refl
+
+further : (k n : ℕ) (w : m.Meaning) (env : Env) → ¬ (k ≡ n) → m.meaning n (m.extend k w env) ≡ m.meaning n env
+unfolding m.meaning
+further k n w env z = rw (ne-eqb n k (λ y. z (sym y))) refl
+
+as-meant-variable : {l : List ℕ} {top kind i : ℕ} {w : m.Meaning} → Meant l top kind i w → kind ≡ 0 → MeaningAs l top (some w) (meant.Variable i)
+as-meant-variable (meant-variable {i = i} r) z = as-variable i r
+as-meant-variable (meant-macro r) z = absurd (omega arith)
+
+as-meant-macro : {l : List ℕ} {top kind i : ℕ} {w : m.Meaning} → Meant l top kind i w → ¬ (kind ≡ 0) → MeaningAs l top (some w) (meant.Macro i)
+as-meant-macro (meant-variable r) z = absurd (z refl)
+as-meant-macro (meant-macro {i = i} r) z = as-macro i r
+
+module _ {l : List ℕ} {e : ℕ} {x : Cell} (h : ¬ (e ≡ 0)) (k : x ≡ getCell l e) where
+  pub others-known : Known l e → Known l (x .tail)
+  others-known r = let q = entry-at (r .shown) h k in record { top = r .top; thing = q .others; shown = q .shown-others; inside = r .inside; small = r .small }
+
+  pub others-less : {T : ℕ} → Known l e → e ≡ T → x .tail < T
+  others-less r z = omega (arith, entry-at (r .shown) h k .low)
+
+  pub means-variable : {n : ℕ} → x .weight ≡ n → x .size ≡ 0 → Means l e n (meant.Variable (x .head))
+  means-variable {n} z y = record { means = λ top env w. let q = entry-at w h k in rw (q .is, here (x .weight) n (q .meant) (q .others) z) (as-meant-variable (q .shown) y) }
+
+  pub means-macro : {n : ℕ} → x .weight ≡ n → ¬ (x .size ≡ 0) → Means l e n (meant.Macro (x .head))
+  means-macro {n} z y = record { means = λ top env w. let q = entry-at w h k in rw (q .is, here (x .weight) n (q .meant) (q .others) z) (as-meant-macro (q .shown) y) }
+
+  pub means-further : {n : ℕ} {r : Meaning} → ¬ (x .weight ≡ n) → Means l (x .tail) n r → Means l e n r
+  means-further {n} z g = record { means = λ top env w. let q = entry-at w h k in rw (q .is, further (x .weight) n (q .meant) (q .others) z) (g .means top (q .others) (q .shown-others)) }
+
+-- ---- the meaning of an object
+
+module _ {ph n : ℕ} {l st : List ℕ} {i : ℕ} {v : Naming} (p : Names ph st n l i v) where
+  pub at-unclear : {e : ℕ} → v ≡ Unclear → MeansAt ph st n l i e meant.Unclear
+  unfolding meaningFound
+  at-unclear z = record { means = λ top x env w y. rw (on-unclear p w z) as-unclear }
+
+  pub at-unnamed : {e : ℕ} → v ≡ Unnamed → MeansAt ph st n l i e meant.Unknown
+  unfolding meaningFound
+  at-unnamed z = record { means = λ top x env w y. rw (on-unnamed p w z) as-unknown }
+
+  pub at-named : {e : ℕ} {k : Name} {r : Meaning} → v ≡ Named k → Means l e (k .0) r → MeansAt ph st n l i e r
+  unfolding meaningFound
+  at-named z g = record { means = λ top x env w y. rw (on-named p w z) (g .means top env y) }
+
+pub ruleset laws = (room-add, room-fits, extended, core-lambda, core-let-syntax, core-quote, core-syntax, core-other, means-core, entry-inside, others-known, others-less, means-variable, means-macro, means-further, at-unclear, at-unnamed, at-named)
+
+-- ---- what a caller knows
+
+abbrev flatOf : Meaning → Option (Option m.Meaning)
+flatOf meant.Lambda = some (some (core p.lambda))
+flatOf meant.LetSyntax = some (some (core p.letSyntax))
+flatOf meant.Quote = some (some (core p.quote))
+flatOf meant.Syntax = some (some (core p.syntax))
+flatOf (meant.Variable i) = none
+flatOf (meant.Macro i) = none
+flatOf meant.Unknown = some (some unknown)
+flatOf meant.Unclear = some none
+
+flat : {l : List ℕ} {top : ℕ} {q z : Option m.Meaning} {r : Meaning} → MeaningAs l top q r → flatOf r ≡ some z → q ≡ z
+flat as-lambda e = cc
+flat as-let-syntax e = cc
+flat as-quote e = cc
+flat as-syntax e = cc
+flat (as-variable i r) e = let z : _≡_ {A = ℕ} 0 1 = cc in absurd (omega arith)
+flat (as-macro i r) e = let z : _≡_ {A = ℕ} 0 1 = cc in absurd (omega arith)
+flat as-unknown e = cc
+flat as-unclear e = cc
+
+pub record VariableAt (l : List ℕ) (top i : ℕ) (q : Option m.Meaning) : Type 0 where
+  pub sets : Sets
+  pub symb : ℕ
+  pub is : q ≡ some (variable sets symb)
+  pub shown : Rep l top i (stx (atom sets (symbol symb)))
+
+pub record MacroAt (l : List ℕ) (top i : ℕ) (q : Option m.Meaning) : Type 0 where
+  pub value : Tree
+  pub is : q ≡ some (macro value)
+  pub shown : Rep l top i value
+
+pub on-variable : {l : List ℕ} {top i : ℕ} {q : Option m.Meaning} {r : Meaning} → MeaningAs l top q r → r ≡ meant.Variable i → VariableAt l top i q
+on-variable as-lambda e = let z : _≡_ {A = ℕ} 0 1 = cc in absurd (omega arith)
+on-variable as-let-syntax e = let z : _≡_ {A = ℕ} 0 1 = cc in absurd (omega arith)
+on-variable as-quote e = let z : _≡_ {A = ℕ} 0 1 = cc in absurd (omega arith)
+on-variable as-syntax e = let z : _≡_ {A = ℕ} 0 1 = cc in absurd (omega arith)
+on-variable {i = i} (as-variable j {c = c} {x = x} s) e = let z : j ≡ i = cc in record { sets = c; symb = x; is = refl; shown = rw z at s }
+on-variable (as-macro j s) e = let z : _≡_ {A = ℕ} 0 1 = cc in absurd (omega arith)
+on-variable as-unknown e = let z : _≡_ {A = ℕ} 0 1 = cc in absurd (omega arith)
+on-variable as-unclear e = let z : _≡_ {A = ℕ} 0 1 = cc in absurd (omega arith)
+
+pub on-macro : {l : List ℕ} {top i : ℕ} {q : Option m.Meaning} {r : Meaning} → MeaningAs l top q r → r ≡ meant.Macro i → MacroAt l top i q
+on-macro as-lambda e = let z : _≡_ {A = ℕ} 0 1 = cc in absurd (omega arith)
+on-macro as-let-syntax e = let z : _≡_ {A = ℕ} 0 1 = cc in absurd (omega arith)
+on-macro as-quote e = let z : _≡_ {A = ℕ} 0 1 = cc in absurd (omega arith)
+on-macro as-syntax e = let z : _≡_ {A = ℕ} 0 1 = cc in absurd (omega arith)
+on-macro (as-variable j s) e = let z : _≡_ {A = ℕ} 0 1 = cc in absurd (omega arith)
+on-macro {i = i} (as-macro j {v = v} s) e = let z : j ≡ i = cc in record { value = v; is = refl; shown = rw z at s }
+on-macro as-unknown e = let z : _≡_ {A = ℕ} 0 1 = cc in absurd (omega arith)
+on-macro as-unclear e = let z : _≡_ {A = ℕ} 0 1 = cc in absurd (omega arith)
+
+module _ {l : List ℕ} {top : ℕ} {q : Option m.Meaning} {r : Meaning} (a : MeaningAs l top q r) where
+  pub on-lambda : r ≡ meant.Lambda → q ≡ some (core p.lambda)
+  on-lambda e = flat a (ap flatOf e)
+
+  pub on-let-syntax : r ≡ meant.LetSyntax → q ≡ some (core p.letSyntax)
+  on-let-syntax e = flat a (ap flatOf e)
+
+  pub on-quote : r ≡ meant.Quote → q ≡ some (core p.quote)
+  on-quote e = flat a (ap flatOf e)
+
+  pub on-syntax : r ≡ meant.Syntax → q ≡ some (core p.syntax)
+  on-syntax e = flat a (ap flatOf e)
+
+  pub on-unknown : r ≡ meant.Unknown → q ≡ some unknown
+  on-unknown e = flat a (ap flatOf e)
+
+  pub on-meaning-unclear : r ≡ meant.Unclear → q ≡ none
+  on-meaning-unclear e = flat a (ap flatOf e)
+
+some-is : {A : Type 0} {a b : A} → some a ≡ some b → a ≡ b
+some-is e = cc
+
+by-found : (ph : ℕ) (env : Env) (y : State) (c : Sets) (x : ℕ) (f : Found) {w : m.Meaning} → resolve x (setAt ph c) (y .binds) ≡ f → meaningFound (some f) env ≡ some w
+    → headMeaning ph env (atom c (symbol x)) y ≡ ok w y
+unfolding headMeaning meaningFound resolveAt nameOf
+by-found ph env y c x (res.means n) e h = rw e (ap (λ (k : m.Meaning). ok k y) (some-is h))
+by-found ph env y c x several e h = let z : _≡_ {A = ℕ} 0 1 = cc in absurd (omega arith)
+
+by-several : (ph : ℕ) (env : Env) (y : State) (c : Sets) (x : ℕ) (f : Found) → resolve x (setAt ph c) (y .binds) ≡ f → meaningFound (some f) env ≡ none
+    → headMeaning ph env (atom c (symbol x)) y ≡ no ambiguous (y .left)
+unfolding headMeaning meaningFound resolveAt nameOf
+by-several ph env y c x (res.means n) e h = let z : _≡_ {A = ℕ} 0 1 = cc in absurd (omega arith)
+by-several ph env y c x several e h = rw e refl
+
+module _ (ph : ℕ) (env : Env) (y : State) where
+  pub head-means : (x : Stx) {w : m.Meaning} → meaningFound (nameFound ph (y .binds) x) env ≡ some w → headMeaning ph env x y ≡ ok w y
+  unfolding headMeaning nameFound meaningFound
+  head-means (atom c (symbol x)) h = by-found ph env y c x (resolve x (setAt ph c) (y .binds)) refl h
+  head-means (atom c (number x)) h = ap (λ (k : m.Meaning). ok k y) (some-is h)
+  head-means (atom c (point x)) h = ap (λ (k : m.Meaning). ok k y) (some-is h)
+  head-means (atom c (prim x)) h = ap (λ (k : m.Meaning). ok k y) (some-is h)
+  head-means (atom c (rung x)) h = ap (λ (k : m.Meaning). ok k y) (some-is h)
+  head-means (list c l) h = ap (λ (k : m.Meaning). ok k y) (some-is h)
+
+  pub head-unclear : (x : Stx) → meaningFound (nameFound ph (y .binds) x) env ≡ none → headMeaning ph env x y ≡ no ambiguous (y .left)
+  unfolding headMeaning nameFound meaningFound
+  head-unclear (atom c (symbol x)) h = by-several ph env y c x (resolve x (setAt ph c) (y .binds)) refl h
+  head-unclear (atom c (number x)) h = let z : _≡_ {A = ℕ} 0 1 = cc in absurd (omega arith)
+  head-unclear (atom c (point x)) h = let z : _≡_ {A = ℕ} 0 1 = cc in absurd (omega arith)
+  head-unclear (atom c (prim x)) h = let z : _≡_ {A = ℕ} 0 1 = cc in absurd (omega arith)
+  head-unclear (atom c (rung x)) h = let z : _≡_ {A = ℕ} 0 1 = cc in absurd (omega arith)
+  head-unclear (list c l) h = let z : _≡_ {A = ℕ} 0 1 = cc in absurd (omega arith)

@@ -1,0 +1,69 @@
+-- How the table stands for the meanings of names.
+use mathlib.Core.Path.{_≡_}
+use mathlib.Core.List.{List}
+use mathlib.Core.Option.{Option, none, some}
+use Prim.Native.Nat.{ℕ, _+_, _≤_, _<_}
+use lib.ListN.{length}
+use Rattle.model.specs.Objects.{Sets, symbol, Stx, atom}
+use Rattle.model.specs.Trees.{Tree, stx}
+use Rattle.model.specs.Resolving as res
+use Rattle.model.specs.Resolving.{Bind, Found, several}
+use Rattle.model.specs.Parsing.{lambda, letSyntax, quote, syntax, formOf}
+use Rattle.model.specs.Expanding as m
+use Rattle.model.specs.Expanding.{core, variable, macro, unknown, Env, coreOnly, coreMeaning}
+use Rattle.table.specs.Words.{getCell, Same}
+use Rattle.store.specs.Words.{bindsOf}
+use Rattle.things.specs.Rep.{Rep}
+use Rattle.forms.specs.Names.{nameFound}
+use Rattle.environment.specs.declared.Meaning.{Meaning}
+use Rattle.environment.specs.declared.Meaning.the-variants.{Lambda, LetSyntax, Quote, Syntax, Variable, Macro, Unknown, Unclear}
+
+-- what an entry of that kind says of its name
+pub data Meant (l : List ℕ) (top : ℕ) : ℕ → ℕ → m.Meaning → Type 0 where
+  meant-variable : {i x : ℕ} {c : Sets} → Rep l top i (stx (atom c (symbol x))) → Meant l top 0 i (variable c x)
+  meant-macro : {i : ℕ} {v : Tree} → Rep l top i v → Meant l top 1 i (macro v)
+
+-- index e stands for the meanings, all of them below top
+pub data RepE (l : List ℕ) : ℕ → ℕ → Env → Type 0 where
+  is-core : {top : ℕ} → RepE l top 0 coreOnly
+  is-entry : {top e n kind i r : ℕ} {w : m.Meaning} {env : Env} → 0 < e → e + 5 ≤ top
+      → getCell l e ≡ record { head = i; tail = r; weight = n; size = kind; nesting = 0 }
+      → Meant l e kind i w → RepE l e r env → RepE l top e (m.extend n w env)
+
+pub record Known (l : List ℕ) (e : ℕ) : Type 0 where
+  pub top : ℕ
+  pub thing : Env
+  pub shown : RepE l top e thing
+  pub inside : top ≤ length l
+  pub small : length l ≤ 65536
+
+pub record Extended (l l′ : List ℕ) (top n kind i next at top′ : ℕ) : Type 0 where
+  pub kept : Same top l l′
+  pub grows : top′ ≡ top + 5
+  pub means : (w : m.Meaning) (env : Env) → Meant l top kind i w → RepE l top next env → RepE l′ top′ at (m.extend n w env)
+
+-- a meaning of the rules, or none where the name is unclear
+pub data MeaningAs (l : List ℕ) (top : ℕ) : Option m.Meaning → Meaning → Type 0 where
+  as-lambda : MeaningAs l top (some (core lambda)) Lambda
+  as-let-syntax : MeaningAs l top (some (core letSyntax)) LetSyntax
+  as-quote : MeaningAs l top (some (core quote)) Quote
+  as-syntax : MeaningAs l top (some (core syntax)) Syntax
+  as-variable : (i : ℕ) {c : Sets} {x : ℕ} → Rep l top i (stx (atom c (symbol x))) → MeaningAs l top (some (variable c x)) (Variable i)
+  as-macro : (i : ℕ) {v : Tree} → Rep l top i v → MeaningAs l top (some (macro v)) (Macro i)
+  as-unknown : MeaningAs l top (some unknown) Unknown
+  as-unclear : MeaningAs l top none Unclear
+
+pub record CoreMeans (n : ℕ) (r : Meaning) : Type 0 where
+  pub means : (l : List ℕ) (top : ℕ) → MeaningAs l top (some (coreMeaning (formOf n))) r
+
+pub record Means (l : List ℕ) (e n : ℕ) (r : Meaning) : Type 0 where
+  pub means : (top : ℕ) (env : Env) → RepE l top e env → MeaningAs l top (some (m.meaning n env)) r
+
+unfoldable pub meaningFound : Option Found → Env → Option m.Meaning
+meaningFound none env = some unknown
+meaningFound (some (res.means n)) env = some (m.meaning n env)
+meaningFound (some several) env = none
+
+-- of the object at i
+pub record MeansAt (ph : ℕ) (st : List ℕ) (n : ℕ) (l : List ℕ) (i e : ℕ) (r : Meaning) : Type 0 where
+  pub means : (top : ℕ) (x : Stx) (env : Env) → Rep l top i (stx x) → RepE l top e env → MeaningAs l top (meaningFound (nameFound ph (bindsOf st n) x) env) r

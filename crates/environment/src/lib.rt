@@ -1,0 +1,100 @@
+// Document 01, 'Expanding': the meanings that names have beyond the core, the last first, as a chain in the table. A form's meanings are
+// known by the index of an entry, 0 for the core alone, so that leaving a scope takes nothing.
+use forms::Form;
+use forms::Naming;
+use scopes::Name;
+use table::Cell;
+use things::Made;
+ghost use mathlib.Core.Path.{_≡_};
+ghost use Prim.Native.Nat.{ℕ, _*_, _≤_};
+ghost use lib.ListN.{length};
+ghost use Rattle.things.specs.Measuring.{Seen};
+ghost use Rattle.things.specs.Making.{Roomy};
+ghost use Rattle.environment.specs.Meanings.{Known, CoreMeans, Means, MeansAt, Extended};
+
+pub enum Meaning {
+    // The core forms.
+    Lambda,
+    LetSyntax,
+    Quote,
+    Syntax,
+    // Where its binder lies.
+    Variable(u32),
+    // Where its value lies.
+    Macro(u32),
+    Unknown,
+    // Of an identifier with several candidates, none of which contains every other.
+    Unclear,
+}
+
+impl Meaning {
+    // The kinds of entries.
+    pub const VARIABLE: u32 = 0;
+
+    pub const MACRO: u32 = 1;
+}
+
+// One entry more. It lies as a cell: what the name means and the entry after it are head and tail, the name and the kind of its meaning
+// stand where a chain of things keeps its measures.
+pub fn extend(table: &mut [u32], top: u32, name: Name, kind: u32, at: u32, next: u32) -> Made
+    requires { ⌜ Roomy (now table) top 5 ⌝ }
+    ensures { λ r. ⌜ Extended (now (table .entry)) (now (table .exit)) top (name .0) kind at next (r .at) (r .top) ⌝ }
+{
+    table::put_cell(
+        table,
+        top,
+        Cell {
+            head: at,
+            tail: next,
+            weight: name.0,
+            size: kind,
+            nesting: 0,
+        },
+    );
+    Made {
+        at: top,
+        top: top + Cell::WORDS,
+    }
+}
+
+fn core_meaning(name: Name) -> Meaning
+    ensures { λ r. ⌜ CoreMeans (name .0) r ⌝ }
+{
+    match forms::form_of(name) {
+        Form::Lambda => Meaning::Lambda,
+        Form::LetSyntax => Meaning::LetSyntax,
+        Form::Quote => Meaning::Quote,
+        Form::Syntax => Meaning::Syntax,
+        Form::Other => Meaning::Unknown,
+    }
+}
+
+// What a name means by the entries from e on.
+pub fn lookup(table: &[u32], e: u32, name: Name) -> Meaning
+    requires { ⌜ Known (now table) e ⌝ }
+    ensures { λ r. ⌜ Means (now (table .entry)) e (name .0) r ⌝ }
+{
+    if e == 0 {
+        return core_meaning(name);
+    }
+    let x = table::get_cell(table, e);
+    if x.weight == name.0 {
+        if x.size == Meaning::VARIABLE {
+            return Meaning::Variable(x.head);
+        }
+        return Meaning::Macro(x.head);
+    }
+    lookup(table, x.tail, name)
+}
+
+// What the head of a list means: Unknown where it is no identifier.
+pub fn meaning_of(table: &[u32], store: &[u64], count: u32, i: u32, phase: u32, e: u32) -> Meaning
+    requires { ⌜ Seen (now table) i × Known (now table) e × (count * 3 ≤ length (now store)) ⌝ }
+    ensures { λ r. ⌜ MeansAt phase (now (store .entry)) count (now (table .entry)) i e r ⌝ }
+{
+    match forms::name_of(table, store, count, i, phase) {
+        Naming::Unclear => Meaning::Unclear,
+        Naming::Unnamed => Meaning::Unknown,
+        Naming::Named(n) => lookup(table, e, n),
+    }
+}

@@ -1,0 +1,368 @@
+-- The functions that expand no part: one law for each way out.
+use mathlib.Core.Path.{_≡_, refl, sym, ap, _∙_}
+use mathlib.Core.List.{List, []}
+use mathlib.Core.Option.{Option, none, some}
+use Prim.Native.Nat.{ℕ, zero, suc, _+_, _-_, _*_, _≤_, _<_}
+use native.Mathlib.Omega.{arith}
+use lib.ListN.{length}
+use Rattle.model.specs.Scopes.{Scopes}
+use Rattle.model.specs.Objects.{Sets, symbol, Stx, atom, list, Stxs, nil, cons, flipScope, pruneScopes}
+use Rattle.model.specs.Trees.{Tree, var, app, fun, datum, lst, stx, tnil, tcons, fromStxs, asStx}
+use Rattle.model.specs.Resolving.{Bind}
+use Rattle.model.specs.Steps as ms
+use Rattle.model.specs.Steps.{ok, no, after, resolveAt, parts1, flipIn, pruneFrom}
+use Rattle.model.specs.Evaluating.{evaluate}
+use Rattle.model.specs.Parsing.{parse}
+use Rattle.model.specs.Expanding as m
+use Rattle.model.specs.Expanding.{core, variable, macro, unknown, Env, meaning, headMeaning, expandName, expandSyntax, orNoSyntax}
+use Rattle.refusals.specs.declared.Refusal.the-variants.{Ambiguous, NoMeaning, NoRule, NoSyntax}
+use Rattle.scopes.specs.Sets.{scopesOf, Declared}
+use Rattle.scopes.specs.declared.Scope.{Scope}
+use Rattle.store.specs.Words.{bindsOf}
+use Rattle.table.specs.Tags.{listTag}
+use Rattle.table.specs.Words.{getNode}
+use Rattle.table.specs.declared.Node.{Node}
+use Rattle.things.specs.Rep.{Rep, RepP, is-var, is-app, is-fun, is-lst, is-datum, is-atom, is-list}
+use Rattle.things.specs.Measuring.{Seen, SeenP}
+use Rattle.things.proofs.Frame.{below, up, carry}
+use Rattle.things.proofs.ByTag.{tag-is, tag-low}
+use Rattle.steps.specs.States.{Store, stateOf, end, Room}
+use Rattle.steps.specs.Agreement as agr
+use Rattle.steps.specs.Agreement.{Later, ended, Gave, Agrees, gives, stops}
+use Rattle.steps.specs.declared.State.{State}
+use Rattle.steps.specs.declared.Stop.{Stop}
+use Rattle.steps.specs.declared.Out.{Out}
+use Rattle.steps.specs.declared.Answer.{Answer}
+use Rattle.steps.specs.declared.Answer.the-variants.{Done, Refused}
+use Rattle.steps.proofs.Laws.{then-ok, then-no, later-refl, later-trans, room-later, on-done, on-refused, since}
+use Rattle.parse.specs.Shown.{Held, ShownTree, trees}
+use Rattle.parse.specs.Parsing as pp
+use Rattle.parse.specs.Parsing.{unpaid, Parsed}
+use Rattle.evaluate.specs.Evaluation.{ReadyOne, Evaluates, AppliesValue}
+use Rattle.forms.specs.Shapes.{Single}
+use Rattle.forms.specs.declared.One.{One}
+use Rattle.forms.specs.declared.One.the-variants as one
+use Rattle.forms.proofs.Shapes.{on-one, on-not-one, not-parts1}
+use Rattle.environment.specs.Meanings.{RepE, Known, MeansAt}
+use Rattle.environment.specs.declared.Meaning.{Meaning}
+use Rattle.environment.specs.declared.Meaning.the-variants as meant
+use Rattle.environment.proofs.Laws.{on-lambda, on-let-syntax, on-quote, on-syntax, on-variable, on-macro, on-unknown, on-meaning-unclear, head-means, head-unclear}
+use Rattle.scoping.specs.Changing.{ShownObject, objects, ReadyObject, changeRule, Changes}
+use Rattle.scoping.proofs.Steps.{after-after}
+use Rattle.scoping.proofs.Fresh.{binds-length}
+use Rattle.expand.specs.Making.{ReadyTwo, TwoLists}
+use Rattle.expand.specs.Leaves.{Within, ReadyName, nameRule, ExpandedName, ReadyTail, quoteRule, ExpandedQuote, ExpandedSyntax, ReadyPruned, prunedRule, Pruned, ReadyValue, valueRule, Values, ReadyBack, backRule, Backs, ReadyTranscribed, transcribeRule, Transcribes}
+use Rattle.expand.specs.declared.Context.{Context}
+use Rattle.expand.proofs.Keeping.{evaluate-keeps}
+use Rattle.expand.proofs.Agreeing.{Owed, beyond}
+
+-- an entry that makes nothing
+unmade : (l : List ℕ) (s : State) → Later 1 5 l l (unpaid s) s
+unfolding unpaid
+unmade l s = record { kept = later-refl l s .kept; grows = omega arith; fits = omega arith; spent = omega arith }
+
+pub owes-none : (s : State) → Owed 0 s s
+owes-none s = record { top = refl; units = omega arith }
+
+pub owes-one : (s : State) → Owed 1 s (unpaid s)
+unfolding unpaid
+owes-one s = record { top = refl; units = refl }
+
+pub owes-two : (s : State) → Owed 2 s (unpaid (unpaid s))
+unfolding unpaid
+owes-two s = record { top = refl; units = omega arith }
+
+-- ---- an identifier
+
+name-split : (ph : ℕ) (e : Env) (c : Sets) (x : ℕ) (y : ms.State) → nameRule ph e c x y ≡ after (headMeaning ph e (atom c (symbol x)) y) expandName
+unfolding nameRule headMeaning
+name-split ph e c x y = sym (after-after (resolveAt ph c x y) _ _)
+
+module _ {l st : List ℕ} (s : State) {i : ℕ} {at : Context} (r : ReadyName l st (unpaid s) i at) where
+  pub name-seen : Seen l i
+  unfolding unpaid
+  name-seen = record { top = s .top; thing = stx (atom (r .sets) (symbol (r .symb))); shown = r .shown; inside = omega (arith, r .within .room .fits); small = r .within .room .small }
+
+  pub name-known : Known l (at .meanings)
+  unfolding unpaid
+  name-known = record { top = s .top; thing = r .within .meant; shown = r .within .known; inside = omega (arith, r .within .room .fits); small = r .within .room .small }
+
+  pub name-held : s .bindings * 3 ≤ length st
+  unfolding unpaid
+  name-held = omega (arith, r .within .held .few, r .within .held .wide)
+
+  module _ {w : Meaning} (p : MeansAt (at .phase) st (s .bindings) l i (at .meanings) w) where
+    pub name-variable : {v : ℕ} → w ≡ meant.Variable v → ExpandedName at st l s i (Done (record { at = v; state = s }))
+    unfolding expandName unpaid
+    name-variable z =
+        record {
+          means = λ c x e u k.
+              let q = on-variable (p .means (s .top) (atom c (symbol x)) e u k) z in
+              gives _ (record {
+                value = atom (q .sets) (symbol (q .symb));
+                is = name-split (at .phase) e c x (stateOf s (bindsOf st)) ∙ then-ok _ (head-means (at .phase) e (stateOf s (bindsOf st)) (atom c (symbol x)) (q .is));
+                shown = record { rep = q .shown; few = r .within .held .few };
+                later = unmade l s;
+              });
+        }
+
+    pub name-unknown : w ≡ meant.Unknown → ExpandedName at st l s i (Refused (record { refusal = NoMeaning; units = s .units }))
+    unfolding expandName
+    name-unknown z =
+        record { means = λ c x e u k. stops _ (name-split (at .phase) e c x (stateOf s (bindsOf st)) ∙ then-ok _ (head-means (at .phase) e (stateOf s (bindsOf st)) (atom c (symbol x)) (on-unknown (p .means (s .top) (atom c (symbol x)) e u k) z))) }
+
+    pub name-unclear : w ≡ meant.Unclear → ExpandedName at st l s i (Refused (record { refusal = Ambiguous; units = s .units }))
+    name-unclear z =
+        record { means = λ c x e u k. stops _ (name-split (at .phase) e c x (stateOf s (bindsOf st)) ∙ then-no _ (head-unclear (at .phase) e (stateOf s (bindsOf st)) (atom c (symbol x)) (on-meaning-unclear (p .means (s .top) (atom c (symbol x)) e u k) z))) }
+
+    pub name-lambda : w ≡ meant.Lambda → ExpandedName at st l s i (Refused (record { refusal = NoRule; units = s .units }))
+    unfolding expandName
+    name-lambda z =
+        record { means = λ c x e u k. stops _ (name-split (at .phase) e c x (stateOf s (bindsOf st)) ∙ then-ok _ (head-means (at .phase) e (stateOf s (bindsOf st)) (atom c (symbol x)) (on-lambda (p .means (s .top) (atom c (symbol x)) e u k) z))) }
+
+    pub name-let-syntax : w ≡ meant.LetSyntax → ExpandedName at st l s i (Refused (record { refusal = NoRule; units = s .units }))
+    unfolding expandName
+    name-let-syntax z =
+        record { means = λ c x e u k. stops _ (name-split (at .phase) e c x (stateOf s (bindsOf st)) ∙ then-ok _ (head-means (at .phase) e (stateOf s (bindsOf st)) (atom c (symbol x)) (on-let-syntax (p .means (s .top) (atom c (symbol x)) e u k) z))) }
+
+    pub name-quote : w ≡ meant.Quote → ExpandedName at st l s i (Refused (record { refusal = NoRule; units = s .units }))
+    unfolding expandName
+    name-quote z =
+        record { means = λ c x e u k. stops _ (name-split (at .phase) e c x (stateOf s (bindsOf st)) ∙ then-ok _ (head-means (at .phase) e (stateOf s (bindsOf st)) (atom c (symbol x)) (on-quote (p .means (s .top) (atom c (symbol x)) e u k) z))) }
+
+    pub name-syntax : w ≡ meant.Syntax → ExpandedName at st l s i (Refused (record { refusal = NoRule; units = s .units }))
+    unfolding expandName
+    name-syntax z =
+        record { means = λ c x e u k. stops _ (name-split (at .phase) e c x (stateOf s (bindsOf st)) ∙ then-ok _ (head-means (at .phase) e (stateOf s (bindsOf st)) (atom c (symbol x)) (on-syntax (p .means (s .top) (atom c (symbol x)) e u k) z))) }
+
+    pub name-macro : {v : ℕ} → w ≡ meant.Macro v → ExpandedName at st l s i (Refused (record { refusal = NoRule; units = s .units }))
+    unfolding expandName
+    name-macro z =
+        record { means = λ c x e u k. stops _ (name-split (at .phase) e c x (stateOf s (bindsOf st)) ∙ then-ok _ (head-means (at .phase) e (stateOf s (bindsOf st)) (atom c (symbol x)) (on-macro (p .means (s .top) (atom c (symbol x)) e u k) z .is))) }
+
+-- ---- quote and syntax
+
+module _ {l : List ℕ} (s : State) {i head tail : ℕ} (r : ReadyTail l (unpaid s) i head tail) where
+  pub tail-seen : SeenP l tail
+  unfolding unpaid
+  tail-seen = record { top = s .top; thing = fromStxs (r .others); shown = r .chain; inside = omega (arith, r .room .fits); small = r .room .small }
+
+  module _ {d : One} (h : Single l tail d) where
+    pub quote-shape : d ≡ one.Not → ExpandedQuote l s i tail (Refused (record { refusal = NoRule; units = s .units }))
+    unfolding quoteRule
+    quote-shape e = record { means = λ b x ps u w. stops _ (not-parts1 ps _ (stateOf s b) (on-not-one (h .means (s .top) ps w) e)) }
+
+    pub quote-is : {j : ℕ} → d ≡ one.Is j → ExpandedQuote l s i tail (Done (record { at = i; state = s }))
+    unfolding quoteRule parts1 unpaid
+    quote-is e =
+        record {
+          means = λ b x ps u w.
+              let q = on-one (h .means (s .top) ps w) e in
+              rw (q .is) (gives _ (record { value = x; is = refl; shown = record { rep = u; few = r .few }; later = unmade l s }));
+        }
+
+    pub syntax-shape : {ph : ℕ} {p : Scopes} → d ≡ one.Not → ExpandedSyntax ph p l l s i head tail (Refused (record { refusal = NoRule; units = s .units }))
+    unfolding expandSyntax
+    syntax-shape e = record { means = λ b k x ps u v w. stops _ (not-parts1 ps _ (stateOf s b) (on-not-one (h .means (s .top) ps w) e)) }
+
+    module _ {j : ℕ} (e : d ≡ one.Is j) where
+      pub pruned-ready : ReadyPruned l (unpaid s) i head j
+      pruned-ready =
+          let q = on-one (h .means (unpaid s .top) (r .others) (r .chain)) e in
+          record { sets = r .sets; first = r .first; thing = q .first; old = cons (r .first) (r .others); shown = r .shown; shown-first = r .shown-first; shown-thing = q .shown; room = r .room; few = r .few }
+
+      pub syntax-pruned : {ph : ℕ} {p : Scopes} {l1 : List ℕ} {a : Answer} → Pruned ph p l l1 s i head j a → ExpandedSyntax ph p l l1 s i head tail a
+      unfolding expandSyntax parts1 prunedRule
+      syntax-pruned a =
+          record {
+            means = λ b k x ps u v w.
+                let q = on-one (h .means (s .top) ps w) e in
+                rw (q .is) (a .means b k (cons x (cons (q .first) nil)) x (q .first) (rw (q .is) at u) v (q .shown));
+          }
+
+module _ {l : List ℕ} (s : State) {i head x : ℕ} (r : ReadyPruned l (unpaid s) i head x) where
+  pub prune-ready : ReadyObject l s x
+  unfolding unpaid
+  prune-ready = record { thing = r .thing; shown = r .shown-thing; room = record { fits = omega (arith, r .room .fits); small = r .room .small; low = r .room .low }; few = r .few }
+
+  module _ (ph : ℕ) (p : Scopes) {l1 : List ℕ} {a : Answer} (v : Changes (pruneScopes p ph) l l1 s x a) where
+    pub prune-refused : {f : Stop} → a ≡ Refused f → Pruned ph p l l1 s i head x (Refused f)
+    unfolding prunedRule pruneFrom changeRule
+    prune-refused e = record { means = λ b k qs h y u w z. stops _ (then-no _ (on-refused (v .means b y z) (ap ended e))) }
+
+    module _ {o : Out} (e : a ≡ Done o) where
+      pruned-to : (b : Store) (y : Stx) → Rep l (s .top) x (stx y) → Gave objects 1 8 l l1 s b (changeRule (pruneScopes p ph) y (stateOf s b)) o
+      pruned-to b y w = on-done (v .means b y w) (ap ended e)
+
+      pub prune-two : length l1 ≡ length l → ReadyTwo l1 (o .state) i head (o .at)
+      unfolding unpaid
+      prune-two len =
+          let g = pruned-to (λ n. []) (r .thing) (r .shown-thing) in
+          record {
+            sets = r .sets;
+            old = r .old;
+            first = r .first;
+            second = g .value;
+            shown = carry (r .shown) (g .later .kept) (g .later .grows);
+            shown-first = carry (r .shown-first) (g .later .kept) (g .later .grows);
+            shown-second = g .shown .rep;
+            room = record { fits = omega (arith, g .later .fits, r .room .fits, len); small = omega (arith, r .room .small, len); low = omega (arith, r .room .low, g .later .grows) };
+            free = omega (arith, g .later .fits, r .room .fits, len);
+            few = g .shown .few;
+          }
+
+      pub prune-done : {l2 : List ℕ} {q : Answer} → TwoLists l1 l2 (o .state) i head (o .at) q → Pruned ph p l l2 s i head x q
+      unfolding prunedRule pruneFrom changeRule unpaid
+      prune-done {l2} {q} d =
+          record {
+            means = λ b k qs h y u w z.
+                let g = pruned-to b y z in
+                let t = d .means b k qs h (g .value) (carry u (g .later .kept) (g .later .grows)) (carry w (g .later .kept) (g .later .grows)) (g .shown .rep) in
+                beyond 1 5 2 1 (g .later) (owes-two (o .state)) (owes-one s) (omega arith) (omega arith) (then-ok _ (g .is)) t;
+          }
+
+-- ---- values
+
+few-after : (s : State) (o : Out) (st : List ℕ) (d : ℕ) (t : Tree) {v : Tree} → s .bindings ≤ 128 → evaluate d t (stateOf s (bindsOf st)) ≡ ok v (stateOf (o .state) (bindsOf st)) → o .state .bindings ≤ 128
+few-after s o st d t {v} h e =
+    let k : bindsOf st (o .state .bindings) ≡ bindsOf st (s .bindings) = evaluate-keeps d t .kept (stateOf s (bindsOf st)) (stateOf (o .state) (bindsOf st)) v e in
+    let n : length (bindsOf st (o .state .bindings)) ≡ length (bindsOf st (s .bindings)) = ap length k in
+    omega (arith, n, binds-length st (o .state .bindings), binds-length st (s .bindings))
+
+pub value-parse : {l st : List ℕ} {s : State} {i : ℕ} → ReadyValue l st s i → pp.Ready l st s i
+value-parse r = record { thing = r .thing; shown = r .shown; room = r .room; held = r .held }
+
+module _ {left ph : ℕ} {st l l1 : List ℕ} {s : State} {i : ℕ} {a : Answer} (v : Parsed left ph st l l1 s i a) where
+  pub value-refused : {f : Stop} → a ≡ Refused f → Values left ph st l l1 s i (Refused f)
+  unfolding valueRule
+  value-refused e = record { means = λ x w. stops _ (then-no _ (on-refused (v .means x w) (ap ended e))) }
+
+  module _ {o : Out} (e : a ≡ Done o) where
+    parsed-to : (x : Stx) → Rep l (s .top) i (stx x) → Gave trees 1 5 l l1 s (bindsOf st) (parse left ph x (stateOf s (bindsOf st))) o
+    parsed-to x w = on-done (v .means x w) (ap ended e)
+
+    pub value-evaluate : ReadyValue l st s i → length l1 ≡ length l → agr.Ready Rep l1 (o .state) (o .at)
+    value-evaluate r len =
+        let g = parsed-to (r .thing) (r .shown) in
+        record { thing = g .value; shown = g .shown .rep; room = room-later (r .room) (g .later) len }
+
+    -- with what is known of bindings
+    as-tree : (t : Tree) {s1 : State} {l2 : List ℕ} {q : agr.Ended Out} → s1 .bindings ≤ 128
+        → Agrees (agr.placed Rep) 1 16 l1 l2 s1 (bindsOf st) (evaluate left t (stateOf s1 (bindsOf st))) q → Agrees trees 1 16 l1 l2 s1 (bindsOf st) (evaluate left t (stateOf s1 (bindsOf st))) q
+    as-tree t {s1} h (gives p g) = gives p (record { value = g .value; is = g .is; shown = record { rep = g .shown; few = few-after s1 p st left t h (g .is) }; later = g .later })
+    as-tree t h (stops f g) = stops f g
+
+    pub value-done : {l2 : List ℕ} {q : Answer} → Evaluates left l1 l2 (o .state) (o .at) q → Values left ph st l l2 s i q
+    unfolding valueRule
+    value-done {l2} {q} d =
+        record {
+          means = λ x w.
+              let g = parsed-to x w in
+              since 1 5 (g .later) (omega arith) (omega arith) (then-ok _ (g .is)) (as-tree (g .value) (g .shown .few) (d .means (bindsOf st) (g .value) (g .shown .rep)));
+        }
+
+-- ---- back from a macro's use
+
+not-syntax : {l : List ℕ} {top i : ℕ} {o : Node} {t : Tree} → Rep l top i t → o ≡ getNode l i → listTag < o .tag → asStx t ≡ none
+unfolding asStx
+not-syntax (is-var a q) e h = refl
+not-syntax (is-app a q r) e h = refl
+not-syntax (is-fun a q y r) e h = refl
+not-syntax (is-datum a q) e h = refl
+not-syntax (is-lst a q r) e h = refl
+not-syntax (is-atom {a = x} a q y) e h = absurd (omega (arith, tag-is e q, tag-low x))
+not-syntax (is-list a q y r) e h = absurd (omega (arith, tag-is e q))
+
+record SyntaxIs (t : Tree) : Type 0 where
+  it : Stx
+  is : t ≡ stx it
+
+is-syntax : {l : List ℕ} {top i : ℕ} {o : Node} {t : Tree} → Rep l top i t → o ≡ getNode l i → o .tag ≤ listTag → SyntaxIs t
+is-syntax (is-var a q) e h = absurd (omega (arith, tag-is e q))
+is-syntax (is-app a q r) e h = absurd (omega (arith, tag-is e q))
+is-syntax (is-fun a q y r) e h = absurd (omega (arith, tag-is e q))
+is-syntax (is-datum {a = x} a q) e h = absurd (omega (arith, tag-is e q))
+is-syntax (is-lst a q r) e h = absurd (omega (arith, tag-is e q))
+is-syntax (is-atom {s = c} {a = x} a q y) e h = record { it = atom c x; is = refl }
+is-syntax (is-list {s = c} {ps = ps} a q y r) e h = record { it = list c ps; is = refl }
+
+pub back-inside : {l : List ℕ} {s : State} {i : ℕ} → ReadyBack l s i → i + 8 ≤ length l
+back-inside r = omega (arith, below (r .shown), r .room .fits)
+
+module _ {l : List ℕ} {s : State} {i : ℕ} {o : Node} (e : o ≡ getNode l i) where
+  pub back-none : {ph k : ℕ} → listTag < o .tag → Backs ph k l l s i (Refused (record { refusal = NoSyntax; units = s .units }))
+  unfolding backRule orNoSyntax
+  back-none h = record { means = λ b t w. stops (record { refusal = NoSyntax; units = s .units }) (rw (not-syntax w e h) refl) }
+
+  module _ (h : o .tag ≤ listTag) where
+    pub back-ready : ReadyBack l s i → ReadyObject l s i
+    back-ready r = let q = is-syntax (r .shown) e h in record { thing = q .it; shown = rw (q .is) at (r .shown); room = r .room; few = r .few }
+
+    pub back-done : (ph k : ℕ) {l1 : List ℕ} {a : Answer} → Changes (flipScope k ph) l l1 s i a → Backs ph k l l1 s i a
+    unfolding backRule orNoSyntax asStx flipIn changeRule
+    back-done ph k v = record { means = λ b t w. let q = is-syntax w e h in rw (q .is) (v .means b (q .it) (rw (q .is) at w)) }
+
+-- ---- a macro's value applied
+
+pub apply-ready : {l : List ℕ} {s : State} {v form : ℕ} → ReadyTranscribed l s v form → ReadyOne l s v form
+apply-ready r = record { value = r .value; thing = stx (r .thing); shown = r .shown; given = r .shown-form; room = r .room }
+
+module _ {left : ℕ} {l l1 : List ℕ} {s : State} {v form : ℕ} {a : Answer} (d : AppliesValue left l l1 s v form a) where
+  pub apply-refused : {ph k : ℕ} {f : Stop} → a ≡ Refused f → Transcribes left ph k l l1 s v form (Refused f)
+  unfolding transcribeRule
+  apply-refused e = record { means = λ b t x u w. stops _ (then-no _ (on-refused (d .means b t (stx x) u w) (ap ended e))) }
+
+  module _ {o : Out} (e : a ≡ Done o) where
+    applied-to : (b : Store) (t : Tree) (x : Stx) → Rep l (s .top) v t → Rep l (s .top) form (stx x) → Gave (agr.placed Rep) 1 16 l l1 s b (evaluate left (app t (tcons (stx x) tnil)) (stateOf s b)) o
+    applied-to b t x u w = on-done (d .means b t (stx x) u w) (ap ended e)
+
+    pub apply-back : ReadyTranscribed l s v form → length l1 ≡ length l → ReadyBack l1 (o .state) (o .at)
+    apply-back r len =
+        let g = applied-to (bindsOf []) (r .value) (r .thing) (r .shown) (r .shown-form) in
+        record {
+          thing = g .value;
+          shown = g .shown;
+          room = room-later (r .room) (g .later) len;
+          few = few-after s o [] left (app (r .value) (tcons (stx (r .thing)) tnil)) (r .few) (g .is);
+        }
+
+    pub apply-done : {ph k : ℕ} {l2 : List ℕ} {q : Answer} → Backs ph k l1 l2 (o .state) (o .at) q → Transcribes left ph k l l2 s v form q
+    unfolding transcribeRule
+    apply-done f =
+        record { means = λ b t x u w. let g = applied-to b t x u w in since 1 8 (g .later) (omega arith) (omega arith) (then-ok _ (g .is)) (f .means b (g .value) (g .shown)) }
+
+pub ruleset laws = (
+  name-seen,
+  name-known,
+  name-held,
+  name-variable,
+  name-unknown,
+  name-unclear,
+  name-lambda,
+  name-let-syntax,
+  name-quote,
+  name-syntax,
+  name-macro,
+  tail-seen,
+  quote-shape,
+  quote-is,
+  syntax-shape,
+  pruned-ready,
+  syntax-pruned,
+  prune-ready,
+  prune-refused,
+  prune-two,
+  prune-done,
+  value-parse,
+  value-refused,
+  value-evaluate,
+  value-done,
+  back-inside,
+  back-none,
+  back-ready,
+  back-done,
+  apply-ready,
+  apply-refused,
+  apply-back,
+  apply-done,
+)

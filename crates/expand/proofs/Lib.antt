@@ -1,0 +1,6 @@
+pub mod Keeping
+pub mod Agreeing
+pub mod Making
+pub mod Leaves
+pub mod Rules
+pub mod Cycle

@@ -1,0 +1,3 @@
+pub mod Making
+pub mod Leaves
+pub mod Cycle

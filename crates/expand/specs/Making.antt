@@ -1,0 +1,89 @@
+-- Lists made anew: what is asked and given.
+use mathlib.Core.Path.{_≡_}
+use mathlib.Core.List.{List}
+use Prim.Native.Nat.{ℕ, _+_, _≤_}
+use lib.ListN.{length}
+use Rattle.model.specs.Objects.{Sets, Stx, list, Stxs, nil, cons}
+use Rattle.model.specs.Trees.{stx, fromStxs}
+use Rattle.model.specs.Steps.{ok, made}
+use Rattle.table.specs.Words.{Same}
+use Rattle.things.specs.Rep.{Rep, RepP}
+use Rattle.things.specs.Making.{Roomy}
+use Rattle.steps.specs.States.{Store, stateOf, end, Room}
+use Rattle.steps.specs.Agreement.{ended, Agrees}
+use Rattle.steps.specs.declared.State.{State}
+use Rattle.steps.specs.declared.Answer.{Answer}
+use Rattle.parse.specs.Parsing.{unpaid}
+use Rattle.scoping.specs.Changing.{objects}
+
+pub record Relistable (l : List ℕ) (top i : ℕ) : Type 0 where
+  pub sets : Sets
+  pub parts : Stxs
+  pub shown : Rep l top i (stx (list sets parts))
+  pub room : Roomy l top 8
+
+pub record Relisted (l l′ : List ℕ) (top i c at top′ : ℕ) : Type 0 where
+  pub kept : Same top l l′
+  pub grows : top′ ≡ top + 8
+  pub means : (k : Sets) (qs ps : Stxs) → Rep l top i (stx (list k qs)) → RepP l top c (fromStxs ps) → Rep l′ top′ at (stx (list k ps))
+
+pub record Chainable (l : List ℕ) (top a b : ℕ) : Type 0 where
+  pub first : Stx
+  pub second : Stx
+  pub shown : Rep l top a (stx first)
+  pub shown-second : Rep l top b (stx second)
+  pub room : Roomy l top 10
+
+pub record Chained (l l′ : List ℕ) (top a b at top′ : ℕ) : Type 0 where
+  pub kept : Same top l l′
+  pub grows : top′ ≡ top + 10
+  pub means : (x y : Stx) → Rep l top a (stx x) → Rep l top b (stx y) → RepP l′ top′ at (fromStxs (cons x (cons y nil)))
+
+-- the list i, new parts, and room for a node
+pub record ReadyList (l : List ℕ) (s : State) (i c : ℕ) : Type 0 where
+  pub sets : Sets
+  pub old : Stxs
+  pub parts : Stxs
+  pub shown : Rep l (s .top) i (stx (list sets old))
+  pub chain : RepP l (s .top) c (fromStxs parts)
+  pub room : Room l s
+  pub free : end s + 8 ≤ length l
+  pub few : s .bindings ≤ 128
+
+pub record Lists (l l′ : List ℕ) (s : State) (i c : ℕ) (r : Answer) : Type 0 where
+  pub means : (b : Store) (k : Sets) (qs ps : Stxs) → Rep l (s .top) i (stx (list k qs)) → RepP l (s .top) c (fromStxs ps)
+      → Agrees objects 1 8 l l′ (unpaid s) b (made (list k ps) (stateOf s b)) (ended r)
+
+pub record ReadyTwo (l : List ℕ) (s : State) (i a c : ℕ) : Type 0 where
+  pub sets : Sets
+  pub old : Stxs
+  pub first : Stx
+  pub second : Stx
+  pub shown : Rep l (s .top) i (stx (list sets old))
+  pub shown-first : Rep l (s .top) a (stx first)
+  pub shown-second : Rep l (s .top) c (stx second)
+  pub room : Room l s
+  pub free : end s + 18 ≤ length l
+  pub few : s .bindings ≤ 128
+
+pub record TwoLists (l l′ : List ℕ) (s : State) (i a c : ℕ) (r : Answer) : Type 0 where
+  pub means : (b : Store) (k : Sets) (qs : Stxs) (x y : Stx) → Rep l (s .top) i (stx (list k qs)) → Rep l (s .top) a (stx x) → Rep l (s .top) c (stx y)
+      → Agrees objects 2 14 l l′ (unpaid (unpaid s)) b (ok (list k (cons x (cons y nil))) (stateOf s b)) (ended r)
+
+pub record ReadyThree (l : List ℕ) (s : State) (i a c d : ℕ) : Type 0 where
+  pub sets : Sets
+  pub old : Stxs
+  pub first : Stx
+  pub second : Stx
+  pub third : Stx
+  pub shown : Rep l (s .top) i (stx (list sets old))
+  pub shown-first : Rep l (s .top) a (stx first)
+  pub shown-second : Rep l (s .top) c (stx second)
+  pub shown-third : Rep l (s .top) d (stx third)
+  pub room : Room l s
+  pub free : end s + 23 ≤ length l
+  pub few : s .bindings ≤ 128
+
+pub record ThreeLists (l l′ : List ℕ) (s : State) (i a c d : ℕ) (r : Answer) : Type 0 where
+  pub means : (b : Store) (k : Sets) (qs : Stxs) (x y z : Stx) → Rep l (s .top) i (stx (list k qs)) → Rep l (s .top) a (stx x) → Rep l (s .top) c (stx y) → Rep l (s .top) d (stx z)
+      → Agrees objects 2 9 l l′ (unpaid (unpaid s)) b (made (list k (cons x (cons y (cons z nil)))) (stateOf s b)) (ended r)

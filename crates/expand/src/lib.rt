@@ -1,0 +1,733 @@
+// Document 01, 'Expanding'. `left` is how many entries there are to spare. Expanding, parsing and evaluating a right-hand side call each
+// other with the remaining budget falling; the unit of an entry pays for what the entry itself makes.
+use environment::Meaning;
+use forms::One;
+use forms::Three;
+use forms::Two;
+use refusals::Refusal;
+use scopes::Name;
+use scopes::Scope;
+use scopes::ScopeSet;
+use scoping::Bound;
+use scoping::Marking;
+use steps::Answer;
+use steps::Charged;
+use steps::Out;
+use steps::State;
+use steps::Stop;
+use table::Node;
+use things::Made;
+ghost use mathlib.Core.Path.{_≡_};
+ghost use Prim.Native.Nat.{ℕ, _+_, _≤_};
+ghost use lib.ListN.{length};
+ghost use Rattle.scopes.specs.Sets.{scopesOf, Declared};
+ghost use Rattle.parse.specs.Parsing.{unpaid};
+ghost use Rattle.expand.specs.Making.{Relistable, Relisted, Chainable, Chained, ReadyList, Lists, ReadyTwo, TwoLists, ReadyThree, ThreeLists};
+ghost use Rattle.expand.specs.Leaves.{ReadyName, ExpandedName, ReadyTail, ExpandedQuote, ExpandedSyntax, ReadyPruned, Pruned, ReadyValue, Values, ReadyBack, Backs, ReadyTranscribed, Transcribes};
+ghost use Rattle.expand.specs.Cycle.{Ready, ReadyParts, ReadyPair, ReadyRest, ReadyChain, ReadyForm, ReadyLet, ReadyFunction, ReadyAbstraction, ReadyScoped, ReadyInner, ReadyBinding, ReadyRhs, ReadyDefined, ReadyMacro, ReadyRewritten, Expanded, ExpandedEntry, ExpandedList, ExpandedApplication, ExpandedParts, ExpandedPair, ExpandedRest, ExpandedLambda, ExpandedFunction, ExpandedAbstraction, ExpandedScoped, ExpandedInner, ExpandedLetSyntax, ExpandedBinding, ExpandedRhs, ExpandedDefined, ExpandedMacro, ExpandedRewritten};
+
+// Where an object is expanded.
+pub struct Context {
+    pub phase: u32,
+    // The index of the meanings that names have.
+    pub meanings: u32,
+    pub prunable: ScopeSet,
+}
+
+impl Context {
+    pub const LAST_PHASE: u32 = 2;
+}
+
+// ---- what is made
+
+// The list i with the parts c in place of its own.
+fn relist(table: &mut [u32], top: u32, i: u32, c: u32) -> Made
+    requires { ⌜ Relistable (now table) top i ⌝ }
+    ensures { λ r. ⌜ Relisted (now (table .entry)) (now (table .exit)) top i c (r .at) (r .top) ⌝ }
+{
+    let sets = table::get_sets(table, i);
+    things::make_object(
+        table,
+        top,
+        Node {
+            tag: Node::LIST,
+            content: c,
+        },
+        sets,
+    )
+}
+
+// The chain of two objects.
+fn chain(table: &mut [u32], top: u32, a: u32, b: u32) -> Made
+    requires { ⌜ Chainable (now table) top a b ⌝ }
+    ensures { λ r. ⌜ Chained (now (table .entry)) (now (table .exit)) top a b (r .at) (r .top) ⌝ }
+{
+    let m = things::link(table, top, b, 0);
+    things::link(table, m.top, a, m.at)
+}
+
+// The list i with the parts c, tested for its nesting.
+fn listed(table: &mut [u32], s: State, i: u32, c: u32) -> Answer
+    requires { ⌜ ReadyList (now table) s i c ⌝ }
+    ensures { λ r. ⌜ Lists (now (table .entry)) (now (table .exit)) s i c r ⌝ }
+{
+    let x = things::measure_parts(table, c);
+    if State::MOST_NESTING <= x.nesting {
+        return Answer::Refused(Stop {
+            refusal: Refusal::TooDeep,
+            units: s.units,
+        });
+    }
+    let m = relist(table, s.top, i, c);
+    let state = s.raised(m.top);
+    Answer::Done(Out { at: m.at, state })
+}
+
+// The list i with the two parts a and b.
+fn two_list(table: &mut [u32], s: State, i: u32, a: u32, b: u32) -> Answer
+    requires { ⌜ ReadyTwo (now table) s i a b ⌝ }
+    ensures { λ r. ⌜ TwoLists (now (table .entry)) (now (table .exit)) s i a b r ⌝ }
+{
+    let c = chain(table, s.top, a, b);
+    let m = relist(table, c.top, i, c.at);
+    let state = s.raised(m.top);
+    Answer::Done(Out { at: m.at, state })
+}
+
+// The list i with the three parts a, b and c, tested for its nesting.
+fn three_list(table: &mut [u32], s: State, i: u32, a: u32, b: u32, c: u32) -> Answer
+    requires { ⌜ ReadyThree (now table) s i a b c ⌝ }
+    ensures { λ r. ⌜ ThreeLists (now (table .entry)) (now (table .exit)) s i a b c r ⌝ }
+{
+    let m = chain(table, s.top, b, c);
+    let n = things::link(table, m.top, a, m.at);
+    let t = s.raised(n.top);
+    listed(table, t, i, n.at)
+}
+
+// ---- forms that expand no part
+
+// An identifier in expression place.
+fn reference(table: &[u32], store: &[u64], s: State, i: u32, at: Context) -> Answer
+    requires { ⌜ ReadyName (now table) (now store) (unpaid s) i at ⌝ }
+    ensures { λ r. ⌜ ExpandedName at (now (store .entry)) (now (table .entry)) s i r ⌝ }
+{
+    match environment::meaning_of(table, store, s.bindings, i, at.phase, at.meanings) {
+        Meaning::Variable(v) => Answer::Done(Out { at: v, state: s }),
+        Meaning::Unknown => Answer::Refused(Stop {
+            refusal: Refusal::NoMeaning,
+            units: s.units,
+        }),
+        Meaning::Unclear => Answer::Refused(Stop {
+            refusal: Refusal::Ambiguous,
+            units: s.units,
+        }),
+        Meaning::Lambda => Answer::Refused(Stop {
+            refusal: Refusal::NoRule,
+            units: s.units,
+        }),
+        Meaning::LetSyntax => Answer::Refused(Stop {
+            refusal: Refusal::NoRule,
+            units: s.units,
+        }),
+        Meaning::Quote => Answer::Refused(Stop {
+            refusal: Refusal::NoRule,
+            units: s.units,
+        }),
+        Meaning::Syntax => Answer::Refused(Stop {
+            refusal: Refusal::NoRule,
+            units: s.units,
+        }),
+        Meaning::Macro(_) => Answer::Refused(Stop {
+            refusal: Refusal::NoRule,
+            units: s.units,
+        }),
+    }
+}
+
+// (quote d), i, by its parts after the head: unchanged.
+fn quote(table: &[u32], s: State, i: u32, head: u32, tail: u32) -> Answer
+    requires { ⌜ ReadyTail (now table) (unpaid s) i head tail ⌝ }
+    ensures { λ r. ⌜ ExpandedQuote (now (table .entry)) s i tail r ⌝ }
+{
+    match forms::one_part(table, tail) {
+        One::Not => Answer::Refused(Stop {
+            refusal: Refusal::NoRule,
+            units: s.units,
+        }),
+        One::Is(_) => Answer::Done(Out { at: i, state: s }),
+    }
+}
+
+// (syntax s), i, by its head and its parts after the head.
+fn syntax_form(
+    table: &mut [u32],
+    s: State,
+    i: u32,
+    head: u32,
+    tail: u32,
+    phase: u32,
+    prunable: ScopeSet,
+) -> Answer
+    requires { ⌜ ReadyTail (now table) (unpaid s) i head tail ⌝ }
+    ensures { λ r. ⌜ ExpandedSyntax phase (scopesOf prunable) (now (table .entry)) (now (table .exit)) s i head tail r ⌝ }
+{
+    match forms::one_part(table, tail) {
+        One::Not => Answer::Refused(Stop {
+            refusal: Refusal::NoRule,
+            units: s.units,
+        }),
+        One::Is(x) => pruned(table, s, i, head, x, phase, prunable),
+    }
+}
+
+fn pruned(
+    table: &mut [u32],
+    s: State,
+    i: u32,
+    head: u32,
+    x: u32,
+    phase: u32,
+    prunable: ScopeSet,
+) -> Answer
+    requires { ⌜ ReadyPruned (now table) (unpaid s) i head x ⌝ }
+    ensures { λ r. ⌜ Pruned phase (scopesOf prunable) (now (table .entry)) (now (table .exit)) s i head x r ⌝ }
+{
+    match scoping::prune_from(table, s, x, phase, prunable) {
+        Answer::Refused(f) => Answer::Refused(f),
+        Answer::Done(o) => {
+            let s1 = o.state;
+            two_list(table, s1, i, head, o.at)
+        }
+    }
+}
+
+// ---- values
+
+// The value of an expanded right-hand side.
+fn value_of(table: &mut [u32], store: &[u64], s: State, i: u32, phase: u32, left: u32) -> Answer
+    requires { ⌜ ReadyValue (now table) (now store) s i ⌝ }
+    ensures { λ r. ⌜ Values left phase (now (store .entry)) (now (table .entry)) (now (table .exit)) s i r ⌝ }
+{
+    match parse::parse(table, store, s, i, phase, left) {
+        Answer::Refused(f) => Answer::Refused(f),
+        Answer::Done(o) => {
+            let s1 = o.state;
+            evaluate::evaluate(table, s1, o.at, left)
+        }
+    }
+}
+
+// What a macro's use evaluated to, with the introduction scope flipped again.
+fn back(table: &mut [u32], s: State, i: u32, phase: u32, intro: Scope) -> Answer
+    requires { ⌜ ReadyBack (now table) s i × Declared intro ⌝ }
+    ensures { λ r. ⌜ Backs phase (intro .0) (now (table .entry)) (now (table .exit)) s i r ⌝ }
+{
+    let n = table::get_node(table, i);
+    if Node::LIST < n.tag {
+        return Answer::Refused(Stop {
+            refusal: Refusal::NoSyntax,
+            units: s.units,
+        });
+    }
+    scoping::flip_in(table, s, i, phase, intro)
+}
+
+// The macro v applied to the marked form.
+fn transcribe(
+    table: &mut [u32],
+    s: State,
+    v: u32,
+    form: u32,
+    phase: u32,
+    intro: Scope,
+    left: u32,
+) -> Answer
+    requires { ⌜ ReadyTranscribed (now table) s v form × Declared intro ⌝ }
+    ensures { λ r. ⌜ Transcribes left phase (intro .0) (now (table .entry)) (now (table .exit)) s v form r ⌝ }
+{
+    match evaluate::apply_value(table, s, v, form, left) {
+        Answer::Refused(f) => Answer::Refused(f),
+        Answer::Done(o) => {
+            let s1 = o.state;
+            back(table, s1, o.at, phase, intro)
+        }
+    }
+}
+
+// ---- entries
+
+pub fn expand(
+    table: &mut [u32],
+    store: &mut [u64],
+    s: State,
+    i: u32,
+    left: u32,
+    at: Context,
+) -> Answer
+    requires { ⌜ Ready (now table) (now store) s i at ⌝ }
+    ensures { λ r. ⌜ Expanded left at (now (store .entry)) (now (store .exit)) (now (table .entry)) (now (table .exit)) s i r ⌝ }
+{
+    match s.enter(left) {
+        Charged::Refused(f) => Answer::Refused(f),
+        Charged::Paid(t) => entry(table, store, t, i, left - 1, at),
+    }
+}
+
+// The entry charged.
+fn entry(table: &mut [u32], store: &mut [u64], s: State, i: u32, left: u32, at: Context) -> Answer
+    requires { ⌜ Ready (now table) (now store) (unpaid s) i at ⌝ }
+    ensures { λ r. ⌜ ExpandedEntry left at (now (store .entry)) (now (store .exit)) (now (table .entry)) (now (table .exit)) s i r ⌝ }
+{
+    let n = table::get_node(table, i);
+    let tag = n.tag;
+    if tag == Node::LIST {
+        return list(table, store, s, i, n.content, left, at);
+    }
+    if tag == Node::SYMBOL {
+        return reference(table, store, s, i, at);
+    }
+    Answer::Done(Out { at: i, state: s })
+}
+
+// The list i of the chain c, by its head's meaning.
+fn list(
+    table: &mut [u32],
+    store: &mut [u64],
+    s: State,
+    i: u32,
+    c: u32,
+    left: u32,
+    at: Context,
+) -> Answer
+    requires { ⌜ ReadyChain (now table) (now store) (unpaid s) i c at ⌝ }
+    ensures { λ r. ⌜ ExpandedList left at (now (store .entry)) (now (store .exit)) (now (table .entry)) (now (table .exit)) s i c r ⌝ }
+{
+    if c == 0 {
+        return Answer::Refused(Stop {
+            refusal: Refusal::NoRule,
+            units: s.units,
+        });
+    }
+    let x = table::get_cell(table, c);
+    match environment::meaning_of(table, store, s.bindings, x.head, at.phase, at.meanings) {
+        Meaning::Lambda => lambda(table, store, s, i, x.head, x.tail, left, at),
+        Meaning::LetSyntax => let_syntax(table, store, s, x.tail, left, at),
+        Meaning::Quote => quote(table, s, i, x.head, x.tail),
+        Meaning::Syntax => {
+            let prunable = at.prunable;
+            syntax_form(table, s, i, x.head, x.tail, at.phase, prunable)
+        }
+        Meaning::Variable(_) => application(table, store, s, i, c, left, at),
+        Meaning::Macro(v) => macro_use(table, store, s, i, v, left, at),
+        Meaning::Unknown => application(table, store, s, i, c, left, at),
+        Meaning::Unclear => Answer::Refused(Stop {
+            refusal: Refusal::Ambiguous,
+            units: s.units,
+        }),
+    }
+}
+
+// ---- applications
+
+fn application(
+    table: &mut [u32],
+    store: &mut [u64],
+    s: State,
+    i: u32,
+    c: u32,
+    left: u32,
+    at: Context,
+) -> Answer
+    requires { ⌜ ReadyChain (now table) (now store) (unpaid s) i c at ⌝ }
+    ensures { λ r. ⌜ ExpandedApplication left at (now (store .entry)) (now (store .exit)) (now (table .entry)) (now (table .exit)) s i c r ⌝ }
+{
+    match parts(table, store, s, c, left, at) {
+        Answer::Refused(f) => Answer::Refused(f),
+        Answer::Done(o) => {
+            let s1 = o.state;
+            listed(table, s1, i, o.at)
+        }
+    }
+}
+
+// The parts of the chain c, from left to right.
+fn parts(table: &mut [u32], store: &mut [u64], s: State, c: u32, left: u32, at: Context) -> Answer
+    requires { ⌜ ReadyParts (now table) (now store) s c at ⌝ }
+    ensures { λ r. ⌜ ExpandedParts left at (now (store .entry)) (now (store .exit)) (now (table .entry)) (now (table .exit)) s c r ⌝ }
+{
+    if c == 0 {
+        return Answer::Done(Out { at: 0, state: s });
+    }
+    let x = table::get_cell(table, c);
+    pair(table, store, s, x.head, x.tail, left, at)
+}
+
+// A part, and the others after it.
+fn pair(
+    table: &mut [u32],
+    store: &mut [u64],
+    s: State,
+    first: u32,
+    others: u32,
+    left: u32,
+    at: Context,
+) -> Answer
+    requires { ⌜ ReadyPair (now table) (now store) s first others at ⌝ }
+    ensures { λ r. ⌜ ExpandedPair left at (now (store .entry)) (now (store .exit)) (now (table .entry)) (now (table .exit)) s first others r ⌝ }
+{
+    match expand(table, store, s, first, left, at) {
+        Answer::Refused(f) => Answer::Refused(f),
+        Answer::Done(o) => {
+            let s1 = o.state;
+            rest(table, store, s1, o.at, others, left, at)
+        }
+    }
+}
+
+// The others, put after what the part before them became.
+fn rest(
+    table: &mut [u32],
+    store: &mut [u64],
+    s: State,
+    first: u32,
+    others: u32,
+    left: u32,
+    at: Context,
+) -> Answer
+    requires { ⌜ ReadyRest (now table) (now store) s first others at ⌝ }
+    ensures { λ r. ⌜ ExpandedRest left at (now (store .entry)) (now (store .exit)) (now (table .entry)) (now (table .exit)) s first others r ⌝ }
+{
+    match parts(table, store, s, others, left, at) {
+        Answer::Refused(f) => Answer::Refused(f),
+        Answer::Done(o) => {
+            let s1 = o.state;
+            let m = things::link(table, s1.top, first, o.at);
+            let state = s1.raised(m.top);
+            Answer::Done(Out { at: m.at, state })
+        }
+    }
+}
+
+// ---- what is expanded in a new scope
+
+// The body with the scope added, prunable, and the name meaning the thing.
+fn scoped(
+    table: &mut [u32],
+    store: &mut [u64],
+    s: State,
+    name: Name,
+    scope: Scope,
+    kind: u32,
+    thing: u32,
+    body: u32,
+    left: u32,
+    at: Context,
+) -> Answer
+    requires { ⌜ ReadyScoped (now table) (now store) s kind thing body at × Declared scope ⌝ }
+    ensures { λ r. ⌜ ExpandedScoped left at (now (store .entry)) (now (store .exit)) (now (table .entry)) (now (table .exit)) s (name .0) (scope .0) kind thing body r ⌝ }
+{
+    match scoping::add_to(table, s, body, at.phase, scope) {
+        Answer::Refused(f) => Answer::Refused(f),
+        Answer::Done(o) => {
+            let s1 = o.state;
+            inner(table, store, s1, name, scope, kind, thing, o.at, left, at)
+        }
+    }
+}
+
+fn inner(
+    table: &mut [u32],
+    store: &mut [u64],
+    s: State,
+    name: Name,
+    scope: Scope,
+    kind: u32,
+    thing: u32,
+    body: u32,
+    left: u32,
+    at: Context,
+) -> Answer
+    requires { ⌜ ReadyInner (now table) (now store) s kind thing body at × Declared scope ⌝ }
+    ensures { λ r. ⌜ ExpandedInner left at (now (store .entry)) (now (store .exit)) (now (table .entry)) (now (table .exit)) s (name .0) (scope .0) kind thing body r ⌝ }
+{
+    let m = environment::extend(table, s.top, name, kind, thing, at.meanings);
+    let t = s.raised(m.top);
+    let old = at.prunable;
+    let prunable = old.add(scope);
+    let to = Context {
+        phase: at.phase,
+        meanings: m.at,
+        prunable,
+    };
+    expand(table, store, t, body, left, to)
+}
+
+// ---- (lambda id body), i
+
+// By its head and its parts after the head.
+fn lambda(
+    table: &mut [u32],
+    store: &mut [u64],
+    s: State,
+    i: u32,
+    head: u32,
+    tail: u32,
+    left: u32,
+    at: Context,
+) -> Answer
+    requires { ⌜ ReadyForm (now table) (now store) (unpaid s) i head tail at ⌝ }
+    ensures { λ r. ⌜ ExpandedLambda left at (now (store .entry)) (now (store .exit)) (now (table .entry)) (now (table .exit)) s i head tail r ⌝ }
+{
+    match forms::two_parts(table, tail) {
+        Two::Not => Answer::Refused(Stop {
+            refusal: Refusal::NoRule,
+            units: s.units,
+        }),
+        Two::Are(id, body) => {
+            if forms::is_identifier(table, id) {
+                return function(table, store, s, i, head, id, body, left, at);
+            }
+            Answer::Refused(Stop {
+                refusal: Refusal::NoRule,
+                units: s.units,
+            })
+        }
+    }
+}
+
+fn function(
+    table: &mut [u32],
+    store: &mut [u64],
+    s: State,
+    i: u32,
+    head: u32,
+    id: u32,
+    body: u32,
+    left: u32,
+    at: Context,
+) -> Answer
+    requires { ⌜ ReadyFunction (now table) (now store) (unpaid s) i head id body at ⌝ }
+    ensures { λ r. ⌜ ExpandedFunction left at (now (store .entry)) (now (store .exit)) (now (table .entry)) (now (table .exit)) s i head id body r ⌝ }
+{
+    match scoping::bind_fresh(table, store, s, id, at.phase) {
+        Bound::Refused(f) => Answer::Refused(f),
+        Bound::Done(b) => {
+            let s1 = b.state;
+            let name = b.name;
+            let scope = b.scope;
+            abstraction(table, store, s1, i, head, name, scope, b.at, body, left, at)
+        }
+    }
+}
+
+// With the new binder.
+fn abstraction(
+    table: &mut [u32],
+    store: &mut [u64],
+    s: State,
+    i: u32,
+    head: u32,
+    name: Name,
+    scope: Scope,
+    binder: u32,
+    body: u32,
+    left: u32,
+    at: Context,
+) -> Answer
+    requires { ⌜ ReadyAbstraction (now table) (now store) s i head binder body at × Declared scope ⌝ }
+    ensures { λ r. ⌜ ExpandedAbstraction left at (now (store .entry)) (now (store .exit)) (now (table .entry)) (now (table .exit)) s i head (name .0) (scope .0) binder body r ⌝ }
+{
+    match scoped(
+        table,
+        store,
+        s,
+        name,
+        scope,
+        Meaning::VARIABLE,
+        binder,
+        body,
+        left,
+        at,
+    ) {
+        Answer::Refused(f) => Answer::Refused(f),
+        Answer::Done(o) => {
+            let s1 = o.state;
+            three_list(table, s1, i, head, binder, o.at)
+        }
+    }
+}
+
+// ---- (let-syntax id rhs body)
+
+// By its parts after the head.
+fn let_syntax(
+    table: &mut [u32],
+    store: &mut [u64],
+    s: State,
+    tail: u32,
+    left: u32,
+    at: Context,
+) -> Answer
+    requires { ⌜ ReadyLet (now table) (now store) (unpaid s) tail at ⌝ }
+    ensures { λ r. ⌜ ExpandedLetSyntax left at (now (store .entry)) (now (store .exit)) (now (table .entry)) (now (table .exit)) s tail r ⌝ }
+{
+    match forms::three_parts(table, tail) {
+        Three::Not => Answer::Refused(Stop {
+            refusal: Refusal::NoRule,
+            units: s.units,
+        }),
+        Three::Are(id, right, body) => {
+            if forms::is_identifier(table, id) {
+                return binding(table, store, s, id, right, body, left, at);
+            }
+            Answer::Refused(Stop {
+                refusal: Refusal::NoRule,
+                units: s.units,
+            })
+        }
+    }
+}
+
+fn binding(
+    table: &mut [u32],
+    store: &mut [u64],
+    s: State,
+    id: u32,
+    right: u32,
+    body: u32,
+    left: u32,
+    at: Context,
+) -> Answer
+    requires { ⌜ ReadyBinding (now table) (now store) s id right body at ⌝ }
+    ensures { λ r. ⌜ ExpandedBinding left at (now (store .entry)) (now (store .exit)) (now (table .entry)) (now (table .exit)) s id right body r ⌝ }
+{
+    match scoping::bind_fresh(table, store, s, id, at.phase) {
+        Bound::Refused(f) => Answer::Refused(f),
+        Bound::Done(b) => {
+            let s1 = b.state;
+            let name = b.name;
+            let scope = b.scope;
+            rhs(table, store, s1, name, scope, right, body, left, at)
+        }
+    }
+}
+
+// The right-hand side is expanded one phase up, with core meanings and nothing prunable. It does not get the scope.
+fn rhs(
+    table: &mut [u32],
+    store: &mut [u64],
+    s: State,
+    name: Name,
+    scope: Scope,
+    right: u32,
+    body: u32,
+    left: u32,
+    at: Context,
+) -> Answer
+    requires { ⌜ ReadyRhs (now table) (now store) s right body at × Declared scope ⌝ }
+    ensures { λ r. ⌜ ExpandedRhs left at (now (store .entry)) (now (store .exit)) (now (table .entry)) (now (table .exit)) s (name .0) (scope .0) right body r ⌝ }
+{
+    let phase = at.phase;
+    if Context::LAST_PHASE <= phase {
+        return Answer::Refused(Stop {
+            refusal: Refusal::NoPhase,
+            units: s.units,
+        });
+    }
+    let none = ScopeSet::empty();
+    let above = Context {
+        phase: phase + 1,
+        meanings: 0,
+        prunable: none,
+    };
+    match expand(table, store, s, right, left, above) {
+        Answer::Refused(f) => Answer::Refused(f),
+        Answer::Done(o) => {
+            let s1 = o.state;
+            defined(table, store, s1, name, scope, o.at, body, left, at)
+        }
+    }
+}
+
+// The name is to mean the value of the expanded right-hand side.
+fn defined(
+    table: &mut [u32],
+    store: &mut [u64],
+    s: State,
+    name: Name,
+    scope: Scope,
+    right: u32,
+    body: u32,
+    left: u32,
+    at: Context,
+) -> Answer
+    requires { ⌜ ReadyDefined (now table) (now store) s right body at × Declared scope ⌝ }
+    ensures { λ r. ⌜ ExpandedDefined left at (now (store .entry)) (now (store .exit)) (now (table .entry)) (now (table .exit)) s (name .0) (scope .0) right body r ⌝ }
+{
+    match value_of(table, store, s, right, at.phase + 1, left) {
+        Answer::Refused(f) => Answer::Refused(f),
+        Answer::Done(o) => {
+            let s1 = o.state;
+            scoped(
+                table,
+                store,
+                s1,
+                name,
+                scope,
+                Meaning::MACRO,
+                o.at,
+                body,
+                left,
+                at,
+            )
+        }
+    }
+}
+
+// ---- a macro's use
+
+fn macro_use(
+    table: &mut [u32],
+    store: &mut [u64],
+    s: State,
+    i: u32,
+    v: u32,
+    left: u32,
+    at: Context,
+) -> Answer
+    requires { ⌜ ReadyMacro (now table) (now store) s i v at ⌝ }
+    ensures { λ r. ⌜ ExpandedMacro left at (now (store .entry)) (now (store .exit)) (now (table .entry)) (now (table .exit)) s i v r ⌝ }
+{
+    match scoping::mark_form(table, s, i, at.phase) {
+        Marking::Refused(f) => Answer::Refused(f),
+        Marking::Done(m) => {
+            let s1 = m.state;
+            let intro = m.intro;
+            rewritten(table, store, s1, v, m.at, intro, left, at)
+        }
+    }
+}
+
+// What the macro makes of the marked form is expanded in its place.
+fn rewritten(
+    table: &mut [u32],
+    store: &mut [u64],
+    s: State,
+    v: u32,
+    form: u32,
+    intro: Scope,
+    left: u32,
+    at: Context,
+) -> Answer
+    requires { ⌜ ReadyRewritten (now table) (now store) s v form at × Declared intro ⌝ }
+    ensures { λ r. ⌜ ExpandedRewritten left at (now (store .entry)) (now (store .exit)) (now (table .entry)) (now (table .exit)) s v form (intro .0) r ⌝ }
+{
+    match transcribe(table, s, v, form, at.phase, intro, left) {
+        Answer::Refused(f) => Answer::Refused(f),
+        Answer::Done(o) => {
+            let s1 = o.state;
+            expand(table, store, s1, o.at, left, at)
+        }
+    }
+}
