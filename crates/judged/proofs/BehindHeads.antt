@@ -48,15 +48,16 @@ last-tail : (n : Counts) (s : List ℕ) → Tail s (measureLast n s)
 unfolding measureLast
 last-tail n s = tail-next _ (object-tail (n .symbols) (n .scopes) 64 s) (λ k t. tail-next _ (end-tail t) (λ x u. tail-give k u))
 
--- what was measured to the end left nothing
+-- what was read to the end left nothing
+pub then-whole : {A : Type 0} (g : Read A) (k : A) (left : List ℕ) → next g (λ v t. next (atEnd t) (λ x u. got v u)) ≡ got k left → g ≡ got k []
+unfolding atEnd
+then-whole (fault c) k left e = let z : _≡_ {A = ℕ} 0 1 = cc in absurd (omega arith)
+then-whole {A} (got v []) k left e = let i : v ≡ k = cc in ap (λ (x : A). got x []) i
+then-whole (got v (b ∷ t)) k left e = let z : _≡_ {A = ℕ} 0 1 = cc in absurd (omega arith)
+
 last-whole : (n : Counts) (s : List ℕ) (k : ℕ) (left : List ℕ) → measureLast n s ≡ got k left → measureStx (n .symbols) (n .scopes) 64 s ≡ got k []
-unfolding measureLast atEnd
-last-whole n s k left e = go (measureStx (n .symbols) (n .scopes) 64 s) e
-  where
-    go : (g : Read ℕ) → next g (λ v t. next (atEnd t) (λ x u. got v u)) ≡ got k left → g ≡ got k []
-    go (fault c) e = let z : _≡_ {A = ℕ} 0 1 = cc in absurd (omega arith)
-    go (got v []) e = let i : v ≡ k = cc in ap (λ (x : ℕ). got x []) i
-    go (got v (b ∷ t)) e = let z : _≡_ {A = ℕ} 0 1 = cc in absurd (omega arith)
+unfolding measureLast
+last-whole n s k left e = then-whole (measureStx (n .symbols) (n .scopes) 64 s) k left e
 
 -- ---- the root
 

@@ -1,2 +1,4 @@
 pub mod BehindHeads
+pub mod Heads
 pub mod Images
+pub mod TreeImages

@@ -1,4 +1,6 @@
 // A syntax image judged whole before any work on it: its head, bindings and root, and that it ends there. Only the bindings are stored.
+pub mod trees;
+
 use bindings::loading;
 use bindings::loading::Counts;
 use head::Head;
