@@ -1,15 +1,13 @@
--- The root and the bindings before it: one law for each way out.
+-- The bindings and the root behind them: one law for each way out.
 use Prim.Native.Nat.{ℕ, _+_, _-_, _≤_}
-use mathlib.Core.Path.{_≡_, refl, ap, subst}
+use mathlib.Core.Path.{_≡_, ap, subst}
 use mathlib.Core.List.{List, [], _∷_}
 use native.Mathlib.Omega.{arith}
 use lib.ListN.{length, drop}
-use Rattle.model.specs.Refusals.{layout}
 use Rattle.model.specs.Resolving.{Bind}
 use Rattle.model.specs.Reading.{Read, got, fault, next, atEnd}
 use Rattle.refusals.specs.Refusing.{refusalOf}
 use Rattle.refusals.specs.declared.Refusal.{Refusal}
-use Rattle.refusals.specs.declared.Refusal.the-variants as refusal
 use Rattle.numbers.specs.declared.Cursor.{Cursor}
 use Rattle.numbers.specs.declared.Number.{Number}
 use Rattle.numbers.specs.declared.Number.the-variants as number
@@ -17,35 +15,27 @@ use Rattle.numbers.specs.declared.Place.{Place}
 use Rattle.numbers.specs.declared.Place.the-variants as place
 use Rattle.numbers.specs.Answers.{numberAt, seenAt}
 use Rattle.numbers.proofs.Tails.{Tail, tail-give, tail-fault, tail-next}
-use Rattle.numbers.proofs.Answering.{Took, took, refused, stops, number-shape, seen-shape, whole, seen-refused}
+use Rattle.numbers.proofs.Answering.{Took, took, refused, number-shape, seen-shape, whole, seen-refused}
 use Rattle.store.specs.Words.{bindsOf}
 use Rattle.objects.specs.Measuring.{measureStx}
 use Rattle.objects.proofs.Sizes.{object-tail}
+use Rattle.image.specs.Measuring.{thenEnd, wholeSyntax}
 use Rattle.bindings.specs.Sections.{readAll}
 use Rattle.bindings.specs.declared.loading.Counts.{Counts}
 use Rattle.bindings.proofs.InTurn.{all-tail}
-use Rattle.judged.specs.Judging.{measureLast, measureRest, RestGood, BehindHead}
+use Rattle.judged.specs.Judging.{declaredBy, measureRest, RestGood, BehindHead}
 use Rattle.judged.specs.declared.Rest.{Rest}
 use Rattle.judged.specs.declared.RestJudged.the-variants as rest
 
 -- ---- the end of the image
-
-no-more : (s : List ℕ) → length s ≡ 0 → s ≡ []
-no-more [] e = refl
-no-more (b ∷ s) e = absurd (let z : ⊥ = omega arith in z)
-
-some-more : (s : List ℕ) → (length s ≡ 0 → ⊥) → atEnd s ≡ fault layout
-unfolding atEnd
-some-more [] n = absurd (n refl)
-some-more (b ∷ s) n = refl
 
 end-tail : (s : List ℕ) → Tail s (atEnd s)
 unfolding atEnd
 end-tail [] = tail-give tt []
 end-tail (b ∷ s) = tail-fault
 
-last-tail : (n : Counts) (s : List ℕ) → Tail s (measureLast n s)
-unfolding measureLast
+last-tail : (n : Counts) (s : List ℕ) → Tail s (wholeSyntax (declaredBy n) s)
+unfolding wholeSyntax thenEnd
 last-tail n s = tail-next _ (object-tail (n .symbols) (n .scopes) 64 s) (λ k t. tail-next _ (end-tail t) (λ x u. tail-give k u))
 
 -- what was read to the end left nothing
@@ -55,35 +45,9 @@ then-whole (fault c) k left e = let z : _≡_ {A = ℕ} 0 1 = cc in absurd (omeg
 then-whole {A} (got v []) k left e = let i : v ≡ k = cc in ap (λ (x : A). got x []) i
 then-whole (got v (b ∷ t)) k left e = let z : _≡_ {A = ℕ} 0 1 = cc in absurd (omega arith)
 
-last-whole : (n : Counts) (s : List ℕ) (k : ℕ) (left : List ℕ) → measureLast n s ≡ got k left → measureStx (n .symbols) (n .scopes) 64 s ≡ got k []
-unfolding measureLast
+last-whole : (n : Counts) (s : List ℕ) (k : ℕ) (left : List ℕ) → wholeSyntax (declaredBy n) s ≡ got k left → measureStx (n .symbols) (n .scopes) 64 s ≡ got k []
+unfolding wholeSyntax thenEnd
 last-whole n s k left e = then-whole (measureStx (n .symbols) (n .scopes) 64 s) k left e
-
--- ---- the root
-
-module _ (n : Counts) (s : List ℕ) (at : ℕ) {r : Number} (h : r ≡ numberAt (at + length s) (measureStx (n .symbols) (n .scopes) 64 s)) where
-  pub root-stops : {f : Refusal} → r ≡ number.Fault f → number.Fault f ≡ numberAt (at + length s) (measureLast n s)
-  unfolding measureLast
-  root-stops e = stops number-shape number.Read number.Fault (at + length s) (measureStx (n .symbols) (n .scopes) 64 s) _ h e
-
-  module _ {k : ℕ} {end : Cursor} (e : r ≡ number.Read k end) where
-    sized : Took at s (measureStx (n .symbols) (n .scopes) 64 s) k (end .at)
-    sized = took number-shape h e (object-tail (n .symbols) (n .scopes) 64 s)
-
-    pub root-not-last : (end .at ≡ at + length s → ⊥) → number.Fault refusal.Layout ≡ numberAt (at + length s) (measureLast n s)
-    unfolding measureLast
-    root-not-last d =
-        let T : Took at s (measureStx (n .symbols) (n .scopes) 64 s) k (end .at) = sized in
-        let g : atEnd (drop (end .at - at) s) ≡ fault layout = some-more (drop (end .at - at) s) (λ z. d (omega (arith, T .ends))) in
-        rw (T .is, g)
-
-    pub root-last : end .at ≡ at + length s → number.Read k end ≡ numberAt (at + length s) (measureLast n s)
-    unfolding measureLast atEnd
-    root-last d =
-        let T : Took at s (measureStx (n .symbols) (n .scopes) 64 s) k (end .at) = sized in
-        let g : drop (end .at - at) s ≡ [] = no-more (drop (end .at - at) s) (omega (arith, T .ends)) in
-        let p : end .at ≡ at + length s - 0 = omega arith in
-        rw (T .is, g) (ap (λ (x : ℕ). number.Read k (record { at = x })) p)
 
 -- ---- the bindings and the root
 
@@ -106,27 +70,27 @@ module _ (n : Counts) (at : ℕ) (s l : List ℕ) where
     binds-stop {f} e = let g : readAll n s ≡ fault (refusalOf f) = seen-refused [] (at + length s) (readAll n s) h e in rest-bad (rw g)
 
     module _ {past : Cursor} (e : q ≡ place.At past) {u : List ℕ} (i : u ≡ drop (past .at - at) s) {r : Number}
-        (k : r ≡ numberAt (past .at + length u) (measureLast n u)) where
+        (k : r ≡ numberAt (past .at + length u) (wholeSyntax (declaredBy n) u)) where
       held : Took at s (readAll n s) bs (past .at)
       held = took (seen-shape []) h (whole [] at s (readAll n s) h e (all-tail n s)) (all-tail n s)
 
       pub rest-stops : {f : Refusal} → r ≡ number.Fault f → BehindHead n at s l (rest.Fault f)
       unfolding measureRest
       rest-stops {f} d =
-          let g : measureLast n u ≡ fault (refusalOf f) = refused number-shape (past .at + length u) (measureLast n u) k d in
+          let g : wholeSyntax (declaredBy n) u ≡ fault (refusalOf f) = refused number-shape (past .at + length u) (wholeSyntax (declaredBy n) u) k d in
           rest-bad (rw (held .is, ← i, g))
 
       measured : {z : ℕ} {end : Cursor} → r ≡ number.Read z end → measureStx (n .symbols) (n .scopes) 64 (drop (past .at - at) s) ≡ got z []
       measured {z} {end} d =
-          let T : Took (past .at) u (measureLast n u) z (end .at) = took number-shape k d (last-tail n u) in
+          let T : Took (past .at) u (wholeSyntax (declaredBy n) u) z (end .at) = took number-shape k d (last-tail n u) in
           subst (λ (v : List ℕ). measureStx (n .symbols) (n .scopes) 64 v ≡ got z []) i (last-whole n u z (drop (end .at - past .at) u) (T .is))
 
   pub rest-good : (count : ℕ) {q : Place} → record { value = bindsOf l count; end = q } ≡ seenAt [] (at + length s) (readAll n s) → count ≤ 128
       → {past : Cursor} → q ≡ place.At past → {u : List ℕ} → u ≡ drop (past .at - at) s
-      → {r : Number} → r ≡ numberAt (past .at + length u) (measureLast n u) → {z : ℕ} {end : Cursor} → r ≡ number.Read z end
+      → {r : Number} → r ≡ numberAt (past .at + length u) (wholeSyntax (declaredBy n) u) → {z : ℕ} {end : Cursor} → r ≡ number.Read z end
       → BehindHead n at s l (rest.Good (record { root = past .at; size = z; bindings = count }))
   rest-good count h few {past} e i k d =
       let T : Took at s (readAll n s) (bindsOf l count) (past .at) = held h e i k in
       rest-is (record { binds-read = T .is; few-binds = few; behind = T .moved; within = T .within; root-measured = measured h e i k d })
 
-pub ruleset behind-laws = (root-stops, root-not-last, root-last, binds-stop, rest-stops, rest-good, all-tail)
+pub ruleset behind-laws = (binds-stop, rest-stops, rest-good, all-tail)

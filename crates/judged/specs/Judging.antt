@@ -5,7 +5,7 @@ use mathlib.Core.List.{List, []}
 use lib.ListN.{length, drop}
 use Rattle.model.specs.Limits.{mostNesting}
 use Rattle.model.specs.Objects.{Stx, size}
-use Rattle.model.specs.Reading.{Reader, Image, got, fault, _>>=_, _>>_, give, atEnd, readStx, readSyntax, readImage}
+use Rattle.model.specs.Reading.{Reader, Image, got, fault, _>>_, readStx, readSyntax, readImage}
 use Rattle.refusals.specs.declared.Refusal.{Refusal}
 use Rattle.refusals.specs.Refusing.{refusalOf}
 use Rattle.codec_laws.specs.WellFormed.{Bytes, HeadFits}
@@ -13,6 +13,8 @@ use Rattle.store.specs.Words.{bindsOf}
 use Rattle.bindings.specs.declared.loading.Counts.{Counts}
 use Rattle.bindings.specs.Sections.{readAll}
 use Rattle.objects.specs.Measuring.{measureStx}
+use Rattle.image.specs.declared.Counts as i
+use Rattle.image.specs.Measuring.{wholeSyntax}
 use Rattle.head.specs.Heads.{headOf}
 use Rattle.heading.specs.Headings.{Headed}
 use Rattle.judged.specs.declared.Rest.{Rest}
@@ -24,19 +26,15 @@ use Rattle.judged.specs.declared.Judged.the-variants as judged
 
 -- ---- behind the head, whose counts are n
 
--- the size of the root, which nothing follows
-unfoldable pub measureLast : Counts → Reader ℕ
-unfolding measureStx atEnd
-measureLast n = do
-  k ← measureStx (n .symbols) (n .scopes) 64
-  atEnd
-  give k
+abbrev pub declaredBy : Counts → i.Counts
+declaredBy n = record { symbols = n .symbols; names = n .names; scopes = n .scopes }
 
+-- the size of the root, behind the bindings
 unfoldable pub measureRest : Counts → Reader ℕ
-unfolding readAll measureLast
+unfolding readAll wholeSyntax
 measureRest n = do
   readAll n
-  measureLast n
+  wholeSyntax (declaredBy n)
 
 -- the bindings of s, which begins at the place `at`, are in the store l, and the root behind them ends the image
 pub record RestGood (n : Counts) (at : ℕ) (s l : List ℕ) (j : Rest) : Type 0 where

@@ -10,11 +10,9 @@ use numbers::Number;
 use numbers::Place;
 use refusals::Refusal;
 use scopes::Name;
-ghost use mathlib.Core.Path.{_≡_};
 ghost use Prim.Native.Nat.{_+_, _≤_};
 ghost use lib.ListN.{length};
-ghost use Rattle.numbers.specs.Answers.{numberAt};
-ghost use Rattle.judged.specs.Judging.{measureLast, BehindHead, SyntaxJudged};
+ghost use Rattle.judged.specs.Judging.{BehindHead, SyntaxJudged};
 
 // What the jobs know of an image without fault.
 pub struct Judgement {
@@ -46,22 +44,6 @@ enum RestJudged {
     Fault(Refusal),
 }
 
-// The size of the root, where `s` is the image from there on: nothing follows it.
-fn judge_root(c: Cursor, s: &[u8], counts: Counts) -> Number
-    requires { ⌜ (c .at + length (now s) ≤ 65536) × (counts .scopes ≤ 64) ⌝ }
-    ensures { λ r. ⌜ r ≡ numberAt (c .at + length (now (s .entry))) (measureLast counts (now (s .entry))) ⌝ }
-{
-    match objects::measure_object(c, s, counts.symbols, counts.scopes, 64) {
-        Number::Read(size, end) => {
-            if end.at != c.at + s.len() {
-                return Number::Fault(Refusal::Layout);
-            }
-            Number::Read(size, end)
-        }
-        Number::Fault(f) => Number::Fault(f),
-    }
-}
-
 // The bindings, into the store from its start, and the root.
 fn judge_rest(c: Cursor, s: &[u8], counts: Counts, store: &mut [u64]) -> RestJudged
     requires image { ⌜ (c .at + length (now s) ≤ 65536) × (counts .scopes ≤ 64) ⌝ }
@@ -72,14 +54,21 @@ fn judge_rest(c: Cursor, s: &[u8], counts: Counts, store: &mut [u64]) -> RestJud
     let bindings = read.count as u32;
     let end = read.end;
     match end {
-        Place::At(past) => match judge_root(past, c.after(s, past), counts) {
-            Number::Read(size, _) => RestJudged::Good(Rest {
-                root: past.at,
-                size,
-                bindings,
-            }),
-            Number::Fault(f) => RestJudged::Fault(f),
-        },
+        Place::At(past) => {
+            let declared = image::Counts {
+                symbols: counts.symbols,
+                names: counts.names,
+                scopes: counts.scopes,
+            };
+            match image::measure_syntax_root(past, c.after(s, past), declared) {
+                Number::Read(size, _) => RestJudged::Good(Rest {
+                    root: past.at,
+                    size,
+                    bindings,
+                }),
+                Number::Fault(f) => RestJudged::Fault(f),
+            }
+        }
         Place::Fault(f) => RestJudged::Fault(f),
     }
 }

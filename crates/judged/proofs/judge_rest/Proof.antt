@@ -17,8 +17,8 @@ enum-known-end c = search (behind-laws, answering, needs)
 after-requires : tie.Need-after-requires
 after-requires c κs = search (behind-laws, answering, needs)
 
-judge-root-requires : tie.Need-judge-root-requires
-judge-root-requires c κs = search (behind-laws, answering, needs)
+measure-syntax-root-requires : tie.Need-measure-syntax-root-requires
+measure-syntax-root-requires c κs = search (behind-laws, answering, needs)
 
 enum-known-size : tie.Need-enum-known-size
 enum-known-size c = search (behind-laws, answering, needs)
@@ -55,7 +55,7 @@ judge-rest-spec =
     cast-bindings
     enum-known-end
     after-requires
-    judge-root-requires
+    measure-syntax-root-requires
     enum-known-size
     enum-known-f
     enum-known-end-2
