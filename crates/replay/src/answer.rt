@@ -14,6 +14,26 @@ pub struct Call {
     pub image: u32,
 }
 
+impl Call {
+    pub const RESOLVE: u32 = 0;
+
+    pub const LAST_JOB: u32 = 3;
+}
+
+// What a job gave back, where the library has it yet.
+enum Done {
+    Now(Answer),
+    Later,
+}
+
+fn do_job(call: Call, image: &[u8], table: &mut [u32], output: &mut [u8]) -> Done {
+    if call.job == Call::RESOLVE {
+        let a = resolve::meirhuppa_resolve(image, call.phase, call.budget, table);
+        return Done::Now(a);
+    }
+    Done::Later
+}
+
 // The line of a job that gave back `a` and left the buffers so.
 fn line(
     a: Answer,
@@ -32,7 +52,7 @@ fn line(
     columns::put_output(output, a.length, buffers, page).byte(b'\n', page)
 }
 
-// A job that the library does not have yet is answered `later`.
+// The line of a call, whose buffers are exactly as long as it says; `later` for a job that the library does not have yet.
 pub fn answered(
     call: Call,
     image: &[u8],
@@ -43,9 +63,8 @@ pub fn answered(
 ) -> Lines {
     columns::fill_words(table);
     columns::fill_bytes(output);
-    if call.job != 0 {
-        return lines.text(b"later\n", page);
+    match do_job(call, image, table, output) {
+        Done::Now(a) => line(a, call.budget, table, output, lines, page),
+        Done::Later => lines.text(b"later\n", page),
     }
-    let a = resolve::meirhuppa_resolve(image, call.phase, call.budget, table);
-    line(a, call.budget, table, output, lines, page)
 }

@@ -73,7 +73,11 @@ fn sized(
     let words = call.words as usize;
     let bytes = call.output as usize;
     let length = call.image as usize;
-    if 3 < call.job || table.len() < words || output.len() < bytes || image.len() < length {
+    if Call::LAST_JOB < call.job
+        || table.len() < words
+        || output.len() < bytes
+        || image.len() < length
+    {
         return cut(input, lines, page);
     }
     exact(
