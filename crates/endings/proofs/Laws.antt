@@ -36,7 +36,7 @@ fitted-not b out u (inl h) = rw (lt-leb (length b) (length out) h)
 fitted-not b out u (inr h) = rw (lt-leb (length b) 65536 h, and-no (leb (length b) (length out)))
 
 pub ends-written : {b out out′ : List ℕ} {r : Finished} {n : ℕ} (u : ℕ) → Ends b out out′ r → r ≡ fin.Written n → EndsAs (fitted (length out) b u) out out′ (Written n u)
-ends-written {b} {out} {n = n} u (wrote {n = k} q h j o) e = let i : k ≡ n = cc in writes (fitted-is b out u h j) (sym i ∙ q) o
+ends-written {b} {out} {n = n} u (wrote {n = k} q h j o) e = let i : k ≡ n = cc in writes (fitted-is b out u h j) (sym i ∙ q) j o
 ends-written u (too-long x o) e = let z : _≡_ {A = ℕ} 0 1 = cc in absurd (omega arith)
 
 pub ends-too-long : {b out out′ : List ℕ} {r : Finished} (u : ℕ) → Ends b out out′ r → r ≡ fin.TooLong → EndsAs (fitted (length out) b u) out out′ (Refused refusal.TooLong u)

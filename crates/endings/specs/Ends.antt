@@ -22,7 +22,7 @@ use Rattle.endings.specs.declared.Ending.the-variants.{Refused, Written}
 -- a refusal leaves the output untouched; success writes from its start and touches no byte after the image
 pub data EndsAs (e : m.Ending) (out out′ : List ℕ) : Ending → Type 0 where
   refuses : {f : Refusal} {u : ℕ} → e ≡ m.refused (refusalOf f) u → out′ ≡ out → EndsAs e out out′ (Refused f u)
-  writes : {n u : ℕ} {b : List ℕ} → e ≡ m.written b u → n ≡ length b → out′ ≡ b ++ drop (length b) out → EndsAs e out out′ (Written n u)
+  writes : {n u : ℕ} {b : List ℕ} → e ≡ m.written b u → n ≡ length b → length b ≤ 65536 → out′ ≡ b ++ drop (length b) out → EndsAs e out out′ (Written n u)
 
 -- the work came to the tree at o
 pub record TreeDone (s : List ℕ) (h : Head) (end : ℕ) (l : List ℕ) (o : Out) (budget : ℕ) : Type 0 where
