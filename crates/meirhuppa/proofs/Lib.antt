@@ -4,3 +4,4 @@ pub mod Charges
 pub mod FromHere
 pub mod Images
 pub mod OneAnswer
+pub mod Wholes

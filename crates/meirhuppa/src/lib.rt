@@ -1,4 +1,6 @@
 // The library: the jobs of document 01, on lent byte images.
 pub mod answers;
+pub mod evaluate;
 pub mod limits;
 pub mod resolve;
+pub mod writing;

@@ -1,0 +1,117 @@
+-- From how the work ends to the whole result: answer, output and table.
+use Prim.Native.Nat.{ℕ, _+_, _*_, _≤_, _<_}
+use mathlib.Core.Path.{_≡_, refl, sym, ap, _∙_, subst}
+use mathlib.Core.List.{List, [], _++_}
+use mathlib.Core.Bool.{Bool, true, false, _&&_}
+use native.Mathlib.Omega.{arith}
+use lib.ListN.{length, take, drop, replicate}
+use lib.Seq.{drop-at, length-take-le}
+use lib.Dec.{leb}
+use borrow.Author.Tests.{le-leb, lt-leb}
+use mir.Syntax.{w32}
+use mir.Val.{Fits}
+use Rattle.model.specs.Limits.{mostBudget, wordsPerUnit}
+use Rattle.model.specs.Refusals.{codeOf, smallTable}
+use Rattle.model.specs.Jobs as m
+use Rattle.model.specs.Jobs.{answerOf, outputAfter, cleared, budgetFits, lent, evaluateEnding, evaluateJob}
+use Rattle.refusals.specs.declared.Refusal.{Refusal}
+use Rattle.refusals.specs.Refusing.{refusalOf}
+use Rattle.endings.specs.declared.Ending.{Ending}
+use Rattle.endings.specs.declared.Ending.the-variants.{Refused, Written}
+use Rattle.endings.specs.Ends.{EndsAs, refuses, writes}
+use Rattle.evaluate_job.specs.Judging as evaluate
+use Rattle.meirhuppa.specs.Endings.{answerIs}
+use Rattle.meirhuppa.specs.Written.{answerFor, Short, no-image, an-image}
+
+-- ---- answers
+
+pub small-answer : {k : ℕ} → k ≡ 5 → record { code = k; units = 0; name = 0; len = 0 } ≡ answerOf (m.refused smallTable 0)
+unfolding answerOf
+small-answer e = ap (λ (k : ℕ). record { code = k; units = 0; name = 0; len = 0 }) e
+
+pub refused-answer : {e : Ending} {f : Refusal} {k u : ℕ} → e ≡ Refused f u → k ≡ codeOf (refusalOf f) → record { code = k; units = u; name = 0; len = 0 } ≡ answerFor e
+refused-answer {u = u} e q = ap (λ (k : ℕ). record { code = k; units = u; name = 0; len = 0 }) q ∙ sym (ap answerFor e)
+
+pub written-answer : {e : Ending} {n u : ℕ} → e ≡ Written n u → record { code = 0; units = u; name = 0; len = n } ≡ answerFor e
+written-answer e = sym (ap answerFor e)
+
+short-length : {e : Ending} {n u : ℕ} → Short e → e ≡ Written n u → n ≤ 65536
+short-length no-image e = let z : _≡_ {A = ℕ} 0 1 = cc in absurd (omega arith)
+short-length {n = n} (an-image {n = k} h) e = let i : k ≡ n = cc in omega arith
+
+pub length-fits : {e : Ending} {n u : ℕ} → Short e → e ≡ Written n u → Fits w32 n
+length-fits s e = let h = short-length s e in omega arith
+
+pub ruleset answer-laws = (small-answer, refused-answer, written-answer, length-fits)
+
+-- ---- the whole
+
+pub ends-short : {q : m.Ending} {out out′ : List ℕ} {e : Ending} → EndsAs q out out′ e → Short e
+ends-short (refuses i o) = no-image
+ends-short (writes i j k o) = an-image (subst (λ (n : ℕ). n ≤ 65536) (sym j) k)
+
+answer-is : {q : m.Ending} {out out′ : List ℕ} {e : Ending} → EndsAs q out out′ e → answerFor e ≡ answerOf q
+unfolding answerOf
+answer-is (refuses i o) = sym (ap answerOf i)
+answer-is (writes {u = u} i j k o) = ap (λ (n : ℕ). record { code = 0; units = u; name = 0; len = n }) j ∙ sym (ap answerOf i)
+
+output-is : {q : m.Ending} {out out′ : List ℕ} {e : Ending} → EndsAs q out out′ e → out′ ≡ outputAfter q out
+unfolding outputAfter
+output-is {out = out} (refuses i o) = o ∙ sym (ap (λ (x : m.Ending). outputAfter x out) i)
+output-is {out = out} (writes i j k o) = o ∙ sym (ap (λ (x : m.Ending). outputAfter x out) i)
+
+and-no : (a : Bool) → (a && false) ≡ false
+and-no true = refl
+and-no false = refl
+
+module _ (budget : ℕ) (table out : List ℕ) (q : m.Ending) {a : m.Answer} where
+  lent-no : budgetFits budget (length table) ≡ false → a ≡ answerOf (m.refused smallTable 0) → record { answer = a; output = out; table = table } ≡ lent budget table out q
+  unfolding lent
+  lent-no n e = rw n (ap (λ (x : m.Answer). record { answer = x; output = out; table = table }) e)
+
+  over : 4096 < budget → a ≡ answerOf (m.refused smallTable 0) → record { answer = a; output = out; table = table } ≡ lent budget table out q
+  unfolding budgetFits mostBudget
+  over h e = lent-no (rw (lt-leb budget 4096 h) refl) e
+
+  few-words : length table < budget * 16 → a ≡ answerOf (m.refused smallTable 0) → record { answer = a; output = out; table = table } ≡ lent budget table out q
+  unfolding budgetFits wordsPerUnit
+  few-words h e =
+      let l : length table < 16 * budget = omega arith in
+      lent-no (rw (lt-leb (16 * budget) (length table) l) (and-no (leb budget mostBudget))) e
+
+  ended : budget ≤ 4096 → budget * 16 ≤ length table → (p : List ℕ) {t′ out′ : List ℕ} {e : Ending} → length p ≡ length (take (budget * 16) table) → t′ ≡ cleared budget (p ++ drop (budget * 16) table)
+      → EndsAs q out out′ e → a ≡ answerFor e → record { answer = a; output = out′; table = t′ } ≡ lent budget table out q
+  unfolding lent budgetFits mostBudget wordsPerUnit cleared
+  ended h k p len c w e =
+      let l : 16 * budget ≤ length table = omega arith in
+      let long : length p ≡ budget * 16 = len ∙ length-take-le (budget * 16) table k in
+      let turn : 16 * budget ≡ budget * 16 = omega arith in
+      let rest : drop (16 * budget) (p ++ drop (budget * 16) table) ≡ drop (16 * budget) table =
+      drop-at p (drop (budget * 16) table) (16 * budget) (long ∙ sym turn) ∙ ap (λ (n : ℕ). drop n table) (sym turn) in
+      rw (le-leb budget 4096 h, le-leb (16 * budget) (length table) l)
+      (λ i. record { answer = (e ∙ answer-is w) i; output = output-is w i; table = (c ∙ ap (λ (x : List ℕ). replicate (16 * budget) 0 ++ x) rest) i })
+
+-- the part of the table that is lent for the work
+pub part-long : (budget : ℕ) (table : List ℕ) → budget * 16 ≤ length table → budget * 16 ≡ length (take (budget * 16) table)
+part-long budget table k = sym (length-take-le (budget * 16) table k)
+
+-- ---- evaluate
+
+pub evaluate-lent : (budget : ℕ) (table : List ℕ) → budget ≤ 4096 → budget * 16 ≤ length table → evaluate.Lent (take (budget * 16) table) budget
+evaluate-lent budget table h k = let l = part-long budget table k in record { room = omega arith; small = omega arith }
+
+module _ (image : List ℕ) (budget : ℕ) (table out : List ℕ) {a : m.Answer} where
+  pub evaluate-over : 4096 < budget → a ≡ answerOf (m.refused smallTable 0) → record { answer = a; output = out; table = table } ≡ evaluateJob image budget table out
+  unfolding evaluateJob
+  evaluate-over h e = over budget table out (evaluateEnding image budget (length out)) h e
+
+  pub evaluate-few : length table < budget * 16 → a ≡ answerOf (m.refused smallTable 0) → record { answer = a; output = out; table = table } ≡ evaluateJob image budget table out
+  unfolding evaluateJob
+  evaluate-few h e = few-words budget table out (evaluateEnding image budget (length out)) h e
+
+  pub evaluate-ended : (p : List ℕ) {t′ out′ : List ℕ} {e : Ending} → budget ≤ 4096 → budget * 16 ≤ length table → length p ≡ length (take (budget * 16) table) → t′ ≡ cleared budget (p ++ drop (budget * 16) table)
+      → EndsAs (evaluateEnding image budget (length out)) out out′ e → a ≡ answerFor e → record { answer = a; output = out′; table = t′ } ≡ evaluateJob image budget table out
+  unfolding evaluateJob
+  evaluate-ended p h k len c w e = ended budget table out (evaluateEnding image budget (length out)) h k p len c w e
+
+pub ruleset evaluate-laws = (part-long, ends-short, evaluate-lent, evaluate-over, evaluate-few, evaluate-ended)

@@ -1,0 +1,27 @@
+use Rattle.meirhuppa.proofs.Wholes.{answer-laws}
+use borrow.Author.Needs.{needs}
+use Rattle.meirhuppa.proofs.writing.written.Statement.{statement}
+use Rattle.meirhuppa.proofs.writing.written.Tie as tie
+
+enum-known-ending : tie.Need-enum-known-ending
+enum-known-ending c = search (answer-laws, needs)
+
+code-requires : tie.Need-code-requires
+code-requires c κs = search (answer-laws, needs)
+
+enum-known-ending-2 : tie.Need-enum-known-ending-2
+enum-known-ending-2 c = search (answer-laws, needs)
+
+cast-t8 : tie.Need-cast-t8
+cast-t8 c = search (answer-laws, needs)
+
+returns : tie.Need-returns
+returns c = search (answer-laws, needs)
+
+returns-2 : tie.Need-returns-2
+returns-2 c = search (answer-laws, needs)
+
+pub written-spec : {M : Type 1} → statement M
+written-spec =
+    tie.close
+    (tie.spec enum-known-ending code-requires enum-known-ending-2 cast-t8 returns returns-2)

@@ -1,0 +1,29 @@
+// The job `evaluate`.
+use crate::answers::Answer;
+use crate::limits;
+use crate::writing;
+ghost use mathlib.Core.Path.{_≡_};
+ghost use Rattle.model.specs.Jobs.{evaluateJob};
+ghost use Rattle.meirhuppa.specs.Endings.{answerIs};
+
+// The image of the value of a tree image.
+#[no_mangle]
+pub extern "C" fn meirhuppa_evaluate(
+    image: &[u8],
+    budget: u32,
+    table: &mut [u32],
+    out: &mut [u8],
+) -> Answer
+    ensures { λ r. ⌜ record { answer = answerIs r; output = now (out .exit); table = now (table .exit) } ≡ evaluateJob (now (image .entry)) budget (now (table .entry)) (now (out .entry)) ⌝ }
+{
+    if limits::MOST_BUDGET < budget {
+        return writing::small_table();
+    }
+    let words = budget as usize * limits::WORDS_PER_UNIT;
+    if table.len() < words {
+        return writing::small_table();
+    }
+    let ending = evaluate_job::evaluate_work(out, image, &mut table[..words], budget);
+    table::clear(table, budget);
+    writing::written(ending)
+}
