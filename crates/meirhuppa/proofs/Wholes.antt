@@ -13,13 +13,14 @@ use mir.Val.{Fits}
 use Rattle.model.specs.Limits.{mostBudget, wordsPerUnit}
 use Rattle.model.specs.Refusals.{codeOf, smallTable}
 use Rattle.model.specs.Jobs as m
-use Rattle.model.specs.Jobs.{answerOf, outputAfter, cleared, budgetFits, lent, evaluateEnding, evaluateJob}
+use Rattle.model.specs.Jobs.{answerOf, outputAfter, cleared, budgetFits, lent, evaluateEnding, evaluateJob, expandEnding, expandJob}
 use Rattle.refusals.specs.declared.Refusal.{Refusal}
 use Rattle.refusals.specs.Refusing.{refusalOf}
 use Rattle.endings.specs.declared.Ending.{Ending}
 use Rattle.endings.specs.declared.Ending.the-variants.{Refused, Written}
 use Rattle.endings.specs.Ends.{EndsAs, refuses, writes}
 use Rattle.evaluate_job.specs.Judging as evaluate
+use Rattle.expand_job.specs.Loading as expand
 use Rattle.meirhuppa.specs.Endings.{answerIs}
 use Rattle.meirhuppa.specs.Written.{answerFor, Short, no-image, an-image}
 
@@ -115,3 +116,24 @@ module _ (image : List ℕ) (budget : ℕ) (table out : List ℕ) {a : m.Answer}
   evaluate-ended p h k len c w e = ended budget table out (evaluateEnding image budget (length out)) h k p len c w e
 
 pub ruleset evaluate-laws = (part-long, ends-short, evaluate-lent, evaluate-over, evaluate-few, evaluate-ended)
+
+-- ---- expand
+
+pub expand-lent : (budget : ℕ) (table : List ℕ) → budget ≤ 4096 → budget * 16 ≤ length table → expand.Lent (take (budget * 16) table) budget
+expand-lent budget table h k = let l = part-long budget table k in record { room = omega arith; small = omega arith }
+
+module _ (image : List ℕ) (ph budget : ℕ) (table out : List ℕ) {a : m.Answer} where
+  pub expand-over : 4096 < budget → a ≡ answerOf (m.refused smallTable 0) → record { answer = a; output = out; table = table } ≡ expandJob image ph budget table out
+  unfolding expandJob
+  expand-over h e = over budget table out (expandEnding image ph budget (length out)) h e
+
+  pub expand-few : length table < budget * 16 → a ≡ answerOf (m.refused smallTable 0) → record { answer = a; output = out; table = table } ≡ expandJob image ph budget table out
+  unfolding expandJob
+  expand-few h e = few-words budget table out (expandEnding image ph budget (length out)) h e
+
+  pub expand-ended : (p : List ℕ) {t′ out′ : List ℕ} {e : Ending} → budget ≤ 4096 → budget * 16 ≤ length table → length p ≡ length (take (budget * 16) table) → t′ ≡ cleared budget (p ++ drop (budget * 16) table)
+      → EndsAs (expandEnding image ph budget (length out)) out out′ e → a ≡ answerFor e → record { answer = a; output = out′; table = t′ } ≡ expandJob image ph budget table out
+  unfolding expandJob
+  expand-ended p h k len c w e = ended budget table out (expandEnding image ph budget (length out)) h k p len c w e
+
+pub ruleset expand-laws = (part-long, ends-short, expand-lent, expand-over, expand-few, expand-ended)

@@ -1,6 +1,7 @@
 // The library: the jobs of document 01, on lent byte images.
 pub mod answers;
 pub mod evaluate;
+pub mod expand;
 pub mod limits;
 pub mod resolve;
 pub mod writing;

@@ -1,0 +1,30 @@
+// The job `expand`.
+use crate::answers::Answer;
+use crate::limits;
+use crate::writing;
+ghost use mathlib.Core.Path.{_≡_};
+ghost use Rattle.model.specs.Jobs.{expandJob};
+ghost use Rattle.meirhuppa.specs.Endings.{answerIs};
+
+// A syntax image without macros, from one with macros, at a phase.
+#[no_mangle]
+pub extern "C" fn meirhuppa_expand(
+    image: &[u8],
+    phase: u32,
+    budget: u32,
+    table: &mut [u32],
+    out: &mut [u8],
+) -> Answer
+    ensures { λ r. ⌜ record { answer = answerIs r; output = now (out .exit); table = now (table .exit) } ≡ expandJob (now (image .entry)) phase budget (now (table .entry)) (now (out .entry)) ⌝ }
+{
+    if limits::MOST_BUDGET < budget {
+        return writing::small_table();
+    }
+    let words = budget as usize * limits::WORDS_PER_UNIT;
+    if table.len() < words {
+        return writing::small_table();
+    }
+    let ending = expand_job::expand_work(out, image, &mut table[..words], phase, budget);
+    table::clear(table, budget);
+    writing::written(ending)
+}
