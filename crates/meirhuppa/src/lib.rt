@@ -4,4 +4,4 @@ pub mod evaluate;
 pub mod expand;
 pub mod limits;
 pub mod resolve;
-pub mod writing;
+mod writing;

@@ -2,6 +2,8 @@
 use crate::columns;
 use crate::lines::Lines;
 use meirhuppa::answers::Answer;
+use meirhuppa::evaluate;
+use meirhuppa::expand;
 use meirhuppa::resolve;
 
 // The numbers at the head of a call; the last three are sizes.
@@ -17,6 +19,10 @@ pub struct Call {
 impl Call {
     pub const RESOLVE: u32 = 0;
 
+    pub const EXPAND: u32 = 1;
+
+    pub const EVALUATE: u32 = 3;
+
     pub const LAST_JOB: u32 = 3;
 }
 
@@ -29,6 +35,14 @@ enum Done {
 fn do_job(call: Call, image: &[u8], table: &mut [u32], output: &mut [u8]) -> Done {
     if call.job == Call::RESOLVE {
         let a = resolve::meirhuppa_resolve(image, call.phase, call.budget, table);
+        return Done::Now(a);
+    }
+    if call.job == Call::EXPAND {
+        let a = expand::meirhuppa_expand(image, call.phase, call.budget, table, output);
+        return Done::Now(a);
+    }
+    if call.job == Call::EVALUATE {
+        let a = evaluate::meirhuppa_evaluate(image, call.budget, table, output);
         return Done::Now(a);
     }
     Done::Later
