@@ -13,7 +13,7 @@ use mir.Val.{Fits}
 use Rattle.model.specs.Limits.{mostBudget, wordsPerUnit}
 use Rattle.model.specs.Refusals.{codeOf, smallTable}
 use Rattle.model.specs.Jobs as m
-use Rattle.model.specs.Jobs.{answerOf, outputAfter, cleared, budgetFits, lent, evaluateEnding, evaluateJob, expandEnding, expandJob}
+use Rattle.model.specs.Jobs.{answerOf, outputAfter, cleared, budgetFits, lent, evaluateEnding, evaluateJob, expandEnding, expandJob, parseEnding, parseJob}
 use Rattle.refusals.specs.declared.Refusal.{Refusal}
 use Rattle.refusals.specs.Refusing.{refusalOf}
 use Rattle.endings.specs.declared.Ending.{Ending}
@@ -21,6 +21,7 @@ use Rattle.endings.specs.declared.Ending.the-variants.{Refused, Written}
 use Rattle.endings.specs.Ends.{EndsAs, refuses, writes}
 use Rattle.evaluate_job.specs.Judging as evaluate
 use Rattle.expand_job.specs.Loading as expand
+use Rattle.parse_job.specs.Judging as parse
 use Rattle.meirhuppa.specs.Endings.{answerIs}
 use Rattle.meirhuppa.specs.Written.{answerFor, Short, no-image, an-image}
 
@@ -137,3 +138,24 @@ module _ (image : List ℕ) (ph budget : ℕ) (table out : List ℕ) {a : m.Answ
   expand-ended p h k len c w e = ended budget table out (expandEnding image ph budget (length out)) h k p len c w e
 
 pub ruleset expand-laws = (part-long, ends-short, expand-lent, expand-over, expand-few, expand-ended)
+
+-- ---- parse
+
+pub parse-lent : (budget : ℕ) (table : List ℕ) → budget ≤ 4096 → budget * 16 ≤ length table → parse.Lent (take (budget * 16) table) budget
+parse-lent budget table h k = let l = part-long budget table k in record { room = omega arith; small = omega arith }
+
+module _ (image : List ℕ) (budget : ℕ) (table out : List ℕ) {a : m.Answer} where
+  pub parse-over : 4096 < budget → a ≡ answerOf (m.refused smallTable 0) → record { answer = a; output = out; table = table } ≡ parseJob image budget table out
+  unfolding parseJob
+  parse-over h e = over budget table out (parseEnding image budget (length out)) h e
+
+  pub parse-few : length table < budget * 16 → a ≡ answerOf (m.refused smallTable 0) → record { answer = a; output = out; table = table } ≡ parseJob image budget table out
+  unfolding parseJob
+  parse-few h e = few-words budget table out (parseEnding image budget (length out)) h e
+
+  pub parse-ended : (p : List ℕ) {t′ out′ : List ℕ} {e : Ending} → budget ≤ 4096 → budget * 16 ≤ length table → length p ≡ length (take (budget * 16) table) → t′ ≡ cleared budget (p ++ drop (budget * 16) table)
+      → EndsAs (parseEnding image budget (length out)) out out′ e → a ≡ answerFor e → record { answer = a; output = out′; table = t′ } ≡ parseJob image budget table out
+  unfolding parseJob
+  parse-ended p h k len c w e = ended budget table out (parseEnding image budget (length out)) h k p len c w e
+
+pub ruleset parse-laws = (part-long, ends-short, parse-lent, parse-over, parse-few, parse-ended)

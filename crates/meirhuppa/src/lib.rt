@@ -3,5 +3,6 @@ pub mod answers;
 pub mod evaluate;
 pub mod expand;
 pub mod limits;
+pub mod parse;
 pub mod resolve;
 mod writing;

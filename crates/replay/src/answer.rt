@@ -4,6 +4,7 @@ use crate::lines::Lines;
 use meirhuppa::answers::Answer;
 use meirhuppa::evaluate;
 use meirhuppa::expand;
+use meirhuppa::parse;
 use meirhuppa::resolve;
 
 // The numbers at the head of a call; the last three are sizes.
@@ -20,6 +21,8 @@ impl Call {
     pub const RESOLVE: u32 = 0;
 
     pub const EXPAND: u32 = 1;
+
+    pub const PARSE: u32 = 2;
 
     pub const EVALUATE: u32 = 3;
 
@@ -39,6 +42,10 @@ fn do_job(call: Call, image: &[u8], table: &mut [u32], output: &mut [u8]) -> Don
     }
     if call.job == Call::EXPAND {
         let a = expand::meirhuppa_expand(image, call.phase, call.budget, table, output);
+        return Done::Now(a);
+    }
+    if call.job == Call::PARSE {
+        let a = parse::meirhuppa_parse(image, call.budget, table, output);
         return Done::Now(a);
     }
     if call.job == Call::EVALUATE {

@@ -1,0 +1,29 @@
+// The job `parse`.
+use crate::answers::Answer;
+use crate::limits;
+use crate::writing;
+ghost use mathlib.Core.Path.{_≡_};
+ghost use Rattle.model.specs.Jobs.{parseJob};
+ghost use Rattle.meirhuppa.specs.Endings.{answerIs};
+
+// The tree image of an expanded syntax image.
+#[no_mangle]
+pub extern "C" fn meirhuppa_parse(
+    image: &[u8],
+    budget: u32,
+    table: &mut [u32],
+    out: &mut [u8],
+) -> Answer
+    ensures { λ r. ⌜ record { answer = answerIs r; output = now (out .exit); table = now (table .exit) } ≡ parseJob (now (image .entry)) budget (now (table .entry)) (now (out .entry)) ⌝ }
+{
+    if limits::MOST_BUDGET < budget {
+        return writing::small_table();
+    }
+    let words = budget as usize * limits::WORDS_PER_UNIT;
+    if table.len() < words {
+        return writing::small_table();
+    }
+    let ending = parse_job::parse_work(out, image, &mut table[..words], budget);
+    table::clear(table, budget);
+    writing::written(ending)
+}
