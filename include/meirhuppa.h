@@ -1,0 +1,83 @@
+/* Meirhuppa: the macro expander of document 01, as a library.
+ *
+ * Four jobs on lent byte images. Each answers with a code (0 is success), the units charged, a name (resolve only) and the length of the
+ * image that it wrote. No job keeps anything, allocates anything or fails in any other way: every image, phase, budget and buffer gets an
+ * answer, and the work ends.
+ *
+ * The caller's duties, which nothing here can check:
+ *  - every pointer is good for as many elements as its length says (a length of 0 still wants a pointer that is not null);
+ *  - image, table and output do not overlap;
+ *  - no other thread touches them during the call.
+ *
+ * The table is working memory, at least 16 words per unit of budget. After MEIRHUPPA_SMALL_TABLE it is untouched; after every other answer its
+ * first 16 * budget words are 0 and the rest untouched. A refusal leaves the output untouched; success writes the image from its start and
+ * touches no byte after it.
+ */
+#ifndef MEIRHUPPA_H
+#define MEIRHUPPA_H
+
+#include <stddef.h>
+#include <stdint.h>
+
+#ifdef __cplusplus
+extern "C" {
+#endif
+
+typedef struct meirhuppa_answer {
+    uint32_t code;   /* 0, or one of the refusals below */
+    uint32_t units;  /* charged; before a refusal, those charged before it */
+    uint32_t name;   /* of a successful resolve, else 0 */
+    uint32_t length; /* of the image written, else 0 */
+} meirhuppa_answer;
+
+enum meirhuppa_code {
+    MEIRHUPPA_SUCCESS = 0,
+    MEIRHUPPA_LAYOUT = 1,            /* the image breaks the layout */
+    MEIRHUPPA_OVER_LIMIT = 2,        /* a count, value or nesting is over its limit */
+    MEIRHUPPA_UNOWNED = 3,           /* evaluate: a variable of the tree, outside syntax values, has no enclosing function of its name */
+    MEIRHUPPA_WRONG_KIND = 4,        /* the kind is 1 or 2 but not the job's (2 for evaluate, 1 for the others) */
+    MEIRHUPPA_SMALL_TABLE = 5,       /* budget over 4,096, or fewer than 16 table words per unit of budget */
+    MEIRHUPPA_AMBIGUOUS = 6,         /* several bindings fit and none contains the others */
+    MEIRHUPPA_NO_MEANING = 7,        /* expand: an identifier in expression place whose name has no meaning */
+    MEIRHUPPA_NO_RULE = 8,           /* a form with no rule */
+    MEIRHUPPA_NO_SYNTAX = 9,         /* a macro use evaluates to no syntax object */
+    MEIRHUPPA_NOT_APPLICABLE = 10,   /* applied value is no function or primitive, or the argument count is wrong */
+    MEIRHUPPA_WRONG_ARGUMENT = 11,   /* a primitive's argument is of the wrong kind */
+    MEIRHUPPA_NO_PHASE = 12,         /* phase over 2 */
+    MEIRHUPPA_NO_NAME_LEFT = 13,     /* no name left */
+    MEIRHUPPA_NO_SCOPE_LEFT = 14,    /* no scope left */
+    MEIRHUPPA_NO_BINDING_LEFT = 15,  /* no binding room left */
+    MEIRHUPPA_BOUND_ALREADY = 16,    /* the binder's symbol and set are bound already */
+    MEIRHUPPA_TOO_DEEP = 17,         /* something made has nesting over 64 */
+    MEIRHUPPA_TOO_MANY_ENTRIES = 18, /* a 129th entry in progress */
+    MEIRHUPPA_OVER_BUDGET = 19,      /* a charge is larger than what remains */
+    MEIRHUPPA_TOO_LONG = 20          /* the result is longer than the output or 65,536 bytes */
+};
+
+enum {
+    MEIRHUPPA_MOST_BUDGET = 4096,
+    MEIRHUPPA_WORDS_PER_UNIT = 16,
+    MEIRHUPPA_MOST_IMAGE = 65536
+};
+
+/* The name of the identifier that a syntax image holds, at a phase. */
+meirhuppa_answer meirhuppa_resolve(const uint8_t *image, size_t image_length, uint32_t phase, uint32_t budget,
+                                   uint32_t *table, size_t table_words);
+
+/* A syntax image without macros, from one with macros, at a phase. */
+meirhuppa_answer meirhuppa_expand(const uint8_t *image, size_t image_length, uint32_t phase, uint32_t budget,
+                                  uint32_t *table, size_t table_words, uint8_t *output, size_t output_length);
+
+/* The tree image of an expanded syntax image. */
+meirhuppa_answer meirhuppa_parse(const uint8_t *image, size_t image_length, uint32_t budget,
+                                 uint32_t *table, size_t table_words, uint8_t *output, size_t output_length);
+
+/* The image of the value of a tree image. */
+meirhuppa_answer meirhuppa_evaluate(const uint8_t *image, size_t image_length, uint32_t budget,
+                                    uint32_t *table, size_t table_words, uint8_t *output, size_t output_length);
+
+#ifdef __cplusplus
+}
+#endif
+
+#endif
