@@ -5,7 +5,8 @@ use mathlib.Core.List.{List, [], _∷_}
 use Prim.Native.Nat.{ℕ, zero, suc, _+_, _-_, _*_, _≤_, _<_}
 use native.Mathlib.Omega.{arith}
 use lib.Dec.{leb}
-use lib.ListN.{length, drop, getD}
+use lib.ListN.{length, drop, getD, length-drop, length-set}
+use lib.Seq.{drop-drop}
 use borrow.Author.Tests.{leb-true}
 use Rattle.model.specs.Limits.{mostBindings}
 use Rattle.model.specs.Refusals as m
@@ -130,70 +131,104 @@ more-step c k p s = ap (next (readOne c s)) (λ j b t. next (need layout (bindBe
     same b (got r v) = refl
     same b (fault e) = refl
 
-pub more-none : {c : Counts} {s : List ℕ} {at : Cursor} {p : Bind} {i n : ℕ} {l : List ℕ} → i ≡ n
-    → MoreRead c s (at .at + length s) p i n l l (place.At at)
-unfolding readMore bindsFrom
-more-none {c} {s} {at} {p} {i} {n} {l} e =
-    let z : n - i ≡ 0 = omega arith in
-    let q : at .at + length s - length s ≡ at .at = omega arith in
-    record {
-      kept = λ k h. refl;
-      place = rw (z, q);
-      held = rw z (λ b rest f. let d : _≡_ {A = List Bind} [] b = cc in d);
-    }
+-- the ones before place k stand in the store, q the last of them: with the rest read behind q, all are read behind p
+pub record Midway (c : Counts) (s : List ℕ) (at : ℕ) (p : Bind) (i n : ℕ) (was : List ℕ) (here k : ℕ) (q : Bind) (now : List ℕ) : Type 0 where
+  pub moved : at ≤ here
+  pub within : here ≤ at + length s
+  pub inside : k ≤ n
+  pub long : length now ≡ length was
+  pub rest : (l : List ℕ) (r : Place) → MoreRead c (drop (here - at) s) (at + length s) q k n now l r → MoreRead c s (at + length s) p i n was l r
 
-module _ (c : Counts) (s : List ℕ) (at : ℕ) (p : Bind) (i n : ℕ) (l : List ℕ) (inside : i ≤ n) (other : i ≡ n → ⊥) {b : Bind} {q : Place}
-    (h : record { value = b; end = q } ≡ seenAt noBind (at + length s) (readOne c s)) where
-  step-here : readMore c (n - i) p s
-      ≡ next (readOne c s) (λ d t. next (need layout (bindBefore p d) t) (λ x u. onto d (readMore c (n - (i + 1)) d u)))
-  step-here =
-      let e : n - i ≡ suc (n - (i + 1)) = omega arith in
-      ap (λ (k : ℕ). readMore c k p s) e ∙ more-step c (n - (i + 1)) p s
+pub more-start : {c : Counts} {s : List ℕ} {at : ℕ} {p : Bind} {i n : ℕ} {l : List ℕ} → i ≤ n → Midway c s at p i n l at i p l
+more-start {at = at} h =
+    let e : at - at ≡ 0 = omega arith in
+    record { moved = omega arith; within = omega arith; inside = h; long = refl; rest = λ l r w. rw e at w }
 
-  -- nothing is stored where there is a fault
-  refusing : {f : Refusal} → readMore c (n - i) p s ≡ fault (refusalOf f) → MoreRead c s (at + length s) p i n l l (place.Fault f)
-  refusing {f} e = record {
-    kept = λ k d. refl;
-    place = place-fault (at + length s) (readMore c (n - i) p s) e;
-    held = λ d rest g. let z : _≡_ {A = Read (List Bind)} (fault (refusalOf f)) (got d rest) = sym e ∙ g in let y : _≡_ {A = ℕ} 0 1 = cc in absurd (omega arith);
-  }
+module _ {c : Counts} {s : List ℕ} {at : ℕ} {p : Bind} {i n : ℕ} {was : List ℕ} {here k : ℕ} {q : Bind} {now : List ℕ} (m : Midway c s at p i n was here k q now) where
+  pub more-none : {end : Cursor} → here ≡ end .at → n ≤ k → MoreRead c s (at + length s) p i n was now (place.At end)
+  unfolding readMore bindsFrom
+  more-none {end} e h =
+      let z : n - k ≡ 0 = omega arith in
+      let d : at + length s - length (drop (here - at) s) ≡ end .at = omega (arith, length-drop (here - at) s) in
+      m .rest now (place.At end) (record {
+        kept = λ j x. refl;
+        place = rw (z, d);
+        held = rw z (λ b rest f. let y : _≡_ {A = List Bind} [] b = cc in y);
+      })
 
-  pub more-stops : {f : Refusal} → q ≡ place.Fault f → MoreRead c s (at + length s) p i n l l (place.Fault f)
-  more-stops e = refusing (step-here ∙ rw (seen-refused noBind (at + length s) (readOne c s) h e))
+  module _ {u : List ℕ} (j : u ≡ drop (here - at) s) where
+    same-end : here + length u ≡ at + length s
+    same-end = omega (arith, ap length j ∙ length-drop (here - at) s)
 
-  module _ {past : Cursor} (e : q ≡ place.At past) where
-    there : Took at s (readOne c s) b (past .at)
-    there = took (seen-shape noBind) h (whole noBind at s (readOne c s) h e (one-tail c s)) (one-tail c s)
+    pub more-fits : {most : ℕ} → at + length s ≤ most → here + length u ≤ most
+    more-fits h = rw same-end h
 
-    pub more-disorder : {t : Bool} → t ≡ bindBefore p b → t ≡ false → MoreRead c s (at + length s) p i n l l (place.Fault Layout)
-    more-disorder d f = refusing (step-here ∙ rw (there .is, sym d ∙ f))
+    module _ (some : k < n) {b : Bind} {o : Place} (h : record { value = b; end = o } ≡ seenAt noBind (here + length u) (readOne c u)) where
+      step-here : readMore c (n - k) q u
+          ≡ next (readOne c u) (λ d t. next (need layout (bindBefore q d) t) (λ x v. onto d (readMore c (n - (k + 1)) d v)))
+      step-here =
+          let e : n - k ≡ suc (n - (k + 1)) = omega arith in
+          ap (λ (y : ℕ). readMore c y q u) e ∙ more-step c (n - (k + 1)) q u
 
-    module _ {u : List ℕ} (j : u ≡ drop (past .at - at) s) {t : Bool} (d : t ≡ bindBefore p b) (f : t ≡ true) where
-      on : readMore c (n - i) p s ≡ onto b (readMore c (n - (i + 1)) b u)
-      on = step-here ∙ rw (there .is, sym d ∙ f, ← j)
+      -- nothing is stored where there is a fault
+      refusing : {f : Refusal} → readMore c (n - k) q u ≡ fault (refusalOf f) → MoreRead c s (at + length s) p i n was now (place.Fault f)
+      refusing {f} e =
+          let g : readMore c (n - k) q (drop (here - at) s) ≡ fault (refusalOf f) = rw j at e in
+          m .rest now (place.Fault f) (record {
+            kept = λ y d. refl;
+            place = place-fault (at + length s) (readMore c (n - k) q (drop (here - at) s)) g;
+            held = λ d rest x. let z : _≡_ {A = Read (List Bind)} (fault (refusalOf f)) (got d rest) = sym g ∙ x in let y : _≡_ {A = ℕ} 0 1 = cc in absurd (omega arith);
+          })
 
-      same-end : past .at + length u ≡ at + length s
-      same-end = rw j (there .ends)
+      pub more-stops : {f : Refusal} → o ≡ place.Fault f → MoreRead c s (at + length s) p i n was now (place.Fault f)
+      more-stops e = refusing (step-here ∙ rw (seen-refused noBind (here + length u) (readOne c u) h e))
 
-      pub more-goes : {l1 l2 : List ℕ} {r : Place} → (l1 ≡ written l i b) × (bindAt l1 i ≡ b) → MoreRead c u (past .at + length u) b (i + 1) n l1 l2 r
-          → MoreRead c s (at + length s) p i n l l2 r
-      more-goes {l1} {l2} {r} g w = record {
-        kept = λ k x. w .kept k (omega arith) ∙ ap (λ (y : List ℕ). getD y k 0) (g .0) ∙ below k x;
-        place =
-            w .place ∙ ap (λ (z : ℕ). placeAt z (readMore c (n - (i + 1)) b u)) same-end
-            ∙ sym (place-onto (at + length s) b (readMore c (n - (i + 1)) b u))
-            ∙ ap (placeAt (at + length s)) (sym on);
-        held = λ bs rest x.
-            let y : Onto b (readMore c (n - (i + 1)) b u) bs = onto-got b (readMore c (n - (i + 1)) b u) bs rest (sym on ∙ x) in
-            run-step l2 n i (omega arith) ∙ ap₂ (λ (k : Bind) (m : List Bind). k ∷ m) first (w .held (y .others) (y .rest) (y .read)) ∙ sym (y .is);
-      }
-        where
-          below : (k : ℕ) → k < i * 3 → getD (written l i b) k 0 ≡ getD l k 0
-          below k x = written-other l i b k (λ z. omega arith) (λ z. omega arith) (λ z. omega arith)
+      module _ {past : Cursor} (e : o ≡ place.At past) {t : Bool} (d : t ≡ bindBefore q b) where
+        there : Took here u (readOne c u) b (past .at)
+        there = took (seen-shape noBind) h (whole noBind here u (readOne c u) h e (one-tail c u)) (one-tail c u)
 
-          first : bindAt l2 i ≡ b
-          first =
-              same-bind l2 l1 i i (λ k x. w .kept (i * 3 + k) (omega arith)) ∙ g .1
+        pub more-disorder : t ≡ false → MoreRead c s (at + length s) p i n was now (place.Fault Layout)
+        more-disorder f = refusing (step-here ∙ rw (there .is, sym d ∙ f))
+
+        module _ (f : t ≡ true) {now1 : List ℕ} (g : (now1 ≡ written now k b) × (bindAt now1 k ≡ b)) where
+          behind : drop (past .at - here) u ≡ drop (past .at - at) s
+          behind =
+              let T = there in
+              let v : here - at + (past .at - here) ≡ past .at - at = omega arith in
+              rw (j, drop-drop, v)
+
+          on : readMore c (n - k) q (drop (here - at) s) ≡ onto b (readMore c (n - (k + 1)) b (drop (past .at - at) s))
+          on = ap (readMore c (n - k) q) (sym j) ∙ step-here ∙ rw (there .is, sym d ∙ f, behind)
+
+          goes-on : {l : List ℕ} {r : Place} → MoreRead c (drop (past .at - at) s) (at + length s) b (k + 1) n now1 l r
+              → MoreRead c (drop (here - at) s) (at + length s) q k n now l r
+          goes-on {l} {r} w = record {
+            kept = λ y x. w .kept y (omega arith) ∙ ap (λ (z : List ℕ). getD z y 0) (g .0) ∙ below y x;
+            place =
+                w .place ∙ sym (place-onto (at + length s) b (readMore c (n - (k + 1)) b (drop (past .at - at) s)))
+                ∙ ap (placeAt (at + length s)) (sym on);
+            held = λ bs rest x.
+                let y = onto-got b (readMore c (n - (k + 1)) b (drop (past .at - at) s)) bs rest (sym on ∙ x) in
+                run-step l n k some ∙ ap₂ (λ (z : Bind) (v : List Bind). z ∷ v) first (w .held (y .others) (y .rest) (y .read)) ∙ sym (y .is);
+          }
+            where
+              below : (y : ℕ) → y < k * 3 → getD (written now k b) y 0 ≡ getD now y 0
+              below y x = written-other now k b y (λ z. omega arith) (λ z. omega arith) (λ z. omega arith)
+
+              first : bindAt l k ≡ b
+              first = same-bind l now1 k k (λ y x. w .kept (k * 3 + y) (omega arith)) ∙ g .1
+
+          pub more-goes : Midway c s at p i n was (past .at) (k + 1) b now1
+          more-goes =
+              let T = there in
+              let z = same-end in
+              record {
+                moved = omega arith;
+                within = omega arith;
+                inside = omega arith;
+                long = ap length (g .0) ∙ simp length-set (m .long);
+                rest = λ l r w. m .rest l r (goes-on w);
+              }
 
 -- ---- all of them
 
@@ -321,4 +356,6 @@ module _ (c : Counts) (s : List ℕ) (at : ℕ) {r : Number} (h : r ≡ numberAt
           ap₂ (λ (b : List Bind) (d : Cursor). record { value = b; end = place.At d }) (w .held (y .all) (y .rest) (y .read)) z
           ∙ ap (seenAt [] (at + length s)) (sym (from-count ∙ y .read))
 
-pub ruleset loading-laws = (no-binding, one-tail, target-stops, set-stops, set-gives, one-stops, one-goes, more-none, more-stops, more-disorder, more-goes, some-none, some-stops, some-goes, all-stops, all-few, all-withheld, all-given)
+pub ruleset loading-laws = (no-binding, one-tail, target-stops, set-stops, set-gives, one-stops, one-goes, some-none, some-stops, some-goes, all-stops, all-few, all-withheld, all-given)
+
+pub ruleset more-laws = (more-start, more-none, more-fits, more-stops, more-disorder, more-goes)

@@ -103,22 +103,28 @@ fn read_more(
     requires held { ⌜ (i ≤ count) × (count * 3 ≤ length (now store)) ⌝ }
     ensures { λ r. ⌜ MoreRead counts (now (s .entry)) (c .at + length (now (s .entry))) (bindOf last) i count (now (store .entry)) (now (store .exit)) r ⌝ }
 {
-    if i == count {
-        return Place::At(c);
-    }
-    let read = read_binding(c, s, counts);
-    let b = read.binding;
-    let end = read.end;
-    match end {
-        Place::At(past) => {
-            if last.before(b) {
-                bindings::put(store, i, b);
-                return read_more(past, c.after(s, past), counts, store, i + 1, count, b);
+    let mut here = c;
+    let mut k = i;
+    let mut prior = last;
+    while k < count {
+        let read = read_binding(here, c.after(s, here), counts);
+        let b = read.binding;
+        let end = read.end;
+        match end {
+            Place::At(past) => {
+                if prior.before(b) {
+                    bindings::put(store, k, b);
+                    here = past;
+                    prior = b;
+                    k += 1;
+                } else {
+                    return Place::Fault(Refusal::Layout);
+                }
             }
-            Place::Fault(Refusal::Layout)
+            Place::Fault(f) => return Place::Fault(f),
         }
-        Place::Fault(f) => Place::Fault(f),
     }
+    Place::At(here)
 }
 
 // So many bindings, into the store from its start.
