@@ -27,13 +27,12 @@ use Rattle.numbers.specs.declared.Place.{Place}
 use Rattle.numbers.specs.declared.Place.the-variants as place
 use Rattle.numbers.specs.Answers.{answerAt, numberAt, placed, placeAt, kept}
 use Rattle.numbers.proofs.Tails.{Tail, tail-give, tail-next, tail-need, num-tail}
-use Rattle.numbers.proofs.Reading.{one-less}
-use Rattle.numbers.proofs.Answering.{answering, number-shape, Took, took, refused, stops, gives, refuses}
+use Rattle.numbers.proofs.Answering.{number-shape, Took, took, refused, stops, gives, refuses}
 use Rattle.words.specs.Section.{wordLength, mayStand, Passed, no-word, one-word, seenAfter, Old, Stands, Midway, WordsRead}
 
 -- ---- a word's length
 
-pub length-tail : (s : List ℕ) → Tail s (wordLength s)
+length-tail : (s : List ℕ) → Tail s (wordLength s)
 unfolding wordLength
 length-tail s =
     tail-next _ (num-tail s) (λ k t. tail-next _ (tail-need layout (not (eqb k 0)) t) (λ x u.
@@ -69,33 +68,23 @@ most-kept (got k v) {n} {u} e = go (eqb k 0) (leb k 32) refl e
     go false true q f = let i : k ≡ n = cc in let l = leb-true k 32 q in omega arith
     go false false q f = let z : _≡_ {A = ℕ} 0 1 = cc in absurd (omega arith)
 
-pub length-most : (s : List ℕ) {u : List ℕ} {n : ℕ} → wordLength s ≡ got n u → n ≤ 32
+length-most : (s : List ℕ) {u : List ℕ} {n : ℕ} → wordLength s ≡ got n u → n ≤ 32
 unfolding wordLength mostWordLength
 length-most s e = most-kept (num s) e
-
-pub end-fits : (at : ℕ) (s : List ℕ) {r : Number} {n : ℕ} {past : Cursor} → r ≡ numberAt (at + length s) (wordLength s) → r ≡ number.Read n past
-    → at + length s ≤ 65536 → Fits w64 (past .at + n)
-end-fits at s {n = n} {past = past} h e l =
-    let T : Took at s (wordLength s) n (past .at) = took number-shape h e (length-tail s) in
-    omega (arith, T .within, length-most s (T .is))
-
-pub end-fits-first : (s : List ℕ) {r : Number} {n : ℕ} {past : Cursor} → r ≡ numberAt (0 + length s) (wordLength s) → r ≡ number.Read n past
-    → length s ≤ 65536 → Fits w64 (past .at + n)
-end-fits-first s h e l = end-fits 0 s h e (omega arith)
 
 pub ruleset length-laws = (length-stops, length-none, length-over, length-is)
 
 -- ---- the words passed
 
 -- the first of them, where its length was read
-pub record First (k n : ℕ) (ws : List (List ℕ)) (u rest : List ℕ) : Type 0 where
-  pub others : List (List ℕ)
-  pub is : ws ≡ take n u ∷ others
-  pub fits : n ≤ length u
-  pub behind : Passed (k - 1) others (drop n u) rest
+record First (k n : ℕ) (ws : List (List ℕ)) (u rest : List ℕ) : Type 0 where
+  others : List (List ℕ)
+  is : ws ≡ take n u ∷ others
+  fits : n ≤ length u
+  behind : Passed (k - 1) others (drop n u) rest
 
-pub first-passed : {k n : ℕ} {ws : List (List ℕ)} {s u rest : List ℕ} → (k ≡ 0 → ⊥) → wordLength s ≡ got n u → Passed k ws s rest → First k n ws u rest
-first-passed some e no-word = absurd (some refl)
+first-passed : {k n : ℕ} {ws : List (List ℕ)} {s u rest : List ℕ} → 0 < k → wordLength s ≡ got n u → Passed k ws s rest → First k n ws u rest
+first-passed some e no-word = absurd (omega arith)
 first-passed {n = n} {u = u} some e (one-word {k = k} {n = n′} {ws = vs} {u = u′} q fits p) =
     let same : got n′ u′ ≡ got n u = sym q ∙ e in
     let i : n′ ≡ n = cc in
@@ -107,68 +96,91 @@ first-passed {n = n} {u = u} some e (one-word {k = k} {n = n′} {ws = vs} {u = 
 part : (from to : ℕ) (s : List ℕ) (n : ℕ) → to ≡ from + n → take (to - from) (drop from s) ≡ take n (drop from s)
 part from to s n e = let d : to - from ≡ n = omega arith in ap (λ (k : ℕ). take k (drop from s)) d
 
-tail-part : (from to : ℕ) (s : List ℕ) (n : ℕ) → to ≡ from + n → take (length s - to) (drop to s) ≡ drop n (drop from s)
-tail-part from to s n e =
-    take-all (length s - to) (drop to s) (rw length-drop (le-refl (length s - to)))
-    ∙ ap (λ (k : ℕ). drop k s) e ∙ sym (drop-drop n from s)
+to-end : (at : ℕ) (s : List ℕ) → take (length s - at) (drop at s) ≡ drop at s
+to-end at s = take-all (length s - at) (drop at s) (rw length-drop (le-refl (length s - at)))
 
-none-passed : {k : ℕ} {ws : List (List ℕ)} {s rest : List ℕ} (w : List ℕ) → k ≡ 0 → Passed k ws s rest → false ≡ among w ws
+-- a word's length, read at a place
+module _ (s : List ℕ) (at : ℕ) (inside : at ≤ length s) {r : Number}
+    (h : r ≡ numberAt (at + length (take (length s - at) (drop at s))) (wordLength (take (length s - at) (drop at s)))) where
+  answered : r ≡ numberAt (at + length (drop at s)) (wordLength (drop at s))
+  answered = subst (λ (l : List ℕ). r ≡ numberAt (at + length l) (wordLength l)) (to-end at s) h
+
+  not-there : {f : Refusal} → r ≡ number.Fault f → wordLength (drop at s) ≡ fault (refusalOf f)
+  not-there e = refused number-shape (at + length (drop at s)) (wordLength (drop at s)) answered e
+
+  module _ {n : ℕ} {past : Cursor} (e : r ≡ number.Read n past) where
+    T : Took at (drop at s) (wordLength (drop at s)) n (past .at)
+    T = took number-shape answered e (length-tail (drop at s))
+
+    there : wordLength (drop at s) ≡ got n (drop (past .at) s)
+    there =
+        let d : at + (past .at - at) ≡ past .at = omega (arith, T .moved) in
+        T .is ∙ ap (got n) (drop-drop (past .at - at) at s ∙ ap (λ (k : ℕ). drop k s) d)
+
+    within : past .at ≤ length s
+    within = omega (arith, T .within, length-drop at s)
+
+    pub end-fits : length s ≤ 65536 → Fits w64 (past .at + n)
+    end-fits small = omega (arith, within, length-most (drop at s) there)
+
+-- ---- whether a word is one of those passed
+
+none-passed : {k : ℕ} {ws : List (List ℕ)} {s rest : List ℕ} (w : List ℕ) → k ≤ 0 → Passed k ws s rest → false ≡ among w ws
 unfolding among
 none-passed w e no-word = refl
 none-passed w e (one-word q f p) = absurd (omega arith)
 
-never-passed : {k : ℕ} {ws : List (List ℕ)} {s rest : List ℕ} {f : m.Refusal} → (k ≡ 0 → ⊥) → wordLength s ≡ fault f → Passed k ws s rest → ⊥
-never-passed some g no-word = some refl
+never-passed : {k : ℕ} {ws : List (List ℕ)} {s rest : List ℕ} {f : m.Refusal} → 0 < k → wordLength s ≡ fault f → Passed k ws s rest → ⊥
+never-passed some g no-word = omega arith
 never-passed some g (one-word q x p) = let z : _≡_ {A = ℕ} 0 1 = cc in omega arith
 
-module _ (s : List ℕ) (k : ℕ) (w : List ℕ) where
-  pub old-none : k ≡ 0 → Old s k w false
-  old-none e = record { means = λ ws rest p. none-passed w e p }
+-- w was none of the words before `at`: it is one of the first k where it is one of the `left` from there on
+pub record Seeking (s : List ℕ) (k : ℕ) (w : List ℕ) (at left : ℕ) : Type 0 where
+  pub within : at ≤ length s
+  pub rest : (b : Bool) → Old (drop at s) left w b → Old s k w b
 
-  module _ (some : k ≡ 0 → ⊥) {r : Number} (h : r ≡ numberAt (0 + length s) (wordLength s)) where
+pub seeking-start : {s : List ℕ} {k : ℕ} {w : List ℕ} → Seeking s k w 0 k
+seeking-start = record { within = omega arith; rest = λ b o. o }
+
+module _ {s : List ℕ} {k : ℕ} {w : List ℕ} {at left : ℕ} (g : Seeking s k w at left) where
+  pub old-none : left ≤ 0 → Old s k w false
+  old-none e = g .rest false (record { means = λ ws rest p. none-passed w e p })
+
+  module _ (some : 0 < left) {r : Number}
+      (h : r ≡ numberAt (at + length (take (length s - at) (drop at s))) (wordLength (take (length s - at) (drop at s)))) where
     pub old-fault : {f : Refusal} → r ≡ number.Fault f → Old s k w false
-    old-fault e = record { means = λ ws rest p. absurd (never-passed some (refused number-shape (0 + length s) (wordLength s) h e) p) }
+    old-fault e = g .rest false (record { means = λ ws rest p. absurd (never-passed some (not-there s at (g .within) h e) p) })
 
-    module _ {n : ℕ} {past : Cursor} (e : r ≡ number.Read n past) where
-      here : wordLength s ≡ got n (drop (past .at) s)
-      here =
-          let T : Took 0 s (wordLength s) n (past .at) = took number-shape h e (length-tail s) in
-          let d : past .at - 0 ≡ past .at = omega arith in
-          T .is ∙ ap (λ (j : ℕ). got n (drop j s)) d
+    module _ {n : ℕ} {past : Cursor} (e : r ≡ number.Read n past) {to : ℕ} (ends : to ≡ past .at + n) where
+      first : {ws : List (List ℕ)} {rest : List ℕ} → Passed left ws (drop at s) rest → First left n ws (drop (past .at) s) rest
+      first p = first-passed some (there s at (g .within) h e) p
 
-      pub old-short : length s < past .at + n → Old s k w false
-      old-short l = record {
-        means = λ ws rest p.
-            let F = first-passed some here p in
-            let a : n ≤ length (drop (past .at) s) = F .fits in
-            let d = length-drop (past .at) s in
-            let T : Took 0 s (wordLength s) n (past .at) = took number-shape h e (length-tail s) in
-            absurd (omega (arith, T .within));
-      }
+      pub old-short : length s < to → Old s k w false
+      old-short l = g .rest false (record {
+        means = λ ws rest p. absurd (omega (arith, first p .fits, length-drop (past .at) s, within s at (g .within) h e));
+      })
 
-      module _ {to : ℕ} (ends : to ≡ past .at + n) {t : Bool} (q : t ≡ sameBytes w (take (to - past .at) (drop (past .at) s))) where
+      module _ {t : Bool} (q : t ≡ sameBytes w (take (to - past .at) (drop (past .at) s))) where
+        same : {b : Bool} → t ≡ b → sameBytes w (take n (drop (past .at) s)) ≡ b
+        same y = ap (sameBytes w) (sym (part (past .at) to s n ends)) ∙ sym q ∙ y
+
         pub old-here : t ≡ true → Old s k w true
         unfolding among
-        old-here y = record {
-          means = λ ws rest p.
-              let F = first-passed some here p in
-              let v : sameBytes w (take n (drop (past .at) s)) ≡ true = ap (sameBytes w) (sym (part (past .at) to s n ends)) ∙ sym q ∙ y in
-              rw (F .is) (rw v refl);
-        }
+        old-here y = g .rest true (record { means = λ ws rest p. rw (first p .is, same y) refl })
 
-        pub old-further : {b : Bool} → t ≡ false → Old (take (length s - to) (drop to s)) (k - 1) w b → Old s k w b
+        pub old-further : t ≡ false → to ≤ length s → Seeking s k w to (left - 1)
         unfolding among
-        old-further y o = record {
-          means = λ ws rest p.
-              let F = first-passed some here p in
-              let v : sameBytes w (take n (drop (past .at) s)) ≡ false = ap (sameBytes w) (sym (part (past .at) to s n ends)) ∙ sym q ∙ y in
-              let o′ : _ ≡ among w (F .others) = o .means (F .others) rest (subst (λ (l : List ℕ). Passed (k - 1) (F .others) l rest) (sym (tail-part (past .at) to s n ends)) (F .behind)) in
-              rw (F .is) (rw v o′);
+        old-further y l = record {
+          within = l;
+          rest = λ b o. g .rest b (record {
+            means = λ ws rest p.
+                let F = first p in
+                let d : drop n (drop (past .at) s) ≡ drop to s = rw (drop-drop, ← ends) in
+                rw (F .is, same y) (o .means (F .others) rest (rw d at (F .behind)));
+          });
         }
 
-pub ruleset old-laws = (old-none, old-fault, old-short, old-here, old-further)
-
-pub ruleset old = (old-laws, length-tail, end-fits-first, answering, one-less)
+pub ruleset old = (seeking-start, old-none, old-fault, old-short, old-here, old-further, end-fits)
 
 -- ---- whether a word may stand
 
@@ -240,9 +252,9 @@ length-then (got k v) j = go (not (eqb k 0)) (leb k 32)
     go true false = refl
     go false b = refl
 
-words-next : (left : ℕ) (seen : List (List ℕ)) (u : List ℕ) → (left ≡ 0 → ⊥) → readWords left seen u ≡ next (wordLength u) (afterLength (left - 1) seen)
+words-next : (left : ℕ) (seen : List (List ℕ)) (u : List ℕ) → 0 < left → readWords left seen u ≡ next (wordLength u) (afterLength (left - 1) seen)
 unfolding readWords wordLength mostWordLength afterLength mayStand
-words-next zero seen u some = absurd (some refl)
+words-next zero seen u some = absurd (omega arith)
 words-next (suc left) seen u some =
     let d : left ≡ suc left - 1 = omega arith in
     length-then (num u) (afterLength left seen) ∙ ap (λ (k : ℕ). next (wordLength u) (afterLength k seen)) d
@@ -251,7 +263,7 @@ kept-more : (w : List ℕ) (g : Read (List (List ℕ))) → kept (λ a. tt {0}) 
 kept-more w (got r q) = refl
 kept-more w (fault f) = refl
 
-module _ (left : ℕ) (seen : List (List ℕ)) (u : List ℕ) (some : left ≡ 0 → ⊥) where
+module _ (left : ℕ) (seen : List (List ℕ)) (u : List ℕ) (some : 0 < left) where
   words-fault : {f : m.Refusal} → wordLength u ≡ fault f → readWords left seen u ≡ fault f
   words-fault e = words-next left seen u some ∙ ap (λ (g : Read ℕ). next g (afterLength (left - 1) seen)) e
 
@@ -287,76 +299,70 @@ seen-more (v ∷ ws) seen w = seen-more ws (v ∷ seen) w
 
 -- ---- the words, by the tests that the code makes
 
-pub words-none : (s : List ℕ) (start at done left : ℕ) → left ≡ 0 → Midway s start at done left → WordsRead s start at done left (place.At (record { at = at }))
-unfolding readWords
-words-none s start at done left e m =
-    let d : length s - length (drop at s) ≡ at = rw length-drop (omega (arith, m .within)) in
-    record { means = λ ws p. rw (e, d) refl }
+-- `passed` words lie before `here` and `ahead` are to come: with those read, all are
+pub record Reading (s : List ℕ) (start at done left here passed ahead : ℕ) : Type 0 where
+  pub midway : Midway s start here passed ahead
+  pub rest : (r : Place) → WordsRead s start here passed ahead r → WordsRead s start at done left r
 
-module _ (s : List ℕ) (start at done left : ℕ) (m : Midway s start at done left) (some : left ≡ 0 → ⊥) {r : Number}
-    (h : r ≡ numberAt (at + length (take (length s - at) (drop at s))) (wordLength (take (length s - at) (drop at s)))) where
-  whole : take (length s - at) (drop at s) ≡ drop at s
-  whole = take-all (length s - at) (drop at s) (rw length-drop (le-refl (length s - at)))
+pub reading-start : {s : List ℕ} {start at done left : ℕ} → Midway s start at done left → Reading s start at done left at done left
+reading-start m = record { midway = m; rest = λ r w. w }
 
-  at-end : at + length (drop at s) ≡ length s
-  at-end = rw length-drop (omega (arith, m .within))
+module _ {s : List ℕ} {start at done left here passed ahead : ℕ} (g : Reading s start at done left here passed ahead) where
+  pub words-none : ahead ≤ 0 → WordsRead s start at done left (place.At (record { at = here }))
+  unfolding readWords
+  words-none e =
+      let z : ahead ≡ 0 = omega arith in
+      let d : length s - length (drop here s) ≡ here = rw length-drop (omega (arith, g .midway .within)) in
+      g .rest _ (record { means = λ ws p. rw (z, d) refl })
 
-  h′ : r ≡ numberAt (at + length (drop at s)) (wordLength (drop at s))
-  h′ = subst (λ (l : List ℕ). r ≡ numberAt (at + length l) (wordLength l)) whole h
+  module _ (some : 0 < ahead) {r : Number}
+      (h : r ≡ numberAt (here + length (take (length s - here) (drop here s))) (wordLength (take (length s - here) (drop here s)))) where
+    pub section-fault : {f : Refusal} → r ≡ number.Fault f → WordsRead s start at done left (place.Fault f)
+    section-fault {f} e =
+        let d : wordLength (drop here s) ≡ fault (refusalOf f) = not-there s here (g .midway .within) h e in
+        g .rest _ (record { means = λ ws p. rw (words-fault ahead (seenAfter ws coreWords) (drop here s) some d) (ap place.Fault (sym (case-back f))) })
 
-  pub section-fault : {f : Refusal} → r ≡ number.Fault f → WordsRead s start at done left (place.Fault f)
-  section-fault {f} e =
-      let g : wordLength (drop at s) ≡ fault (refusalOf f) = refused number-shape (at + length (drop at s)) (wordLength (drop at s)) h′ e in
-      record { means = λ ws p. rw (words-fault left (seenAfter ws coreWords) (drop at s) some g) (ap place.Fault (sym (case-back f))) }
+    module _ {n : ℕ} {past : Cursor} (e : r ≡ number.Read n past) {to : ℕ} (ends : to ≡ past .at + n) where
+      length-here : wordLength (drop here s) ≡ got n (drop (past .at) s)
+      length-here = there s here (g .midway .within) h e
 
-  module _ {n : ℕ} {past : Cursor} (e : r ≡ number.Read n past) where
-    T : Took at (drop at s) (wordLength (drop at s)) n (past .at)
-    T = took number-shape h′ e (length-tail (drop at s))
+      pub section-short : length s < to → WordsRead s start at done left (place.Fault Layout)
+      section-short l =
+          let k : length (drop (past .at) s) < n = omega (arith, length-drop (past .at) s, within s here (g .midway .within) h e) in
+          g .rest _ (record { means = λ ws p. rw (words-short ahead (seenAfter ws coreWords) (drop here s) some length-here k) refl })
 
-    there : wordLength (drop at s) ≡ got n (drop (past .at) s)
-    there =
-        let d : at + (past .at - at) ≡ past .at = omega (arith, T .moved) in
-        T .is ∙ ap (got n) (drop-drop (past .at - at) at s ∙ ap (λ (k : ℕ). drop k s) d)
+      module _ (fits : to ≤ length s) {b : Bool}
+          (hb : Stands (take (length s - start) (drop start s)) passed (take (to - past .at) (drop (past .at) s)) b) where
+        long : n ≤ length (drop (past .at) s)
+        long = rw length-drop (omega arith)
 
-    within : past .at ≤ length s
-    within = omega (arith, T .within, at-end)
+        judged : (ws : List (List ℕ)) → Passed passed ws (drop start s) (drop here s) → b ≡ mayStand (take n (drop (past .at) s)) (seenAfter ws coreWords)
+        judged ws p =
+            hb .means ws (drop here s) (subst (λ (l : List ℕ). Passed passed ws l (drop here s)) (sym (to-end start s)) p)
+            ∙ ap (λ (w : List ℕ). mayStand w (seenAfter ws coreWords)) (part (past .at) to s n ends)
 
-    pub section-end-fits : Fits w64 (past .at + n)
-    section-end-fits = omega (arith, within, m .small, length-most (drop at s) there)
+        pub section-bad : b ≡ false → WordsRead s start at done left (place.Fault Layout)
+        section-bad e′ = g .rest _ (record { means = λ ws p. rw (words-bad ahead (seenAfter ws coreWords) (drop here s) some length-here long (sym (judged ws p) ∙ e′)) refl })
 
-    pub section-short : {to : ℕ} → to ≡ past .at + n → length s < to → WordsRead s start at done left (place.Fault Layout)
-    section-short q l =
-        let d = length-drop (past .at) s in
-        let k : length (drop (past .at) s) < n = omega (arith, within) in
-        record { means = λ ws p. rw (words-short left (seenAfter ws coreWords) (drop at s) some there k) refl }
+        goes-on : {x : Place} → b ≡ true → WordsRead s start to (passed + 1) (ahead - 1) x → WordsRead s start here passed ahead x
+        goes-on {x} e′ w = record {
+          means = λ ws p.
+              let rest : drop n (drop (past .at) s) ≡ drop to s = rw (drop-drop, ← ends) in
+              let p′ : Passed (suc passed) (ws ++ (take n (drop (past .at) s) ∷ [])) (drop start s) (drop to s) = subst (λ (l : List ℕ). Passed (suc passed) (ws ++ (take n (drop (past .at) s) ∷ [])) (drop start s) l) rest (passed-more p length-here long) in
+              let a = w .means (ws ++ (take n (drop (past .at) s) ∷ [])) (subst (λ (k : ℕ). Passed k (ws ++ (take n (drop (past .at) s) ∷ [])) (drop start s) (drop to s)) (sym (add-one passed)) p′) in
+              let d = words-good ahead (seenAfter ws coreWords) (drop here s) some length-here long (sym (judged ws p) ∙ e′) in
+              a
+              ∙ ap (λ (seen : List (List ℕ)). placeAt (length s) (readWords (ahead - 1) seen (drop to s))) (seen-more ws coreWords (take n (drop (past .at) s)))
+              ∙ ap (λ (l : List ℕ). placeAt (length s) (readWords (ahead - 1) (take n (drop (past .at) s) ∷ seenAfter ws coreWords) l)) (sym rest)
+              ∙ sym (ap (λ (q : Read (Unit {0})). answerAt placed place.Fault (length s) q) d);
+        }
 
-    module _ {to : ℕ} (ends : to ≡ past .at + n) (fits : to ≤ length s) {b : Bool}
-        (hb : Stands (take (length s - start) (drop start s)) done (take (to - past .at) (drop (past .at) s)) b) where
-      long : n ≤ length (drop (past .at) s)
-      long = rw length-drop (omega arith)
+        pub section-good : b ≡ true → Reading s start at done left to (passed + 1) (ahead - 1)
+        section-good e′ =
+            let m = g .midway in
+            record {
+              midway = record { small = m .small; begins = m .begins; within = fits; most = omega arith };
+              rest = λ r w. g .rest r (goes-on e′ w);
+            }
 
-      judged : (ws : List (List ℕ)) → Passed done ws (drop start s) (drop at s) → b ≡ mayStand (take n (drop (past .at) s)) (seenAfter ws coreWords)
-      judged ws p =
-          let section : take (length s - start) (drop start s) ≡ drop start s = take-all (length s - start) (drop start s) (rw length-drop (le-refl (length s - start))) in
-          hb .means ws (drop at s) (subst (λ (l : List ℕ). Passed done ws l (drop at s)) (sym section) p)
-          ∙ ap (λ (w : List ℕ). mayStand w (seenAfter ws coreWords)) (part (past .at) to s n ends)
-
-      pub section-bad : b ≡ false → WordsRead s start at done left (place.Fault Layout)
-      section-bad e′ = record { means = λ ws p. rw (words-bad left (seenAfter ws coreWords) (drop at s) some there long (sym (judged ws p) ∙ e′)) refl }
-
-      pub section-good : {x : Place} → b ≡ true → WordsRead s start to (done + 1) (left - 1) x → WordsRead s start at done left x
-      section-good {x} e′ w = record {
-        means = λ ws p.
-            let rest : drop n (drop (past .at) s) ≡ drop to s = drop-drop n (past .at) s ∙ ap (λ (k : ℕ). drop k s) (sym ends) in
-            let p′ : Passed (suc done) (ws ++ (take n (drop (past .at) s) ∷ [])) (drop start s) (drop to s) = subst (λ (l : List ℕ). Passed (suc done) (ws ++ (take n (drop (past .at) s) ∷ [])) (drop start s) l) rest (passed-more p there long) in
-            let a = w .means (ws ++ (take n (drop (past .at) s) ∷ [])) (subst (λ (k : ℕ). Passed k (ws ++ (take n (drop (past .at) s) ∷ [])) (drop start s) (drop to s)) (sym (add-one done)) p′) in
-            let g = words-good left (seenAfter ws coreWords) (drop at s) some there long (sym (judged ws p) ∙ e′) in
-            a
-            ∙ ap (λ (seen : List (List ℕ)). placeAt (length s) (readWords (left - 1) seen (drop to s))) (seen-more ws coreWords (take n (drop (past .at) s)))
-            ∙ ap (λ (l : List ℕ). placeAt (length s) (readWords (left - 1) (take n (drop (past .at) s) ∷ seenAfter ws coreWords) l)) (sym rest)
-            ∙ sym (ap (λ (q : Read (Unit {0})). answerAt placed place.Fault (length s) q) g);
-      }
-
-pub ruleset section-laws = (words-none, section-end-fits, section-fault, section-short, section-bad, section-good)
-
-pub ruleset section = (section-laws, length-tail, answering, one-less)
+pub ruleset section = (reading-start, words-none, section-fault, section-short, section-bad, section-good, end-fits)

@@ -138,23 +138,26 @@ fn is_old(section: &[u8], k: u32, w: &[u8]) -> bool
     requires { ⌜ length (now section) ≤ 65536 ⌝ }
     ensures { λ r. ⌜ Old (now (section .entry)) k (now (w .entry)) r ⌝ }
 {
-    if k == 0 {
-        return false;
-    }
-    match word_length(Cursor { at: 0 }, section) {
-        Number::Read(n, past) => {
-            let from = past.at;
-            let to = from + n as usize;
-            if section.len() < to {
-                return false;
+    let mut at = 0;
+    let mut left = k;
+    while 0 < left {
+        match word_length(Cursor { at }, &section[at..]) {
+            Number::Read(n, past) => {
+                let from = past.at;
+                let to = from + n as usize;
+                if section.len() < to {
+                    return false;
+                }
+                if same_bytes(w, &section[from..to]) {
+                    return true;
+                }
+                at = to;
+                left -= 1;
             }
-            if same_bytes(w, &section[from..to]) {
-                return true;
-            }
-            is_old(&section[to..], k - 1, w)
+            Number::Fault(_) => return false,
         }
-        Number::Fault(_) => false,
     }
+    false
 }
 
 // Whether w may stand behind the first `done` words of the section.
@@ -180,21 +183,27 @@ pub fn read_words(s: &[u8], start: usize, at: usize, done: u32, left: u32) -> Pl
     requires { ⌜ Midway (now s) start at done left ⌝ }
     ensures { λ r. ⌜ WordsRead (now (s .entry)) start at done left r ⌝ }
 {
-    if left == 0 {
-        return Place::At(Cursor { at });
-    }
-    match word_length(Cursor { at }, &s[at..]) {
-        Number::Read(n, past) => {
-            let from = past.at;
-            let to = from + n as usize;
-            if s.len() < to {
-                return Place::Fault(Refusal::Layout);
+    let mut here = at;
+    let mut passed = done;
+    let mut ahead = left;
+    while 0 < ahead {
+        match word_length(Cursor { at: here }, &s[here..]) {
+            Number::Read(n, past) => {
+                let from = past.at;
+                let to = from + n as usize;
+                if s.len() < to {
+                    return Place::Fault(Refusal::Layout);
+                }
+                if may_stand(&s[start..], passed, &s[from..to]) {
+                    here = to;
+                    passed += 1;
+                    ahead -= 1;
+                } else {
+                    return Place::Fault(Refusal::Layout);
+                }
             }
-            if may_stand(&s[start..], done, &s[from..to]) {
-                return read_words(s, start, to, done + 1, left - 1);
-            }
-            Place::Fault(Refusal::Layout)
+            Number::Fault(f) => return Place::Fault(f),
         }
-        Number::Fault(f) => Place::Fault(f),
     }
+    Place::At(Cursor { at: here })
 }
