@@ -440,16 +440,26 @@ module _ {left : ℕ} {at : Context} {st st1 l l1 : List ℕ} (s : State) {c : �
   rest-refused e = record { means = λ x ps g u w y. stops _ (then-no _ (on-refused (v .means ps g w y) (ap ended e))) }
 
   module _ {o : Out} (e : a ≡ Done o) where
-    pub rest-link-ready : {i : ℕ} → ReadyRest l st s i c at → length l1 ≡ length l → Linkable l1 (o .state .top) i (o .at)
-    rest-link-ready r len =
-        let j = parts-gave s v e (r .pair .others) (r .pair .within .meant) (r .pair .shown-others) (r .pair .within .known) in
+    rest-gave : {i : ℕ} (r : ReadyRest l st s i c at) → Gave partsOf 0 0 l l1 s (bindsOf st1) (expandAll (entries left (at .phase) (r .pair .within .meant) (scopesOf (at .prunable))) (r .pair .others) (stateOf s (bindsOf st))) o
+    rest-gave r = parts-gave s v e (r .pair .others) (r .pair .within .meant) (r .pair .shown-others) (r .pair .within .known)
+
+    linkable : {i j : ℕ} {ts : Trees} → ReadyRest l st s i c at → length l1 ≡ length l → RepP l1 (o .state .top) j ts → Linkable l1 (o .state .top) i j
+    linkable {ts = ts} r len w =
+        let g = rest-gave r in
         record {
           thing = stx (r .pair .first);
-          others = fromStxs (j .value);
-          shown = carry (r .pair .shown) (j .later .kept) (j .later .grows);
-          shown-others = j .shown .rep;
-          room = record { fits = omega (arith, j .later .fits, r .cell, len); small = omega (arith, r .pair .within .room .small, len); low = omega (arith, r .pair .within .room .low, j .later .grows) };
+          others = ts;
+          shown = carry (r .pair .shown) (g .later .kept) (g .later .grows);
+          shown-others = w;
+          room = record { fits = omega (arith, g .later .fits, r .cell, len); small = omega (arith, r .pair .within .room .small, len); low = omega (arith, r .pair .within .room .low, g .later .grows) };
         }
+
+    pub rest-link-ready : {i : ℕ} → ReadyRest l st s i c at → length l1 ≡ length l → Linkable l1 (o .state .top) i (o .at)
+    rest-link-ready r len = linkable r len (rest-gave r .shown .rep)
+
+    -- The others as they were could be put there as well: code that copies them is refused for what it gives.
+    pub rest-copy-ready : {i : ℕ} → ReadyRest l st s i c at → length l1 ≡ length l → Linkable l1 (o .state .top) i c
+    rest-copy-ready r len = let g = rest-gave r in linkable r len (carryP (r .pair .shown-others) (g .later .kept) (g .later .grows))
 
     pub rest-linked : {i : ℕ} {l2 : List ℕ} {n : Made} {z : State} → Linked l1 l2 (o .state .top) i (o .at) (n .at) (n .top) → z ≡ raisedTo (n .top) (o .state)
         → ExpandedRest left at st st1 l l2 s i c (Done (record { at = n .at; state = z }))
@@ -1021,6 +1031,7 @@ pub ruleset laws = (
   rest-ready,
   rest-refused,
   rest-link-ready,
+  rest-copy-ready,
   rest-linked,
   scoped-add-ready,
   scoped-refused,
