@@ -1,4 +1,4 @@
-// Bindings written, in the order in which they stand. All of them together take at most 42,880 bytes, so their length is exact.
+// Bindings written, in the order in which they stand. All of them together take at most 9,600 bytes, so their length is exact.
 use scopes::Name;
 use scopes::ScopeSet;
 use scopes::Symbol;
@@ -13,7 +13,7 @@ ghost use Rattle.store.specs.Words.{bindOf, bindsOf};
 
 // How many bytes a binding takes.
 fn binding_len(b: Binding) -> usize
-    ensures { λ r. ⌜ (r ≡ length (bindBytes (bindOf b))) × (r ≤ 335) ⌝ }
+    ensures { λ r. ⌜ (r ≡ length (bindBytes (bindOf b))) × (r ≤ 75) ⌝ }
 {
     let symbol = b.symbol;
     let target = b.target;
@@ -38,7 +38,7 @@ fn put_binding(out: &mut [u8], at: usize, b: Binding) -> usize
 // How many bytes the first count bindings take.
 pub fn bindings_len(store: &[u64], count: usize) -> usize
     requires { ⌜ (count * 3 ≤ length (now store)) × (count ≤ 128) ⌝ }
-    ensures { λ r. ⌜ (r ≡ length (bindsBytes (bindsOf (now (store .entry)) count))) × (r ≤ 42880) ⌝ }
+    ensures { λ r. ⌜ (r ≡ length (bindsBytes (bindsOf (now (store .entry)) count))) × (r ≤ 9600) ⌝ }
 {
     let mut n: usize = 0;
     let mut i: usize = 0;

@@ -205,7 +205,7 @@ module _ {s : List ℕ} {h : Head} {end : ℕ} {store : List ℕ} {count names :
     pub front-sum : {a : ℕ} → a ≡ length (numBytes count) → Fits w64 (k + a)
     front-sum e = omega (arith, head-small, num-short count)
 
-    pub front-whole : {a b : ℕ} → a ≡ length (numBytes count) → b ≤ 42880 → Fits w64 (k + a + b)
+    pub front-whole : {a b : ℕ} → a ≡ length (numBytes count) → b ≤ 9600 → Fits w64 (k + a + b)
     front-whole e f = omega (arith, head-small, num-short count)
 
 pub front-length-is : (s : List ℕ) (h : Head) (end : ℕ) (store : List ℕ) (count names scopes : ℕ) {k a b : ℕ} → HeadLength s h end names scopes k

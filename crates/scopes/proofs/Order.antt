@@ -10,7 +10,7 @@ use borrow.Author.Tests.{eqb-true, eqb-false, eq-eqb, ne-eqb, lt-ltb, le-ltb}
 use Rattle.model.specs.Limits.{mostScopes}
 use Rattle.model.specs.Scopes.{keep, membersFrom, members, lessThen, listBefore, setBefore}
 
-digit-one : (m : ℕ) → eqb (m % 2) 1 ≡ false → m % 2 ≡ 0
+pub digit-one : (m : ℕ) → eqb (m % 2) 1 ≡ false → m % 2 ≡ 0
 digit-one m e = let h : m % 2 ≡ 1 → ⊥ = eqb-false (m % 2) 1 e in bit (m % 2) (mod-lt m (lit< tt)) h
   where
     bit : (x : ℕ) → x < 2 → (x ≡ 1 → ⊥) → x ≡ 0
@@ -23,12 +23,12 @@ unfolding listBefore lessThen
 list-self [] = refl
 list-self (x ∷ l) = rw (le-ltb x x (omega arith), eq-eqb x x refl) (list-self l)
 
-half-less : (c m : ℕ) → m < 2 ^ suc c → m / 2 < 2 ^ c
+pub half-less : (c m : ℕ) → m < 2 ^ suc c → m / 2 < 2 ^ c
 half-less c m s = let e : 2 ^ suc c ≡ 2 ^ c * 2 = pow-suc 2 c in omega arith
 
 -- ---- the members from n on
 
-no-members : (c n : ℕ) → membersFrom c n 0 ≡ []
+pub no-members : (c n : ℕ) → membersFrom c n 0 ≡ []
 unfolding membersFrom keep
 no-members zero n = refl
 no-members (suc c) n = no-members c (suc n)

@@ -1,5 +1,7 @@
 // The countings of document 01 and its scope sets. What a set is made of is known in this crate alone.
 ghost use mathlib.Core.Path.{_≡_};
+ghost use Prim.Native.Nat.{_≤_};
+ghost use lib.ListN.{length};
 ghost use lib.Dec.{eqb};
 ghost use lib.Bits.{bitOr};
 ghost use Rattle.model.specs.Scopes as model;
@@ -103,6 +105,20 @@ impl ScopeSet {
     {
         let place = k.0 - 1;
         (self.bits >> place) % 2 == 1
+    }
+
+    // How many members there are. What is left of the set is halved, so that the walk ends at the last member.
+    pub fn count(self) -> u32
+        ensures { λ r. ⌜ r ≡ length (model.members (scopesOf self)) ⌝ }
+        ensures { λ r. ⌜ r ≤ 64 ⌝ }
+    {
+        let mut rest = self.bits;
+        let mut n: u32 = 0;
+        while rest != 0 {
+            n += (rest % 2) as u32;
+            rest /= 2;
+        }
+        n
     }
 
     pub fn same(self, other: ScopeSet) -> bool

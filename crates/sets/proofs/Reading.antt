@@ -1,10 +1,11 @@
 -- Reading a set, by the tests that the code makes.
 use Prim.Native.Nat.{ℕ, zero, suc, _+_, _-_, _≤_, _<_}
-use mathlib.Core.Path.{_≡_, refl, ap, _∙_}
+use mathlib.Core.Path.{_≡_, refl, sym, ap, _∙_}
 use mathlib.Core.List.{List}
 use mathlib.Core.Bool.{_&&_}
 use native.Mathlib.Omega.{arith}
-use lib.ListN.{length, drop}
+use lib.ListN.{length, drop, length-drop}
+use lib.Seq.{drop-drop}
 use lib.Dec.{ltb, leb}
 use borrow.Author.Tests.{lt-ltb, le-ltb, le-leb, lt-leb}
 use Rattle.model.specs.Refusals.{layout}
@@ -23,7 +24,7 @@ use Rattle.numbers.specs.declared.Place.the-variants as place
 use Rattle.numbers.specs.Answers.{numberAt, Seen, seen, unseen, seenAt}
 use Rattle.sets.specs.Seeing.{readLaterSets}
 use Rattle.numbers.proofs.Tails.{Tail, tail-give, tail-next, tail-need, num-tail}
-use Rattle.numbers.proofs.Answering.{number-shape, goes, refuses, stops, seen-goes, seen-gives, seen-stops}
+use Rattle.numbers.proofs.Answering.{Took, took, number-shape, goes, refuses, stops, seen-goes, seen-gives, seen-stops}
 
 -- ---- what is left is a tail
 
@@ -56,27 +57,59 @@ unfolding readMembers
 members-more zero n p m s h = absurd (h refl)
 members-more (suc left) n p m s h = let e : left ≡ suc left - 1 = omega arith in ap (λ (j : ℕ). next (num s) (λ k t. next (need layout (ltb p k && leb k n) t) (λ x. readMembers j n k (add k m)))) e
 
-module _ (at left n p : ℕ) (m : Scopes) (s : List ℕ) where
-  pub members-none : {c : Cursor} → left ≡ 0 → seen m c ≡ seenAt 0 (c .at + length s) (readMembers left n p m s)
+-- what the definition reads from the place reached on is what it reads from the start
+pub record Members (at n : ℕ) (s : List ℕ) (count place left last : ℕ) (m : Scopes) : Type 0 where
+  pub moved : at ≤ place
+  pub within : place ≤ at + length s
+  pub is : readMembers count n 0 0 s ≡ readMembers left n last m (drop (place - at) s)
+
+pub members-start : {at n : ℕ} {s : List ℕ} {count : ℕ} {m : Scopes} → m ≡ 0 → Members at n s count at count 0 m
+members-start {at} e = let d : at - at ≡ 0 = omega arith in record { moved = omega arith; within = omega arith; is = rw (d, e) }
+
+module _ {at n : ℕ} {s : List ℕ} {count place left last : ℕ} {m : Scopes} (w : Members at n s count place left last m) where
+  pub members-read : {c : Cursor} → place ≡ c .at → left ≤ 0 → seen m c ≡ seenAt 0 (at + length s) (readMembers count n 0 0 s)
   unfolding readMembers
-  members-none {c} e = let q : c .at + length s - length s ≡ c .at = omega arith in rw (e, q)
+  members-read {c} p h =
+      let e : left ≡ 0 = omega arith in
+      let l = length-drop (place - at) s in
+      let q : at + length s - length (drop (place - at) s) ≡ c .at = omega (arith, w .moved, w .within) in
+      sym (ap (seenAt 0 (at + length s)) (w .is) ∙ rw (e, q))
 
-  module _ (some : left ≡ 0 → ⊥) {r : Number} (h : r ≡ numberAt (at + length s) (num s)) where
-    pub members-stop : {f : Refusal} {x : Seen Scopes} → r ≡ Fault f → x ≡ unseen 0 f → x ≡ seenAt 0 (at + length s) (readMembers left n p m s)
-    members-stop e i = rw (members-more left n p m s some) (i ∙ stops number-shape seen (unseen 0) (at + length s) (num s) _ h e)
+  module _ {u : List ℕ} (i : u ≡ drop (place - at) s) where
+    ends : place + length u ≡ at + length s
+    ends = let l = ap length i ∙ length-drop (place - at) s in omega (arith, w .moved, w .within)
 
-    module _ {k : ℕ} {past : Cursor} (e : r ≡ Read k past) where
-      pub member-low : {x : Seen Scopes} → k ≤ p → x ≡ unseen 0 Layout → x ≡ seenAt 0 (at + length s) (readMembers left n p m s)
-      member-low l i = rw (members-more left n p m s some) (i ∙ refuses number-shape seen (unseen 0) at (num s) _ h e (num-tail s) (λ u. rw (le-ltb p k l)))
+    pub members-fit : {k : ℕ} → at + length s ≤ k → place + length u ≤ k
+    members-fit h = let e = ends in omega arith
 
-      module _ (low : p < k) where
-        pub member-over : {x : Seen Scopes} → n < k → x ≡ unseen 0 Layout → x ≡ seenAt 0 (at + length s) (readMembers left n p m s)
-        member-over l i = rw (members-more left n p m s some) (i ∙ refuses number-shape seen (unseen 0) at (num s) _ h e (num-tail s) (λ u. rw (lt-ltb p k low, lt-leb k n l)))
+    whole : {x : Seen Scopes} → x ≡ seenAt 0 (place + length u) (readMembers left n last m u) → x ≡ seenAt 0 (at + length s) (readMembers count n 0 0 s)
+    whole a = rw (w .is, ← ends, ← i) a
 
-        pub member-more : {u : List ℕ} {j : Scopes} {x : Seen Scopes} → k ≤ n → u ≡ drop (past .at - at) s → j ≡ add k m
-            → x ≡ seenAt 0 (past .at + length u) (readMembers (left - 1) n k j u) → x ≡ seenAt 0 (at + length s) (readMembers left n p m s)
-        member-more {u} l i d a =
-            rw (members-more left n p m s some) (goes number-shape seen (unseen 0) at (num s) _ h e (num-tail s) i (rw (lt-ltb p k low, le-leb k n l, ← d) a))
+    module _ (some : 0 < left) {r : Number} (h : r ≡ numberAt (place + length u) (num u)) where
+      more : readMembers left n last m u ≡ next (num u) (λ k t. next (need layout (ltb last k && leb k n) t) (λ x. readMembers (left - 1) n k (add k m)))
+      more = members-more left n last m u (λ e. omega arith)
+
+      pub members-stop : {f : Refusal} {x : Seen Scopes} → r ≡ Fault f → x ≡ unseen 0 f → x ≡ seenAt 0 (at + length s) (readMembers count n 0 0 s)
+      members-stop e j = whole (rw more (j ∙ stops number-shape seen (unseen 0) (place + length u) (num u) _ h e))
+
+      module _ {k : ℕ} {past : Cursor} (e : r ≡ Read k past) where
+        pub member-low : {x : Seen Scopes} → k ≤ last → x ≡ unseen 0 Layout → x ≡ seenAt 0 (at + length s) (readMembers count n 0 0 s)
+        member-low l j = whole (rw more (j ∙ refuses number-shape seen (unseen 0) place (num u) _ h e (num-tail u) (λ v. rw (le-ltb last k l))))
+
+        module _ (low : last < k) where
+          pub member-over : {x : Seen Scopes} → n < k → x ≡ unseen 0 Layout → x ≡ seenAt 0 (at + length s) (readMembers count n 0 0 s)
+          member-over l j = whole (rw more (j ∙ refuses number-shape seen (unseen 0) place (num u) _ h e (num-tail u) (λ v. rw (lt-ltb last k low, lt-leb k n l))))
+
+          pub member-more : {j : Scopes} → k ≤ n → j ≡ add k m → Members at n s count (past .at) (left - 1) k j
+          member-more {j} l d =
+              let T : Took place u (num u) k (past .at) = took number-shape h e (num-tail u) in
+              let q : place - at + (past .at - place) ≡ past .at - at = omega (arith, T .moved, w .moved) in
+              let v : drop (past .at - place) u ≡ drop (past .at - at) s = ap (drop (past .at - place)) i ∙ drop-drop (past .at - place) (place - at) s ∙ ap (λ (y : ℕ). drop y s) q in
+              record {
+                moved = omega (arith, T .moved, w .moved);
+                within = let y = ends in omega (arith, T .within);
+                is = w .is ∙ rw (← i, more, T .is, lt-ltb last k low, le-leb k n l, d, v);
+              }
 
 -- ---- the set
 
@@ -85,10 +118,9 @@ module _ (at n : ℕ) (s : List ℕ) {r : Number} (h : r ≡ numberAt (at + leng
   unfolding readSet
   set-stops e i = i ∙ stops number-shape seen (unseen 0) (at + length s) (num s) _ h e
 
-  pub set-goes : {k : ℕ} {past : Cursor} {u : List ℕ} {j : Scopes} {x : Seen Scopes} → r ≡ Read k past → u ≡ drop (past .at - at) s → j ≡ 0
-      → x ≡ seenAt 0 (past .at + length u) (readMembers k n 0 j u) → x ≡ seenAt 0 (at + length s) (readSet n s)
+  pub set-goes : {k : ℕ} {past : Cursor} {u : List ℕ} {x : Seen Scopes} → r ≡ Read k past → u ≡ drop (past .at - at) s → x ≡ seenAt 0 (past .at + length u) (readMembers k n 0 0 u) → x ≡ seenAt 0 (at + length s) (readSet n s)
   unfolding readSet
-  set-goes {k} {past} {u} e i d a = goes number-shape seen (unseen 0) at (num s) _ h e (num-tail s) i (a ∙ ap (λ (z : Scopes). seenAt 0 (past .at + length u) (readMembers k n 0 z u)) d)
+  set-goes e i a = goes number-shape seen (unseen 0) at (num s) _ h e (num-tail s) i a
 
 -- ---- three sets
 
@@ -124,4 +156,4 @@ sets-read at n a s {c = c} {u = u} h e i h′ e′ =
     seen-goes 0 at s (readSet n s) h e (set-tail n s) seen (unseen noSets) _ i
     (seen-gives 0 (c .at) u (readSet n u) h′ e′ (set-tail n u) seen (unseen noSets) _ (λ v. refl))
 
-pub ruleset set-laws = (no-set, no-sets, declared, set-tail, members-none, members-stop, member-low, member-over, member-more, set-stops, set-goes, sets-tail, first-stops, first-goes, second-stops, third-stops, sets-read)
+pub ruleset set-laws = (no-set, no-sets, declared, set-tail, members-start, members-read, members-fit, members-stop, member-low, member-over, member-more, set-stops, set-goes, sets-tail, first-stops, first-goes, second-stops, third-stops, sets-read)

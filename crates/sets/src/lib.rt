@@ -15,7 +15,7 @@ ghost use Rattle.model.specs.Reading.{readMembers, readSet, readSets};
 ghost use Rattle.model.specs.Writing.{numsBytes, setBytes, setsBytes};
 ghost use Rattle.numbers.specs.Answers.{seenAt, unseen};
 ghost use Rattle.scopes.specs.Sets.{scopesOf};
-ghost use Rattle.sets.specs.Writing.{oneIf, memberBytes, threeSets};
+ghost use Rattle.sets.specs.Writing.{threeSets};
 ghost use Rattle.sets.specs.Seeing.{setSeen, setsSeen, readLaterSets};
 
 // A set beside the place past it, or beside the fault.
@@ -58,29 +58,35 @@ impl SetsRead {
     }
 }
 
-// `left` more members, above `last` and at most `scopes`, joined to `set`.
-fn read_members(c: Cursor, s: &[u8], scopes: u32, left: u32, last: u32, set: ScopeSet) -> SetRead
+// `count` members, strictly ascending and at most `scopes`.
+fn read_members(c: Cursor, s: &[u8], scopes: u32, count: u32) -> SetRead
     requires { ⌜ (c .at + length (now s) ≤ 65536) × (scopes ≤ 64) ⌝ }
-    ensures { λ r. ⌜ setSeen r ≡ seenAt 0 (c .at + length (now (s .entry))) (readMembers left scopes last (scopesOf set) (now (s .entry))) ⌝ }
+    ensures { λ r. ⌜ setSeen r ≡ seenAt 0 (c .at + length (now (s .entry))) (readMembers count scopes 0 0 (now (s .entry))) ⌝ }
 {
-    if left == 0 {
-        return SetRead {
-            set,
-            end: Place::At(c),
-        };
-    }
-    match c.number(s) {
-        Number::Read(k, past) => {
-            if k <= last {
-                return SetRead::fault(Refusal::Layout);
+    let mut here = c;
+    let mut left = count;
+    let mut last: u32 = 0;
+    let mut set = ScopeSet::empty();
+    while 0 < left {
+        match here.number(c.after(s, here)) {
+            Number::Read(k, past) => {
+                if k <= last {
+                    return SetRead::fault(Refusal::Layout);
+                }
+                if scopes < k {
+                    return SetRead::fault(Refusal::Layout);
+                }
+                set = set.add(Scope(k));
+                last = k;
+                here = past;
+                left -= 1;
             }
-            if scopes < k {
-                return SetRead::fault(Refusal::Layout);
-            }
-            let joined = set.add(Scope(k));
-            read_members(past, c.after(s, past), scopes, left - 1, k, joined)
+            Number::Fault(f) => return SetRead::fault(f),
         }
-        Number::Fault(f) => SetRead::fault(f),
+    }
+    SetRead {
+        set,
+        end: Place::At(here),
     }
 }
 
@@ -90,14 +96,7 @@ pub fn read_set(c: Cursor, s: &[u8], scopes: u32) -> SetRead
     ensures { λ r. ⌜ setSeen r ≡ seenAt 0 (c .at + length (now (s .entry))) (readSet scopes (now (s .entry))) ⌝ }
 {
     match c.number(s) {
-        Number::Read(count, past) => read_members(
-            past,
-            c.after(s, past),
-            scopes,
-            count,
-            0,
-            ScopeSet::empty(),
-        ),
+        Number::Read(count, past) => read_members(past, c.after(s, past), scopes, count),
         Number::Fault(f) => SetRead::fault(f),
     }
 }
@@ -143,72 +142,28 @@ pub fn read_sets(c: Cursor, s: &[u8], scopes: u32) -> SetsRead
     }
 }
 
-fn one_if(b: bool) -> u32
-    ensures { λ r. ⌜ r ≡ oneIf b ⌝ }
-{
-    if b { 1 } else { 0 }
-}
-
-// How many members a set has.
-fn count(set: ScopeSet) -> u32
-    ensures { λ r. ⌜ (r ≡ length (members (scopesOf set))) × (r ≤ 64) ⌝ }
-{
-    let mut n: u32 = 0;
-    let mut k: u32 = 0;
-    while k < Scope::MOST {
-        k += 1;
-        n += one_if(set.has(Scope(k)));
-    }
-    n
-}
-
-// How many bytes scope k takes in a set that may have it.
-fn member_len(set: ScopeSet, k: u32) -> usize
-    requires { ⌜ (1 ≤ k) × (k ≤ 64) ⌝ }
-    ensures { λ r. ⌜ (r ≡ length (memberBytes k (scopesOf set))) × (r ≤ 5) ⌝ }
-{
-    if set.has(Scope(k)) {
-        numbers::number_len(k)
-    } else {
-        0
-    }
-}
-
-// How many bytes a set takes.
+// How many bytes a set takes: one for the count, and one for each member, since both are below 128.
 pub fn set_len(set: ScopeSet) -> usize
-    ensures { λ r. ⌜ (r ≡ length (setBytes (scopesOf set))) × (r ≤ 325) ⌝ }
+    ensures { λ r. ⌜ (r ≡ length (setBytes (scopesOf set))) × (r ≤ 65) ⌝ }
 {
-    let mut n = numbers::number_len(count(set));
-    let mut k: u32 = 0;
-    while k < Scope::MOST {
-        k += 1;
-        n += member_len(set, k);
-    }
-    n
+    set.count() as usize + 1
 }
 
-fn put_member(out: &mut [u8], at: usize, set: ScopeSet, k: u32) -> usize
-    requires { ⌜ (1 ≤ k) × (k ≤ 64) × (at + length (memberBytes k (scopesOf set)) ≤ length (now out)) ⌝ }
-    ensures past { λ r. ⌜ r ≡ at + length (memberBytes k (scopesOf set)) ⌝ }
-    ensures bytes { λ _. ⌜ now (out .exit) ≡ sets (now (out .entry)) at (memberBytes k (scopesOf set)) ⌝ }
-{
-    if set.has(Scope(k)) {
-        numbers::put_number(out, at, k)
-    } else {
-        at
-    }
-}
-
-fn put_members(out: &mut [u8], at: usize, set: ScopeSet) -> usize
-    requires { ⌜ at + length (numsBytes (members (scopesOf set))) ≤ length (now out) ⌝ }
+// The members, of which there are `count`; the place past them.
+fn put_members(out: &mut [u8], at: usize, set: ScopeSet, count: u32) -> usize
+    requires { ⌜ (count ≡ length (members (scopesOf set))) × (at + length (numsBytes (members (scopesOf set))) ≤ length (now out)) ⌝ }
     ensures past { λ r. ⌜ r ≡ at + length (numsBytes (members (scopesOf set))) ⌝ }
     ensures bytes { λ _. ⌜ now (out .exit) ≡ sets (now (out .entry)) at (numsBytes (members (scopesOf set))) ⌝ }
 {
     let mut here = at;
+    let mut left = count;
     let mut k: u32 = 0;
-    while k < Scope::MOST {
+    while 0 < left {
         k += 1;
-        here = put_member(out, here, set, k);
+        if set.has(Scope(k)) {
+            here = numbers::put_number(out, here, k);
+            left -= 1;
+        }
     }
     here
 }
@@ -219,14 +174,15 @@ pub fn put_set(out: &mut [u8], at: usize, set: ScopeSet) -> usize
     ensures past { λ r. ⌜ r ≡ at + length (setBytes (scopesOf set)) ⌝ }
     ensures bytes { λ _. ⌜ now (out .exit) ≡ sets (now (out .entry)) at (setBytes (scopesOf set)) ⌝ }
 {
-    let here = numbers::put_number(out, at, count(set));
-    put_members(out, here, set)
+    let count = set.count();
+    let first = numbers::put_number(out, at, count);
+    put_members(out, first, set, count)
 }
 
 // How many bytes three sets take.
 pub fn sets_len(at0: ScopeSet, at1: ScopeSet, at2: ScopeSet) -> usize
     ensures { λ r. ⌜ r ≡ length (setsBytes (threeSets at0 at1 at2)) ⌝ }
-    ensures { λ r. ⌜ r ≤ 975 ⌝ }
+    ensures { λ r. ⌜ r ≤ 195 ⌝ }
 {
     set_len(at0) + set_len(at1) + set_len(at2)
 }

@@ -8,7 +8,7 @@ use lib.ListN.{length}
 use Rattle.model.specs.Objects.{list}
 use Rattle.model.specs.Trees.{Tree, Trees, app, lst, stx, tnil, tcons, tcount, fromStxs}
 use Rattle.model.specs.Writing.{numBytes, groupsOf, setsBytes, stxBytes, treeBytes}
-use Rattle.sets.proofs.Writing.{number-short}
+use Rattle.numbers.proofs.Writing.{num-short}
 use Rattle.table.specs.Tags.{listTag, applicationTag, functionTag, listValueTag, atomValueTag}
 use Rattle.table.specs.Words.{getNode, getSets, getBody, getCell}
 use Rattle.table.specs.declared.Node.{Node}
@@ -136,10 +136,10 @@ module _ {l : List ℕ} {i : ℕ} {o : Node} (e : o ≡ getNode l i) where
   object-prefix lead h (is-atom {s = s} {a = x} a q y) = rw y (prefix-atom lead s x)
   object-prefix lead h (is-list {s = s} {ps = ps} a q y r) = rw y (prefix-list lead s ps)
 
-  pub led-prefix : {lead : Bool} {n : ℕ} → o .tag ≤ listTag → lead ≡ true → n ≡ length (setsBytes (setsOf (getSets l i))) → n ≤ 975 → LengthIs (prefix lead) 977 l i (n + 2)
+  pub led-prefix : {lead : Bool} {n : ℕ} → o .tag ≤ listTag → lead ≡ true → n ≡ length (setsBytes (setsOf (getSets l i))) → n ≤ 195 → LengthIs (prefix lead) 197 l i (n + 2)
   led-prefix {lead} h b q s = record { means = λ top t r. omega (arith, object-prefix lead h r, leading-yes b); short = omega arith }
 
-  pub bare-prefix : {lead : Bool} {n : ℕ} → o .tag ≤ listTag → lead ≡ false → n ≡ length (setsBytes (setsOf (getSets l i))) → n ≤ 975 → LengthIs (prefix lead) 977 l i (n + 1)
+  pub bare-prefix : {lead : Bool} {n : ℕ} → o .tag ≤ listTag → lead ≡ false → n ≡ length (setsBytes (setsOf (getSets l i))) → n ≤ 195 → LengthIs (prefix lead) 197 l i (n + 1)
   bare-prefix {lead} h b q s = record { means = λ top t r. omega (arith, object-prefix lead h r, leading-no b); short = omega arith }
 
   tree-prefix : (lead : Bool) {top : ℕ} {t : Tree} → listTag < o .tag → o .tag < atomValueTag → Rep l top i t → 1 ≡ length (prefix lead t)
@@ -152,7 +152,7 @@ module _ {l : List ℕ} {i : ℕ} {o : Node} (e : o ≡ getNode l i) where
   tree-prefix lead h k (is-atom {a = x} a q y) = absurd (omega (arith, tag-is e q, tag-low x))
   tree-prefix lead h k (is-list a q y r) = absurd (omega (arith, tag-is e q))
 
-  pub one-prefix : (lead : Bool) → listTag < o .tag → o .tag < atomValueTag → LengthIs (prefix lead) 977 l i 1
+  pub one-prefix : (lead : Bool) → listTag < o .tag → o .tag < atomValueTag → LengthIs (prefix lead) 197 l i 1
   one-prefix lead h k = record { means = λ top t r. tree-prefix lead h k r; short = omega arith }
 
   datum-prefix : (lead : Bool) {top : ℕ} {t : Tree} → atomValueTag ≤ o .tag → Rep l top i t → 2 ≡ length (prefix lead t)
@@ -164,23 +164,23 @@ module _ {l : List ℕ} {i : ℕ} {o : Node} (e : o ≡ getNode l i) where
   datum-prefix lead h (is-atom {a = x} a q y) = absurd (omega (arith, tag-is e q, tag-low x))
   datum-prefix lead h (is-list a q y r) = absurd (omega (arith, tag-is e q))
 
-  pub two-prefix : (lead : Bool) → atomValueTag ≤ o .tag → LengthIs (prefix lead) 977 l i 2
+  pub two-prefix : (lead : Bool) → atomValueTag ≤ o .tag → LengthIs (prefix lead) 197 l i 2
   two-prefix lead h = record { means = λ top t r. datum-prefix lead h r; short = omega arith }
 
 -- ---- prefix and number
 
-module _ {l : List ℕ} {i : ℕ} (lead : Bool) {a b : ℕ} (k : ℕ) (p : LengthIs (prefix lead) 977 l i a) (f : b ≡ length (numBytes k)) where
+module _ {l : List ℕ} {i : ℕ} (lead : Bool) {a b : ℕ} (k : ℕ) (p : LengthIs (prefix lead) 197 l i a) (f : b ≡ length (numBytes k)) where
   pub front-fits : a + b < 2 ^ 64
-  front-fits = omega (arith, p .short, number-short k f)
+  front-fits = omega (arith, p .short, num-short k)
 
-  pub front-counted : NumberIs l i k → LengthIs (front lead) 982 l i (a + b)
+  pub front-counted : NumberIs l i k → LengthIs (front lead) 202 l i (a + b)
   front-counted q =
       record {
         means = λ top t r. omega (arith, p .means top t r, front-long lead t, f, ap (λ (n : ℕ). length (numBytes n)) (q .means top t r));
-        short = omega (arith, p .short, number-short k f);
+        short = omega (arith, p .short, num-short k);
       }
 
-pub front-short : {l : List ℕ} {i : ℕ} (lead : Bool) {a : ℕ} → LengthIs (front lead) 982 l i a → a ≤ 65536
+pub front-short : {l : List ℕ} {i : ℕ} (lead : Bool) {a : ℕ} → LengthIs (front lead) 202 l i a → a ≤ 65536
 front-short lead p = omega (arith, p .short)
 
 -- ---- a thing
@@ -211,7 +211,7 @@ module _ {l : List ℕ} {i n m cap : ℕ} (k : ℕ) {o : Node} (e : o ≡ getNod
       let p = fun-at (s .seen .shown) e h f in
       record { seen = record { top = s .seen .top; thing = p .body; shown = p .shown; inside = s .seen .inside; small = s .seen .small }; so-far = omega arith; most = s .most }
 
-  module _ (lead : Bool) (f : LengthIs (front lead) 982 l i k) where
+  module _ (lead : Bool) (f : LengthIs (front lead) 202 l i k) where
     -- the parts are counted behind the front
     behind : {top r : ℕ} {t : Tree} (ps : List ℕ) → Rep l top i t → parts t ≡ ps → r ≡ min (cap + 1) (m + length ps) → r ≡ min (cap + 1) (n + length (written lead t))
     behind {top} {r} {t} ps x y w = omega (arith, z, f .means top t x, written-long lead t, ap length y)

@@ -19,6 +19,4 @@ returns : tie.Need-returns
 returns c = search (set-writing, needs)
 
 pub put-set-spec : {M : Type 1} → statement M
-put-set-spec =
-    tie.close
-    (tie.spec count-requires put-number-requires put-members-requires same-length returns)
+put-set-spec = tie.close (tie.spec count-requires put-number-requires put-members-requires same-length returns)

@@ -13,9 +13,6 @@ enum-known-count c = search (set-laws, answering, needs)
 after-requires : tie.Need-after-requires
 after-requires c κs = search (set-laws, answering, needs)
 
-empty-requires : tie.Need-empty-requires
-empty-requires c κs = search (set-laws, answering, needs)
-
 read-members-requires : tie.Need-read-members-requires
 read-members-requires c κs = search (set-laws, answering, needs)
 
@@ -38,7 +35,6 @@ read-set-spec =
     number-requires
     enum-known-count
     after-requires
-    empty-requires
     read-members-requires
     enum-known-f
     fault-requires

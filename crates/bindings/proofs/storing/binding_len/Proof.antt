@@ -1,4 +1,4 @@
--- Two numbers of at most five bytes, and a set of at most 325.
+-- Two numbers of at most five bytes, and a set of at most 65.
 use Rattle.bindings.proofs.Lengths.{storing-laws}
 use borrow.Author.Needs.{needs}
 use Rattle.bindings.proofs.storing.binding_len.Statement.{statement}
