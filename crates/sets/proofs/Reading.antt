@@ -1,17 +1,17 @@
 -- Reading a set, by the tests that the code makes.
 use Prim.Native.Nat.{ℕ, zero, suc, _+_, _-_, _≤_, _<_}
 use mathlib.Core.Path.{_≡_, refl, sym, ap, _∙_}
-use mathlib.Core.List.{List}
-use mathlib.Core.Bool.{_&&_}
+use mathlib.Core.List.{List, [], _∷_}
+use mathlib.Core.Bool.{Bool, true, false, _&&_, true≢false}
 use native.Mathlib.Omega.{arith}
-use lib.ListN.{length, drop, length-drop}
+use lib.ListN.{length, getD, drop, length-drop}
 use lib.Seq.{drop-drop}
-use lib.Dec.{ltb, leb}
-use borrow.Author.Tests.{lt-ltb, le-ltb, le-leb, lt-leb}
+use lib.Dec.{eqb, ltb, leb}
+use borrow.Author.Tests.{eqb-true, lt-ltb, le-ltb, le-leb, lt-leb}
 use Rattle.model.specs.Refusals.{layout}
 use Rattle.model.specs.Scopes.{Scopes, add}
 use Rattle.model.specs.Objects.{Sets, noSets}
-use Rattle.model.specs.Reading.{fault, next, need, num, readMembers, readSet, readSets}
+use Rattle.model.specs.Reading.{got, fault, next, need, byte, num, readMembers, readSet, readSets}
 use Rattle.scopes.specs.declared.Scope.{Scope}
 use Rattle.scopes.specs.Sets.{Declared}
 use Rattle.refusals.specs.declared.Refusal.{Refusal}
@@ -22,7 +22,7 @@ use Rattle.numbers.specs.declared.Number.the-variants.{Read, Fault}
 use Rattle.numbers.specs.declared.Place.{Place}
 use Rattle.numbers.specs.declared.Place.the-variants as place
 use Rattle.numbers.specs.Answers.{numberAt, Seen, seen, unseen, seenAt}
-use Rattle.sets.specs.Seeing.{readLaterSets}
+use Rattle.sets.specs.Seeing.{readLaterSets, StartsEmpty}
 use Rattle.numbers.proofs.Tails.{Tail, tail-give, tail-next, tail-need, num-tail}
 use Rattle.numbers.proofs.Answering.{Took, took, number-shape, goes, refuses, stops, seen-goes, seen-gives, seen-stops}
 
@@ -156,4 +156,25 @@ sets-read at n a s {c = c} {u = u} h e i h′ e′ =
     seen-goes 0 at s (readSet n s) h e (set-tail n s) seen (unseen noSets) _ i
     (seen-gives 0 (c .at) u (readSet n u) h′ e′ (set-tail n u) seen (unseen noSets) _ (λ v. refl))
 
-pub ruleset set-laws = (no-set, no-sets, declared, set-tail, members-start, members-read, members-fit, members-stop, member-low, member-over, member-more, set-stops, set-goes, sets-tail, first-stops, first-goes, second-stops, third-stops, sets-read)
+-- ---- three empty sets
+
+pub not-empty : {s : List ℕ} → false ≡ true → StartsEmpty s
+not-empty e = absurd (true≢false (sym e))
+
+pub starts : {s : List ℕ} {b : Bool} → 3 ≤ length s → getD s 0 0 ≡ 0 → getD s 1 0 ≡ 0 → b ≡ eqb (getD s 2 0) 0 → b ≡ true → StartsEmpty s
+starts {s} l e f g h = record { long = l; first = e; second = f; third = eqb-true (getD s 2 0) 0 (sym g ∙ h) }
+
+empty-set : (n b : ℕ) (s : List ℕ) → b ≡ 0 → readSet n (b ∷ s) ≡ got 0 s
+unfolding readSet readMembers num byte
+empty-set n b s e = rw (lt-ltb b 128 (omega arith), e)
+
+pub empty-sets : (at n : ℕ) (s : List ℕ) {v : Scopes} → StartsEmpty s → v ≡ 0 → seen (record { at0 = v; at1 = v; at2 = v }) (record { at = at + 3 }) ≡ seenAt noSets (at + length s) (readSets n s)
+unfolding readSets noSets
+empty-sets at n [] h e = absurd (omega (arith, h .long))
+empty-sets at n (a ∷ []) h e = absurd (omega (arith, h .long))
+empty-sets at n (a ∷ b ∷ []) h e = absurd (omega (arith, h .long))
+empty-sets at n (a ∷ b ∷ c ∷ s) h e =
+    let p : at + length (a ∷ b ∷ c ∷ s) - length s ≡ at + 3 = omega arith in
+    rw (empty-set n a (b ∷ c ∷ s) (h .first), empty-set n b (c ∷ s) (h .second), empty-set n c s (h .third), e, p)
+
+pub ruleset set-laws = (not-empty, starts, empty-sets, no-set, no-sets, declared, set-tail, members-start, members-read, members-fit, members-stop, member-low, member-over, member-more, set-stops, set-goes, sets-tail, first-stops, first-goes, second-stops, third-stops, sets-read)

@@ -1,5 +1,8 @@
 -- What the answers that hold scope sets say: the definition's sets, and the place.
-use Prim.Native.Nat.{ℕ}
+use Prim.Native.Nat.{ℕ, _≤_}
+use mathlib.Core.Path.{_≡_}
+use mathlib.Core.List.{List}
+use lib.ListN.{length, getD}
 use Rattle.model.specs.Scopes.{Scopes}
 use Rattle.model.specs.Objects.{Sets}
 use Rattle.model.specs.Reading.{Reader, _>>=_, _>>_, give, readSet}
@@ -21,3 +24,10 @@ readLaterSets n a = do
   b ← readSet n
   c ← readSet n
   give (record { at0 = a; at1 = b; at2 = c })
+
+-- three empty sets come first
+pub record StartsEmpty (s : List ℕ) : Type 0 where
+  pub long : 3 ≤ length s
+  pub first : getD s 0 0 ≡ 0
+  pub second : getD s 1 0 ≡ 0
+  pub third : getD s 2 0 ≡ 0

@@ -6,6 +6,7 @@ use refusals::Refusal;
 use scopes::Scope;
 use scopes::ScopeSet;
 ghost use mathlib.Core.Path.{_≡_};
+ghost use mathlib.Core.Bool.{true};
 ghost use Prim.Native.Nat.{ℕ, _+_, _-_, _≤_, _<_};
 ghost use lib.ListN.{length};
 ghost use lib.Seq.{sets};
@@ -16,7 +17,7 @@ ghost use Rattle.model.specs.Writing.{numsBytes, setBytes, setsBytes};
 ghost use Rattle.numbers.specs.Answers.{seenAt, unseen};
 ghost use Rattle.scopes.specs.Sets.{scopesOf};
 ghost use Rattle.sets.specs.Writing.{threeSets};
-ghost use Rattle.sets.specs.Seeing.{setSeen, setsSeen, readLaterSets};
+ghost use Rattle.sets.specs.Seeing.{setSeen, setsSeen, readLaterSets, StartsEmpty};
 
 // A set beside the place past it, or beside the fault.
 pub struct SetRead {
@@ -126,11 +127,36 @@ fn read_later_sets(c: Cursor, s: &[u8], scopes: u32, at0: ScopeSet) -> SetsRead
     }
 }
 
-// The sets of phases 0, 1 and 2.
+// Whether three empty sets come first.
+fn starts_empty(s: &[u8]) -> bool
+    ensures { λ r. ⌜ (r ≡ true → StartsEmpty (now (s .entry))) ⌝ }
+{
+    if s.len() < 3 {
+        return false;
+    }
+    if s[0] != 0 {
+        return false;
+    }
+    if s[1] != 0 {
+        return false;
+    }
+    s[2] == 0
+}
+
+// The sets of phases 0, 1 and 2. Those of a program before it is expanded are mostly empty, which is seen at once.
 pub fn read_sets(c: Cursor, s: &[u8], scopes: u32) -> SetsRead
     requires { ⌜ (c .at + length (now s) ≤ 65536) × (scopes ≤ 64) ⌝ }
     ensures { λ r. ⌜ setsSeen r ≡ seenAt noSets (c .at + length (now (s .entry))) (readSets scopes (now (s .entry))) ⌝ }
 {
+    if starts_empty(s) {
+        let none = ScopeSet::empty();
+        return SetsRead {
+            at0: none,
+            at1: none,
+            at2: none,
+            end: Place::At(Cursor { at: c.at + 3 }),
+        };
+    }
     let first = read_set(c, s, scopes);
     let end0 = first.end;
     match end0 {
