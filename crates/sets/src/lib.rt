@@ -127,6 +127,22 @@ fn read_later_sets(c: Cursor, s: &[u8], scopes: u32, at0: ScopeSet) -> SetsRead
     }
 }
 
+// The sets of phases 0, 1 and 2, one after another.
+fn read_each_set(c: Cursor, s: &[u8], scopes: u32) -> SetsRead
+    requires { ⌜ (c .at + length (now s) ≤ 65536) × (scopes ≤ 64) ⌝ }
+    ensures { λ r. ⌜ setsSeen r ≡ seenAt noSets (c .at + length (now (s .entry))) (readSets scopes (now (s .entry))) ⌝ }
+{
+    let first = read_set(c, s, scopes);
+    let end0 = first.end;
+    match end0 {
+        Place::At(c0) => {
+            let at0 = first.set;
+            read_later_sets(c0, c.after(s, c0), scopes, at0)
+        }
+        Place::Fault(f) => SetsRead::fault(f),
+    }
+}
+
 // Whether three empty sets come first.
 fn starts_empty(s: &[u8]) -> bool
     ensures { λ r. ⌜ (r ≡ true → StartsEmpty (now (s .entry))) ⌝ }
@@ -157,15 +173,7 @@ pub fn read_sets(c: Cursor, s: &[u8], scopes: u32) -> SetsRead
             end: Place::At(Cursor { at: c.at + 3 }),
         };
     }
-    let first = read_set(c, s, scopes);
-    let end0 = first.end;
-    match end0 {
-        Place::At(c0) => {
-            let at0 = first.set;
-            read_later_sets(c0, c.after(s, c0), scopes, at0)
-        }
-        Place::Fault(f) => SetsRead::fault(f),
-    }
+    read_each_set(c, s, scopes)
 }
 
 // How many bytes a set takes: one for the count, and one for each member, since both are below 128.
