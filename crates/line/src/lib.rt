@@ -1,0 +1,57 @@
+// The line that the program prints for an image.
+use meirhuppa::expand;
+use meirhuppa::limits;
+use meirhuppa::parse;
+ghost use mathlib.Core.Path.{_≡_};
+ghost use Prim.Native.Nat.{_≤_};
+ghost use Rattle.model.specs.Limits.{programBudget, mostImage};
+ghost use Rattle.model.specs.Jobs.{parseEnding, lineOf, program};
+ghost use Rattle.line.specs.Lines.{lineIs, Lent};
+
+const BUDGET: u32 = 1024;
+
+const WORDS: usize = BUDGET as usize * limits::WORDS_PER_UNIT;
+
+// The code, and the units of both jobs.
+pub struct Line {
+    pub code: u32,
+    pub units: u32,
+}
+
+// The line of parsing an image, after so many units.
+fn parsed(image: &[u8], before: u32, table: &mut [u32], tree: &mut [u8]) -> Line
+    requires { ⌜ (before ≤ 1024) × Lent (now table) (now tree) ⌝ }
+    ensures { λ r. ⌜ lineIs r ≡ lineOf before (parseEnding (now (image .entry)) programBudget mostImage) ⌝ }
+{
+    let p = parse::meirhuppa_parse(image, BUDGET, table, tree);
+    Line {
+        code: p.code,
+        units: before + p.units,
+    }
+}
+
+// The line of expanding an image and parsing what that wrote. If expanding is refused, it shows that code and those units only.
+fn expanded(image: &[u8], table: &mut [u32], out: &mut [u8], tree: &mut [u8]) -> Line
+    requires { ⌜ Lent (now table) (now out) × Lent (now table) (now tree) ⌝ }
+    ensures { λ r. ⌜ lineIs r ≡ program (now (image .entry)) ⌝ }
+{
+    let e = expand::meirhuppa_expand(image, 0, BUDGET, table, out);
+    let length = e.length as usize;
+    if e.code == 0 {
+        parsed(&out[..length], e.units, table, tree)
+    } else {
+        Line {
+            code: e.code,
+            units: e.units,
+        }
+    }
+}
+
+pub fn of_image(image: &[u8]) -> Line
+    ensures { λ r. ⌜ lineIs r ≡ program (now (image .entry)) ⌝ }
+{
+    let mut table = [0u32; WORDS];
+    let mut out = [0u8; limits::MOST_IMAGE];
+    let mut tree = [0u8; limits::MOST_IMAGE];
+    expanded(image, &mut table, &mut out, &mut tree)
+}
