@@ -1,21 +1,21 @@
--- The promise of a job leaves one answer and one table only.
+-- The promise of a job leaves one answer, one output and one table only.
 use mathlib.Core.Path.{_≡_, sym, ap, _∙_}
-use mathlib.Core.List.{List, []}
+use mathlib.Core.List.{List}
 use Prim.Native.Nat.{ℕ}
-use Rattle.model.specs.Jobs.{Result, resolveJob}
+use Rattle.model.specs.Jobs.{Result}
 use Rattle.meirhuppa.specs.Endings.{answerIs}
 use Rattle.meirhuppa.specs.declared.answers.Answer.{Answer}
 
--- what `meirhuppa_resolve` promises of its answer and of the table after it
-abbrev pub Resolved : List ℕ → ℕ → ℕ → List ℕ → Answer → List ℕ → Type 0
-Resolved image ph budget table a after = record { answer = answerIs a; output = []; table = after } ≡ resolveJob image ph budget table
+-- what each public function promises of its answer, and of output and table after it: they are the job's. Resolve has no output.
+abbrev pub Answered : Result → Answer → List ℕ → List ℕ → Type 0
+Answered job a output table = record { answer = answerIs a; output = output; table = table } ≡ job
 
 same-answer : (a b : Answer) → answerIs a ≡ answerIs b → a ≡ b
 same-answer a b e = λ i. record { code = e i .code; units = e i .units; name = e i .name; length = e i .len }
 
-pub resolved-once : (image : List ℕ) (ph budget : ℕ) (table : List ℕ) (a b : Answer) (t u : List ℕ)
-    → Resolved image ph budget table a t → Resolved image ph budget table b u → (a ≡ b) × (t ≡ u)
-resolved-once image ph budget table a b t u p q = (
-  same-answer a b (ap (λ (r : Result). r .answer) (p ∙ sym q)),
-  ap (λ (r : Result). r .table) (p ∙ sym q),
+pub answered-once : (job : Result) (a b : Answer) (o p t u : List ℕ) → Answered job a o t → Answered job b p u → (a ≡ b) × (o ≡ p) × (t ≡ u)
+answered-once job a b o p t u m n = (
+  same-answer a b (ap (λ (r : Result). r .answer) (m ∙ sym n)),
+  ap (λ (r : Result). r .output) (m ∙ sym n),
+  ap (λ (r : Result). r .table) (m ∙ sym n),
 )
