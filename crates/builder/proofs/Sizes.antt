@@ -5,6 +5,7 @@ use native.Mathlib.Omega.{arith}
 use Rattle.model.specs.Objects as m
 use Rattle.model.specs.Objects.{Atom, Stxs, nil, cons, atom, list, size, sizes}
 use Rattle.model.specs.Trees.{Tree, Trees, var, app, fun, datum, lst, stx, tnil, tcons, fromStxs, loadSize, tsizeBy}
+use Rattle.laws.proofs.Sizes.{size-some}
 use Rattle.builder.specs.Building.{loadSizes}
 
 -- a syntax value counts as its object
@@ -52,11 +53,6 @@ loads-none = refl
 pub loads-cons : (t : Tree) (ts : Trees) → loadSizes (tcons t ts) ≡ loadSize t + loadSizes ts
 unfolding loadSize tsizeBy
 loads-cons t ts = refl
-
-size-some : (x : m.Stx) → 1 ≤ size x
-unfolding size
-size-some (atom c a) = omega arith
-size-some (list c ps) = omega arith
 
 pub load-some : (t : Tree) → 1 ≤ loadSize t
 unfolding loadSize tsizeBy

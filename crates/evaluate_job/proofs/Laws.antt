@@ -4,8 +4,6 @@ use mathlib.Core.Path.{_≡_, refl, sym, ap, _∙_, subst}
 use mathlib.Core.List.{List, []}
 use native.Mathlib.Omega.{arith}
 use lib.ListN.{length, drop}
-use Rattle.model.specs.Objects.{Stx, atom, list, size}
-use Rattle.model.specs.Trees.{Tree, var, app, fun, datum, lst, stx, loadSize}
 use Rattle.model.specs.Steps as m
 use Rattle.model.specs.Steps.{ok, no}
 use Rattle.model.specs.Evaluating.{evaluate}
@@ -24,26 +22,13 @@ use Rattle.heading.specs.Headings.{Headed}
 use Rattle.builder.specs.Reads.{TreeRead}
 use Rattle.builder.specs.Building.{Judged, Builds}
 use Rattle.builder.specs.declared.Built.{Built}
+use Rattle.builder.proofs.Sizes.{load-some}
 use Rattle.evaluate.specs.Evaluation.{Evaluates}
 use Rattle.endings.specs.declared.Ending.{Ending}
 use Rattle.endings.specs.declared.Ending.the-variants as ending
 use Rattle.endings.specs.Ends.{EndsAs, TreeDone, EndsTree}
 use Rattle.endings.proofs.Worked.{Came, came-done, came-ends, stop-ends}
 use Rattle.evaluate_job.specs.Loading.{Loading, LoadedEnds}
-
-object-some : (x : Stx) → 1 ≤ size x
-unfolding size
-object-some (atom c a) = omega arith
-object-some (list c l) = omega arith
-
-load-some : (t : Tree) → 1 ≤ loadSize t
-unfolding loadSize
-load-some (var n) = omega arith
-load-some (app h l) = omega arith
-load-some (fun n b) = omega arith
-load-some (datum a) = omega arith
-load-some (lst l) = omega arith
-load-some (stx x) = object-some x
 
 module _ {image : List ℕ} {h : Head} {end root : ℕ} {l : List ℕ} {s : State} {budget : ℕ} (d : Loading image h end root l s budget) where
   pub tree-judged : Headed image h end → Judged (TreeRead (h .scopes)) l (s .top) image root (h .scopes)

@@ -6,8 +6,8 @@ use native.Mathlib.Omega.{arith}
 use lib.ListN.{length, drop}
 use Rattle.model.specs.Limits.{mostNesting}
 use Rattle.model.specs.Scopes.{Scopes}
-use Rattle.model.specs.Objects.{Stx, atom, list, size}
-use Rattle.model.specs.Trees.{stx, loadSize}
+use Rattle.model.specs.Objects.{Stx}
+use Rattle.model.specs.Trees.{stx}
 use Rattle.model.specs.Steps as m
 use Rattle.model.specs.Steps.{no}
 use Rattle.model.specs.Expanding.{expand, coreOnly}
@@ -30,6 +30,7 @@ use Rattle.builder.specs.Reads.{ObjectRead, object-read}
 use Rattle.builder.specs.Building as built
 use Rattle.builder.specs.Building.{Builds}
 use Rattle.builder.specs.declared.Built.{Built}
+use Rattle.builder.proofs.Sizes.{load-stx, load-some}
 use Rattle.expand.specs.declared.Context.{Context}
 use Rattle.expand.specs.Cycle.{Ready, Expanded}
 use Rattle.judged.specs.declared.Judgement.{Judgement}
@@ -38,15 +39,6 @@ use Rattle.endings.specs.declared.Ending.the-variants as ending
 use Rattle.endings.specs.Ends.{SyntaxDone, EndsSyntax}
 use Rattle.expand_job.specs.Loading.{Loading, LoadedEnds}
 use Rattle.expand_job.proofs.Worked.{Came, came-done, came-ends, stop-ends}
-
-object-some : (x : Stx) → 1 ≤ size x
-unfolding size
-object-some (atom c a) = omega arith
-object-some (list c l) = omega arith
-
-load-is : (x : Stx) → loadSize (stx x) ≡ size x
-unfolding loadSize
-load-is x = refl
 
 abbrev atCore : ℕ → ScopeSet → Context
 atCore ph none = record { phase = ph; meanings = 0; prunable = none }
@@ -64,13 +56,13 @@ module _ {image : List ℕ} {j : Judgement} {st l : List ℕ} {s : State} {budge
       let q = d .first in
       let r = d .good .held .lent .room in
       let z = d .good .known .size-is in
-      let k = load-is object in
+      let k = load-stx object in
       record {
         thing = stx object;
         rest = [];
         read = read;
         room = record {
-          fits = omega (arith, object-some object);
+          fits = omega (arith, load-some (stx object));
           small = d .good .held .lent .small;
           low = omega arith;
           place = record { inside = d .good .known .root-within; short = d .good .known .short };
@@ -85,7 +77,7 @@ module _ {image : List ℕ} {j : Judgement} {st l : List ℕ} {s : State} {budge
         let q = d .first in
         let r = d .good .held .lent .room in
         let y = d .good .known .size-is in
-        let k = load-is object in
+        let k = load-stx object in
         let z = w .means (stx object) [] read in
         let g = z .grows in
         let u = w .rises in

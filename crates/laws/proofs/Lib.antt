@@ -8,3 +8,4 @@ pub mod Members
 pub mod Store
 pub mod StepLaws
 pub mod Units
+pub mod Sizes

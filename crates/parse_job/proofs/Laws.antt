@@ -5,8 +5,8 @@ use mathlib.Core.List.{List, []}
 use native.Mathlib.Omega.{arith}
 use lib.ListN.{length, drop}
 use Rattle.model.specs.Limits.{mostNesting}
-use Rattle.model.specs.Objects.{Stx, atom, list, size}
-use Rattle.model.specs.Trees.{Tree, stx, loadSize}
+use Rattle.model.specs.Objects.{Stx}
+use Rattle.model.specs.Trees.{Tree, stx}
 use Rattle.model.specs.Steps as m
 use Rattle.model.specs.Steps.{no}
 use Rattle.model.specs.Parsing.{parse}
@@ -26,6 +26,7 @@ use Rattle.head.specs.declared.Head.{Head}
 use Rattle.builder.specs.Reads.{ObjectRead, object-read}
 use Rattle.builder.specs.Building.{Judged, Builds}
 use Rattle.builder.specs.declared.Built.{Built}
+use Rattle.builder.proofs.Sizes.{load-stx, load-some}
 use Rattle.parse.specs.Shown.{trees}
 use Rattle.parse.specs.Parsing.{Ready, Parsed}
 use Rattle.endings.specs.declared.Ending.{Ending}
@@ -33,15 +34,6 @@ use Rattle.endings.specs.declared.Ending.the-variants as ending
 use Rattle.endings.specs.Ends.{TreeDone, EndsTree}
 use Rattle.endings.proofs.Worked.{Came, came-done, came-ends, stop-ends}
 use Rattle.parse_job.specs.Loading.{Loading, LoadedEnds}
-
-object-some : (x : Stx) → 1 ≤ size x
-unfolding size
-object-some (atom c a) = omega arith
-object-some (list c l) = omega arith
-
-load-object : (x : Stx) → loadSize (stx x) ≡ size x
-unfolding loadSize
-load-object x = refl
 
 module _ {image : List ℕ} {j : Judgement} {store l : List ℕ} {s : State} {budget : ℕ} (d : Loading image j store l s budget) where
   abbrev good : SyntaxGood image store j
@@ -60,13 +52,13 @@ module _ {image : List ℕ} {j : Judgement} {store l : List ℕ} {s : State} {bu
       let q = d .first in
       let r = d .known .lent .room in
       let z = good .size-is in
-      let y = load-object root in
+      let y = load-stx root in
       record {
         thing = stx root;
         rest = [];
         read = reads;
         room = record {
-          fits = omega (arith, object-some root);
+          fits = omega (arith, load-some (stx root));
           small = d .known .lent .small;
           low = omega arith;
           place = record { inside = good .root-within; short = good .short };
@@ -81,7 +73,7 @@ module _ {image : List ℕ} {j : Judgement} {store l : List ℕ} {s : State} {bu
         let q = d .first in
         let r = d .known .lent .room in
         let k = good .size-is in
-        let y = load-object root in
+        let y = load-stx root in
         let z = w .means (stx root) [] reads in
         let g = z .grows in
         let u = w .rises in

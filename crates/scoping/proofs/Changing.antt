@@ -4,9 +4,10 @@ use mathlib.Core.List.{List}
 use Prim.Native.Nat.{ℕ, zero, suc, _+_, _-_, _*_, _≤_, _<_, min}
 use native.Mathlib.Omega.{arith}
 use lib.ListN.{length}
-use Rattle.model.specs.Objects.{Stx, atom, list, size}
+use Rattle.model.specs.Objects.{Stx, size}
 use Rattle.model.specs.Trees.{stx}
 use Rattle.model.specs.Steps.{ok}
+use Rattle.laws.proofs.Sizes.{size-some}
 use Rattle.steps.specs.States.{Store, stateOf, paid, raisedTo, chargeOf, Room}
 use Rattle.steps.specs.Agreement.{Agrees, gives, stops}
 use Rattle.steps.specs.declared.State.{State}
@@ -23,11 +24,6 @@ use Rattle.things.specs.declared.Extent.{Extent}
 use Rattle.things.specs.declared.Made.{Made}
 use Rattle.syntax.specs.Copying.{Copyable, Copied}
 use Rattle.scoping.specs.Changing.{ShownObject, objects, ReadyObject, changeRule, Changes}
-
-pub size-some : (x : Stx) → 1 ≤ size x
-unfolding size
-size-some (atom c a) = omega arith
-size-some (list c l) = omega arith
 
 pub object-seen : {l : List ℕ} {s : State} {i : ℕ} → ReadyObject l s i → Seen l i
 object-seen {s = s} r = record { top = s .top; thing = stx (r .thing); shown = r .shown; inside = omega (arith, r .room .fits); small = r .room .small }

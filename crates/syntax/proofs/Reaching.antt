@@ -7,6 +7,7 @@ use lib.ListN.{length}
 use Rattle.model.specs.Objects as m
 use Rattle.model.specs.Objects.{Atom, tagOf, contentOf, Stx, Stxs, atom, list, nil, cons, size, sizes, nesting, nestings}
 use Rattle.model.specs.Trees.{stx, tnil, fromStxs}
+use Rattle.laws.proofs.Sizes.{size-some}
 use Rattle.table.specs.Tags.{listTag}
 use Rattle.table.specs.Words.{getNode, getSets, getCell, Same}
 use Rattle.table.specs.declared.Node.{Node}
@@ -18,7 +19,7 @@ use Rattle.things.proofs.Frame.{below, carryP}
 use Rattle.things.proofs.ByTag.{atom-at, list-at, stx-tag, ConsAt, cons-at, cons-some}
 use Rattle.syntax.specs.Reaching.{Reached, ReachedP, Copying, CopiedBy, Puttable, Put}
 use Rattle.syntax.specs.Rows.{Laid, laid-none, laid-one, CopiedEach, Row, Chained}
-use Rattle.syntax.proofs.Sizes.{size-pos, nesting-pos, size-atom, size-list, nesting-list, sizes-cons, nestings-cons}
+use Rattle.syntax.proofs.Sizes.{nesting-pos, size-atom, size-list, nesting-list, sizes-cons, nestings-cons}
 use Rattle.syntax.proofs.Rows.{laid-grows, laid-room, laid-flat, laid-stays}
 
 -- ---- what stands at an object's index
@@ -61,7 +62,7 @@ atom-is {o = o} {c = c} r e d h =
 
 module _ {lv : ℕ} {l : List ℕ} {top i : ℕ} (r : Reached lv l top i) where
   pub object-inside : i + 8 ≤ length l
-  object-inside = omega (arith, r .object .room, size-pos (r .object .thing), below (r .object .shown))
+  object-inside = omega (arith, r .object .room, size-some (r .object .thing), below (r .object .shown))
 
   pub levels-left : 1 ≤ lv
   levels-left = omega (arith, r .flat, nesting-pos (r .object .thing))
@@ -70,7 +71,7 @@ module _ {lv : ℕ} {l : List ℕ} {top i : ℕ} (r : Reached lv l top i) where
     pub atom-puttable : ¬ (o .tag ≡ listTag) → Puttable l top o
     atom-puttable h =
         record {
-          room = record { fits = omega (arith, r .object .room, size-pos (r .object .thing)); small = r .object .small; low = r .object .low };
+          room = record { fits = omega (arith, r .object .room, size-some (r .object .thing)); small = r .object .small; low = r .object .low };
           kind = stx-tag (r .object .shown) e;
         }
 

@@ -6,6 +6,7 @@ use native.Mathlib.Omega.{arith}
 use lib.ListN.{length}
 use Rattle.model.specs.Objects.{Stx, Stxs, nil, cons, size, sizes, nestings, onSets, onSetsAll}
 use Rattle.model.specs.Trees.{tnil, tcons, fromStxs, tsize, strip, stripAll}
+use Rattle.laws.proofs.Sizes.{size-some}
 use Rattle.table.specs.Words.{Same}
 use Rattle.table.proofs.Laws.{same-refl, same-under, same-trans}
 use Rattle.things.specs.Weights.{weight}
@@ -17,7 +18,7 @@ use Rattle.things.proofs.Weighing.{size-stx, weight-stx}
 use Rattle.things.proofs.Frame.{up, stays}
 use Rattle.syntax.specs.Reaching.{Copying, changing, stripping, copyOf, copiesOf}
 use Rattle.syntax.specs.Rows.{Laid, laid-none, laid-one, Sized, Row, Chained}
-use Rattle.syntax.proofs.Sizes.{size-pos, sizes-nil, sizes-cons, nestings-cons, size-onSets, size-strip, weight-strip}
+use Rattle.syntax.proofs.Sizes.{sizes-nil, sizes-cons, nestings-cons, size-onSets, size-strip, weight-strip}
 
 -- ---- what is copied, by the first part
 
@@ -35,7 +36,7 @@ copies-cons stripping x ps = refl
 
 copy-size : (w : Copying) (x : Stx) → max (tsize (copyOf w x)) (weight (copyOf w x)) ≡ size x
 unfolding copyOf
-copy-size (changing f) x = omega (arith, size-stx (onSets f x), weight-stx (onSets f x), size-onSets f x, size-pos x)
+copy-size (changing f) x = omega (arith, size-stx (onSets f x), weight-stx (onSets f x), size-onSets f x, size-some x)
 copy-size stripping x = omega (arith, size-strip x, weight-strip x)
 
 module _ {l : List ℕ} {i : ℕ} {n : Extent} (m : Measured l i n) where
@@ -59,7 +60,7 @@ module _ {l : List ℕ} {i : ℕ} {n : Extent} (m : Measured l i n) where
 
 pub laid-grows : {w : Copying} {l : List ℕ} {from end : ℕ} {ps rest : Stxs} → Laid w l from ps end rest → from ≤ end
 laid-grows laid-none = omega arith
-laid-grows (laid-one {x = x} d p q r) = omega (arith, laid-grows d, size-pos x)
+laid-grows (laid-one {x = x} d p q r) = omega (arith, laid-grows d, size-some x)
 
 -- what the rest would want still fits
 pub laid-room : {w : Copying} {l : List ℕ} {from end : ℕ} {ps rest : Stxs} → Laid w l from ps end rest → end + 13 * sizes rest ≤ from + 13 * sizes ps
@@ -73,7 +74,7 @@ laid-flat (laid-one {x = x} {rest = rest} d p q r) = omega (arith, laid-flat d, 
 pub laid-stays : {w : Copying} {l l′ : List ℕ} {from end : ℕ} {ps rest : Stxs} → Laid w l from ps end rest → Same end l l′ → Laid w l′ from ps end rest
 laid-stays laid-none e = laid-none
 laid-stays {l = l} {l′ = l′} (laid-one {b = b} {end = end} {x = x} d p q r) e =
-    laid-one (laid-stays d (same-under b end l l′ (omega (arith, size-pos x)) e)) p q (stays r e)
+    laid-one (laid-stays d (same-under b end l l′ (omega (arith, size-some x)) e)) p q (stays r e)
 
 -- its last copy
 record LastOf (w : Copying) (l : List ℕ) (from : ℕ) (ps : Stxs) (end : ℕ) (rest : Stxs) : Type 0 where
@@ -88,7 +89,7 @@ last-of : {w : Copying} {l : List ℕ} {from end : ℕ} {ps rest : Stxs} → Lai
 last-of laid-none h = absurd (h refl)
 last-of {w} {l} {from} (laid-one {b = b} {at = at} {end = end} {x = x} d p q r) h =
     let e : end - 8 ≡ at = omega arith in
-    record { begin = b; thing = x; before = d; span = q; high = omega (arith, laid-grows d, size-pos x); shown = rw e r }
+    record { begin = b; thing = x; before = d; span = q; high = omega (arith, laid-grows d, size-some x); shown = rw e r }
 
 -- what was copied there has the size that is found
 last-size : {w : Copying} {l : List ℕ} {from end n : ℕ} {ps rest : Stxs} → Sized l (end - 8) n → (z : LastOf w l from ps end rest) → sizes ps ≤ 4096 → n ≡ size (z .thing)
@@ -98,7 +99,7 @@ last-size {w} {end = end} {rest = rest} s z few =
 
 all-linked : {w : Copying} {l : List ℕ} {from end : ℕ} {ps rest : Stxs} → Laid w l from ps end rest → end ≡ from → rest ≡ ps
 all-linked laid-none h = refl
-all-linked (laid-one {x = x} d p q r) h = absurd (omega (arith, laid-grows d, size-pos x))
+all-linked (laid-one {x = x} d p q r) h = absurd (omega (arith, laid-grows d, size-some x))
 
 -- ---- the chain so far: `at` stands for the rest, which lay from `last` on
 
@@ -170,7 +171,7 @@ module _ {l l1 : List ℕ} {from end at top last : ℕ} (r : Row l from end) (d 
       last-falls =
           let k = d .means (r .by) (r .thing) (r .laid) (r .charged) in
           let z = last-of (k .laid) h in
-          omega (arith, last-size s z (r .charged), z .span, size-pos (z .thing))
+          omega (arith, last-size s z (r .charged), z .span, size-some (z .thing))
 
       pub last-tied : {l2 : List ℕ} {at2 top2 : ℕ} → Linked l1 l2 top (last - 8) at at2 top2 → length l2 ≡ length l1 → Tying l l2 from end at2 top2 (last + 5 - 13 * n)
       last-tied {l2} {at2} {top2} m len =
@@ -182,7 +183,7 @@ module _ {l l1 : List ℕ} {from end at top last : ℕ} (r : Row l from end) (d 
                 let k = d .means w ps u few in
                 let z = last-of (k .laid) h in
                 let e : last + 5 - 13 * n ≡ z .begin = omega (arith, last-size s z few, z .span) in
-                let low : z .begin ≤ top = omega (arith, z .span, size-pos (z .thing), k .room) in
+                let low : z .begin ≤ top = omega (arith, z .span, size-some (z .thing), k .room) in
                 let high : last ≤ top = omega (arith, k .room) in
                 rw e (record {
                   rest = cons (z .thing) (k .rest);

@@ -8,11 +8,6 @@ use Rattle.model.specs.Trees.{tsize, tsizeBy, tsizesBy, tnesting, tnestings, st
 
 -- ---- by the outermost part
 
-pub size-pos : (x : Stx) → 1 ≤ size x
-unfolding size
-size-pos (atom c a) = omega arith
-size-pos (list c ps) = omega arith
-
 pub nesting-pos : (x : Stx) → 1 ≤ nesting x
 unfolding nesting
 nesting-pos (atom c a) = omega arith

@@ -5,6 +5,7 @@ use Prim.Native.Nat.{ℕ, _≤_, min}
 use native.Mathlib.Omega.{arith}
 use Rattle.model.specs.Objects.{Stx, size, addScope, flipScope, pruneScopes}
 use Rattle.model.specs.Trees.{Trees, stx, strip}
+use Rattle.laws.proofs.Sizes.{size-some}
 use Rattle.scopes.specs.Sets.{scopesOf}
 use Rattle.scopes.specs.declared.Scope.{Scope}
 use Rattle.scopes.specs.declared.ScopeSet.{ScopeSet}
@@ -20,11 +21,10 @@ use Rattle.syntax.specs.Working.{sound-add, sound-flip, sound-prune, sou
 use Rattle.syntax.specs.Copying.{Copyable, Copied}
 use Rattle.syntax.specs.Reaching.{Reached, Copying, copyOf, CopiedBy}
 use Rattle.syntax.specs.declared.Act.the-variants.{Add, Flip, Prune, Strip}
-use Rattle.syntax.proofs.Sizes.{size-pos}
 
 module _ {l : List ℕ} {top i : ℕ} (r : Copyable l top i) where
   pub whole-seen : Seen l i
-  whole-seen = record { top = top; thing = stx (r .thing); shown = r .shown; inside = omega (arith, r .room, size-pos (r .thing)); small = r .small }
+  whole-seen = record { top = top; thing = stx (r .thing); shown = r .shown; inside = omega (arith, r .room, size-some (r .thing)); small = r .small }
 
   pub whole-reached : {x : Extent} → Measured l i x → Reached (x .nesting) l top i
   whole-reached m = record { object = r; flat = omega (arith, m .means top (stx (r .thing)) (r .shown) .nesting, nest-stx (r .thing)) }
