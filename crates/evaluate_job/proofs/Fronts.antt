@@ -32,6 +32,7 @@ use Rattle.refusals.specs.Refusing.{refusalOf, caseOf}
 use Rattle.refusals.proofs.Cases.{refusal-back}
 use Rattle.numbers.specs.declared.Cursor.{Cursor}
 use Rattle.numbers.specs.Answers.{kept}
+use Rattle.table.specs.Lending.{Lent}
 use Rattle.steps.specs.declared.State.{State}
 use Rattle.steps.specs.declared.Stop.{Stop}
 use Rattle.steps.specs.declared.Charged.{Charged}
@@ -58,7 +59,7 @@ use Rattle.endings.specs.declared.Ending.{Ending}
 use Rattle.endings.specs.declared.Ending.the-variants as ending
 use Rattle.endings.specs.Ends.{EndsAs, refuses, writes}
 use Rattle.evaluate_job.specs.Loading.{Loading, LoadedEnds}
-use Rattle.evaluate_job.specs.Judging.{work, imageOf, fromRoot, Lent, Headed, RootEnds, Judged, JudgedEnds}
+use Rattle.evaluate_job.specs.Judging.{work, imageOf, fromRoot, Headed, RootEnds, Judged, JudgedEnds}
 
 -- ---- the charge for loading
 

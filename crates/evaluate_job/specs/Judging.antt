@@ -1,5 +1,5 @@
 -- The job evaluate from a later place of the image on.
-use Prim.Native.Nat.{ℕ, _-_, _*_, _≤_}
+use Prim.Native.Nat.{ℕ, _-_, _≤_}
 use mathlib.Core.Path.{_≡_}
 use mathlib.Core.Bool.{true}
 use mathlib.Core.List.{List, []}
@@ -12,6 +12,7 @@ use Rattle.model.specs.Reading.{Read, got, next, Image, readHead, readTree}
 use Rattle.model.specs.Writing.{treeImageBytes}
 use Rattle.model.specs.Jobs as j
 use Rattle.model.specs.Jobs.{closed, withImage, worked, start, reached, fitted, evaluateRoot}
+use Rattle.table.specs.Lending.{Lent}
 use Rattle.image.specs.Measuring.{thenEnd}
 use Rattle.head.specs.declared.Head.{Head}
 use Rattle.head.specs.Heads.{headOf}
@@ -32,11 +33,6 @@ imageOf h t = record { head = h; binds = []; root = t }
 -- from the root on, behind the head h
 unfoldable pub fromRoot : m.Head → ℕ → ℕ → List ℕ → j.Ending
 fromRoot h budget room s = withImage (next (thenEnd (readTree 64 h 0) s) (λ t u. got (imageOf h t) u)) (work budget room)
-
--- 16 words per unit of budget
-pub record Lent (l : List ℕ) (budget : ℕ) : Type 0 where
-  pub room : 16 * budget ≤ length l
-  pub small : length l ≤ 65536
 
 -- the head h of the image ends at `end`
 pub record Headed (image : List ℕ) (h : Head) (end : ℕ) (l : List ℕ) (budget : ℕ) : Type 0 where

@@ -11,9 +11,10 @@ use steps::Charged;
 use steps::State;
 ghost use lib.ListN.{length};
 ghost use Rattle.model.specs.Jobs.{evaluateEnding};
+ghost use Rattle.table.specs.Lending.{Lent};
 ghost use Rattle.endings.specs.Ends.{EndsAs};
 ghost use Rattle.evaluate_job.specs.Loading.{Loading, LoadedEnds};
-ghost use Rattle.evaluate_job.specs.Judging.{Lent, Headed, RootEnds, Judged, JudgedEnds};
+ghost use Rattle.evaluate_job.specs.Judging.{Headed, RootEnds, Judged, JudgedEnds};
 
 // The tree at `root` of the image, charged for: it is built in the table and evaluated, and its value written.
 fn evaluate_loaded(

@@ -1,5 +1,5 @@
 -- The job expand from a judged image on: before its root is charged for, and after.
-use Prim.Native.Nat.{ℕ, _+_, _-_, _*_, _≤_}
+use Prim.Native.Nat.{ℕ, _+_, _-_, _≤_}
 use mathlib.Core.Path.{_≡_}
 use mathlib.Core.List.{List}
 use lib.ListN.{length}
@@ -10,6 +10,7 @@ use Rattle.model.specs.Steps as m
 use Rattle.model.specs.Expanding.{expand, coreOnly}
 use Rattle.model.specs.Jobs as j
 use Rattle.model.specs.Jobs.{withImage, worked, start, reached, fitted, expandRoot}
+use Rattle.table.specs.Lending.{Lent}
 use Rattle.store.specs.Words.{bindsOf}
 use Rattle.steps.specs.declared.State.{State}
 use Rattle.steps.specs.States.{stateOf}
@@ -32,12 +33,7 @@ unfoldable pub imageEnding : ℕ → ℕ → ℕ → List ℕ → j.Ending
 unfolding work
 imageEnding ph budget room image = withImage (readImage readSyntax image) (work ph budget room)
 
--- 16 words per unit of budget
-pub record Lent (l : List ℕ) (budget : ℕ) : Type 0 where
-  pub room : 16 * budget ≤ length l
-  pub small : length l ≤ 65536
-
--- and words for 128 bindings
+-- a table lent for the budget, and words for 128 bindings
 pub record Held (store l : List ℕ) (budget : ℕ) : Type 0 where
   pub lent : Lent l budget
   pub wide : 384 ≤ length store

@@ -11,8 +11,9 @@ use steps::State;
 use store::resolving::Resolving;
 ghost use lib.ListN.{length};
 ghost use Rattle.model.specs.Jobs.{expandEnding};
+ghost use Rattle.table.specs.Lending.{Lent};
 ghost use Rattle.endings.specs.Ends.{EndsAs};
-ghost use Rattle.expand_job.specs.Loading.{imageEnding, Lent, Held, Good, GoodEnds, Loading, LoadedEnds};
+ghost use Rattle.expand_job.specs.Loading.{imageEnding, Held, Good, GoodEnds, Loading, LoadedEnds};
 
 // The root, charged for: it is built in the table and expanded with the core meanings, and the result written with all bindings.
 fn expand_loaded(

@@ -16,12 +16,10 @@ use Rattle.model.specs.Jobs as m
 use Rattle.model.specs.Jobs.{answerOf, outputAfter, cleared, budgetFits, lent, evaluateEnding, evaluateJob, expandEnding, expandJob, parseEnding, parseJob}
 use Rattle.refusals.specs.declared.Refusal.{Refusal}
 use Rattle.refusals.specs.Refusing.{refusalOf}
+use Rattle.table.specs.Lending.{Lent}
 use Rattle.endings.specs.declared.Ending.{Ending}
 use Rattle.endings.specs.declared.Ending.the-variants.{Refused, Written}
 use Rattle.endings.specs.Ends.{EndsAs, refuses, writes}
-use Rattle.evaluate_job.specs.Judging as evaluate
-use Rattle.expand_job.specs.Loading as expand
-use Rattle.parse_job.specs.Judging as parse
 use Rattle.meirhuppa.specs.Endings.{answerIs}
 use Rattle.meirhuppa.specs.Written.{answerFor, Short, no-image, an-image}
 
@@ -97,10 +95,10 @@ module _ (budget : ℕ) (table out : List ℕ) (q : m.Ending) {a : m.Answer} whe
 pub part-long : (budget : ℕ) (table : List ℕ) → budget * 16 ≤ length table → budget * 16 ≡ length (take (budget * 16) table)
 part-long budget table k = sym (length-take-le (budget * 16) table k)
 
--- ---- evaluate
+pub part-lent : (budget : ℕ) (table : List ℕ) → budget ≤ 4096 → budget * 16 ≤ length table → Lent (take (budget * 16) table) budget
+part-lent budget table h k = let l = part-long budget table k in record { room = omega arith; small = omega arith }
 
-pub evaluate-lent : (budget : ℕ) (table : List ℕ) → budget ≤ 4096 → budget * 16 ≤ length table → evaluate.Lent (take (budget * 16) table) budget
-evaluate-lent budget table h k = let l = part-long budget table k in record { room = omega arith; small = omega arith }
+-- ---- evaluate
 
 module _ (image : List ℕ) (budget : ℕ) (table out : List ℕ) {a : m.Answer} where
   pub evaluate-over : 4096 < budget → a ≡ answerOf (m.refused smallTable 0) → record { answer = a; output = out; table = table } ≡ evaluateJob image budget table out
@@ -116,12 +114,9 @@ module _ (image : List ℕ) (budget : ℕ) (table out : List ℕ) {a : m.Answer}
   unfolding evaluateJob
   evaluate-ended p h k len c w e = ended budget table out (evaluateEnding image budget (length out)) h k p len c w e
 
-pub ruleset evaluate-laws = (part-long, ends-short, evaluate-lent, evaluate-over, evaluate-few, evaluate-ended)
+pub ruleset evaluate-laws = (part-long, part-lent, ends-short, evaluate-over, evaluate-few, evaluate-ended)
 
 -- ---- expand
-
-pub expand-lent : (budget : ℕ) (table : List ℕ) → budget ≤ 4096 → budget * 16 ≤ length table → expand.Lent (take (budget * 16) table) budget
-expand-lent budget table h k = let l = part-long budget table k in record { room = omega arith; small = omega arith }
 
 module _ (image : List ℕ) (ph budget : ℕ) (table out : List ℕ) {a : m.Answer} where
   pub expand-over : 4096 < budget → a ≡ answerOf (m.refused smallTable 0) → record { answer = a; output = out; table = table } ≡ expandJob image ph budget table out
@@ -137,12 +132,9 @@ module _ (image : List ℕ) (ph budget : ℕ) (table out : List ℕ) {a : m.Answ
   unfolding expandJob
   expand-ended p h k len c w e = ended budget table out (expandEnding image ph budget (length out)) h k p len c w e
 
-pub ruleset expand-laws = (part-long, ends-short, expand-lent, expand-over, expand-few, expand-ended)
+pub ruleset expand-laws = (part-long, part-lent, ends-short, expand-over, expand-few, expand-ended)
 
 -- ---- parse
-
-pub parse-lent : (budget : ℕ) (table : List ℕ) → budget ≤ 4096 → budget * 16 ≤ length table → parse.Lent (take (budget * 16) table) budget
-parse-lent budget table h k = let l = part-long budget table k in record { room = omega arith; small = omega arith }
 
 module _ (image : List ℕ) (budget : ℕ) (table out : List ℕ) {a : m.Answer} where
   pub parse-over : 4096 < budget → a ≡ answerOf (m.refused smallTable 0) → record { answer = a; output = out; table = table } ≡ parseJob image budget table out
@@ -158,4 +150,4 @@ module _ (image : List ℕ) (budget : ℕ) (table out : List ℕ) {a : m.Answer}
   unfolding parseJob
   parse-ended p h k len c w e = ended budget table out (parseEnding image budget (length out)) h k p len c w e
 
-pub ruleset parse-laws = (part-long, ends-short, parse-lent, parse-over, parse-few, parse-ended)
+pub ruleset parse-laws = (part-long, part-lent, ends-short, parse-over, parse-few, parse-ended)

@@ -18,6 +18,7 @@ use Rattle.model.specs.Jobs as jobs
 use Rattle.model.specs.Jobs.{withImage, worked, start, reached, fitted, parseRoot, parseEnding}
 use Rattle.refusals.specs.declared.Refusal.{Refusal}
 use Rattle.refusals.specs.Refusing.{refusalOf}
+use Rattle.table.specs.Lending.{Lent}
 use Rattle.store.specs.Words.{bindsOf}
 use Rattle.steps.specs.declared.State.{State}
 use Rattle.steps.specs.declared.Stop.{Stop}
@@ -35,7 +36,7 @@ use Rattle.endings.specs.Working.{treeEnding}
 use Rattle.endings.specs.declared.Ending.{Ending}
 use Rattle.endings.specs.declared.Ending.the-variants as ending
 use Rattle.endings.specs.Ends.{EndsAs, refuses}
-use Rattle.parse_job.specs.Judging.{work, Lent, Known, KnownEnds}
+use Rattle.parse_job.specs.Judging.{work, Known, KnownEnds}
 use Rattle.parse_job.specs.Loading.{Loading, LoadedEnds}
 
 -- ---- a judged image

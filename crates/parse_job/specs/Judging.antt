@@ -1,5 +1,5 @@
 -- The job parse from a judged image on.
-use Prim.Native.Nat.{ℕ, _-_, _*_, _≤_}
+use Prim.Native.Nat.{ℕ, _-_, _≤_}
 use mathlib.Core.List.{List}
 use lib.ListN.{length}
 use Rattle.model.specs.Objects.{Stx}
@@ -7,6 +7,7 @@ use Rattle.model.specs.Reading.{Image}
 use Rattle.model.specs.Writing.{treeImageBytes}
 use Rattle.model.specs.Jobs as jobs
 use Rattle.model.specs.Jobs.{worked, start, reached, fitted, parseRoot}
+use Rattle.table.specs.Lending.{Lent}
 use Rattle.judged.specs.declared.Judgement.{Judgement}
 use Rattle.judged.specs.Judging.{SyntaxGood}
 use Rattle.endings.specs.declared.Ending.{Ending}
@@ -15,11 +16,6 @@ use Rattle.endings.specs.Ends.{EndsAs}
 -- the work of the job on an image that was read, with an output of `room` bytes
 unfoldable pub work : ℕ → ℕ → Image Stx → jobs.Ending
 work budget room i = worked budget (parseRoot (i .root) (start budget i)) (λ r s. fitted room (treeImageBytes (reached (i .head) s) r) (budget - s .left))
-
--- 16 words per unit of budget
-pub record Lent (l : List ℕ) (budget : ℕ) : Type 0 where
-  pub room : 16 * budget ≤ length l
-  pub small : length l ≤ 65536
 
 pub record Known (image : List ℕ) (j : Judgement) (store l : List ℕ) (budget : ℕ) : Type 0 where
   pub lent : Lent l budget

@@ -7,8 +7,9 @@ use steps::Charged;
 use steps::State;
 ghost use lib.ListN.{length};
 ghost use Rattle.model.specs.Jobs.{parseEnding};
+ghost use Rattle.table.specs.Lending.{Lent};
 ghost use Rattle.endings.specs.Ends.{EndsAs};
-ghost use Rattle.parse_job.specs.Judging.{Lent, Known, KnownEnds};
+ghost use Rattle.parse_job.specs.Judging.{Known, KnownEnds};
 ghost use Rattle.parse_job.specs.Loading.{Loading, LoadedEnds};
 
 // The root of the image, charged for: it is built in the table and parsed, and its tree written.
