@@ -6,8 +6,7 @@ use mathlib.Core.List.{List, [], _∷_, _++_}
 use native.Mathlib.Omega.{arith}
 use lib.ListN.{length, take, drop, getD, length-drop, length-append}
 use lib.Seq.{drop-at}
-use lib.Dec.{leb, ltb}
-use borrow.Author.Tests.{le-leb, lt-leb, ltb-true, ltb-false}
+use borrow.Author.Tests.{le-leb, lt-leb}
 use mir.Syntax.{w32}
 use mir.Val.{Fits}
 use Rattle.model.specs.Choice.{if_then_else_}
@@ -37,8 +36,8 @@ use Rattle.steps.specs.declared.State.{State}
 use Rattle.steps.specs.declared.Stop.{Stop}
 use Rattle.steps.specs.declared.Charged.{Charged}
 use Rattle.steps.specs.declared.Charged.the-variants.{Paid, Refused}
-use Rattle.steps.specs.States.{Store, stateOf, stopOf, paid, chargeOf}
-use Rattle.steps.proofs.Laws.{charge-ok, charge-no}
+use Rattle.steps.specs.States.{Store, stateOf, paid, chargeOf}
+use Rattle.steps.proofs.Laws.{charge-went, charge-failed, charge-ok, charge-no}
 use Rattle.image.specs.declared.Counts.{Counts}
 use Rattle.image.specs.declared.Extent.{Extent}
 use Rattle.image.specs.declared.TreeRead.{TreeRead}
@@ -60,32 +59,6 @@ use Rattle.endings.specs.declared.Ending.the-variants as ending
 use Rattle.endings.specs.Ends.{EndsAs, refuses, writes}
 use Rattle.evaluate_job.specs.Loading.{Loading, LoadedEnds}
 use Rattle.evaluate_job.specs.Judging.{work, imageOf, fromRoot, Headed, RootEnds, Judged, JudgedEnds}
-
--- ---- the charge for loading
-
-tested : {A : Type 0} (n : ℕ) (s : State) {q : Charged} → q ≡ chargeOf n s → ((s .units < n) → q ≡ Refused (stopOf refusal.OverBudget s) → A) → ((n ≤ s .units) → q ≡ Paid (paid n s) → A) → A
-unfolding chargeOf
-tested {A = A} n s {q} e less enough = go (ltb (s .units) n) refl e
-  where
-    go : (t : Bool) → ltb (s .units) n ≡ t → q ≡ (if t then Refused (stopOf refusal.OverBudget s) else Paid (paid n s)) → A
-    go true h i = less (ltb-true (s .units) n h) i
-    go false h i = enough (ltb-false (s .units) n h) i
-
-pub record NotPaid (n : ℕ) (s : State) (f : Stop) : Type 0 where
-  pub short : s .units < n
-  pub is : f ≡ stopOf refusal.OverBudget s
-
-pub record IsPaid (n : ℕ) (s t : State) : Type 0 where
-  pub enough : n ≤ s .units
-  pub is : t ≡ paid n s
-
-charge-refused : (n : ℕ) (s : State) {q : Charged} {f : Stop} → q ≡ chargeOf n s → q ≡ Refused f → NotPaid n s f
-charge-refused n s {f = f} e i =
-    tested n s e (λ h k. let p : f ≡ stopOf refusal.OverBudget s = cc in record { short = h; is = p }) (λ h k. let z : _≡_ {A = ℕ} 0 1 = cc in absurd (omega arith))
-
-pub charge-paid : (n : ℕ) (s : State) {q : Charged} {t : State} → q ≡ chargeOf n s → q ≡ Paid t → IsPaid n s t
-charge-paid n s {t = t} e i =
-    tested n s e (λ h k. let z : _≡_ {A = ℕ} 0 1 = cc in absurd (omega arith)) (λ h k. let p : t ≡ paid n s = cc in record { enough = h; is = p })
 
 -- ---- a judged root
 
@@ -115,14 +88,14 @@ module _ {image : List ℕ} {h : Head} {end size : ℕ} {l : List ℕ} {budget :
       ∙ ap (λ (ws : List (List ℕ)). treeEnding ws budget room o) (sym (d .known .words-are))
 
 pub unpaid-units : (h : Head) (size budget : ℕ) {q : Charged} {f : Stop} → q ≡ chargeOf size (first h budget) → q ≡ Refused f → f .units ≤ budget
-unpaid-units h size budget e i = let p = charge-refused size (first h budget) e i in let u = ap (λ (k : Stop). k .units) (p .is) in omega arith
+unpaid-units h size budget e i = let p = charge-failed size (first h budget) e i in let u = ap (λ (k : Stop). k .units) (p .is) in omega arith
 
 module _ {image : List ℕ} {h : Head} {end size : ℕ} {l : List ℕ} {budget : ℕ} {q : Charged} (e : q ≡ chargeOf size (first h budget)) where
   pub judged-refused : {f : Stop} (out : List ℕ) → q ≡ Refused f → JudgedEnds image h end size l budget out out (ending.Refused (f .refusal) (budget - f .units))
   unfolding worked
   judged-refused {f} out i = record {
     means = λ d.
-        let p = charge-refused size (first h budget) e i in
+        let p = charge-failed size (first h budget) e i in
         let short : budget < loadSize (d .thing) = subst (λ (n : ℕ). budget < n) (d .sized) (p .short) in
         let c : after (charge (loadSize (d .thing)) (stateOf (first h budget) noBinds)) (λ u. evaluate 128 (d .thing)) ≡ no overBudget budget =
         ap (λ (z : m.Out (Unit {0})). after z (λ u. evaluate 128 (d .thing))) (charge-no (loadSize (d .thing)) (first h budget) noBinds short) in
@@ -133,7 +106,7 @@ module _ {image : List ℕ} {h : Head} {end size : ℕ} {l : List ℕ} {budget :
   module _ {t : State} (i : q ≡ Paid t) where
     unfoldable pub judged-loading : Judged image h end size l budget → Loading image h end end l t budget
     judged-loading d =
-        let p = charge-paid size (first h budget) e i in
+        let p = charge-went size (first h budget) e i in
         let u : t .units ≡ budget - size = ap (λ (k : State). k .units) (p .is) in
         let n : t .names ≡ h .names = ap (λ (k : State). k .names) (p .is) in
         let w : t .top ≡ 1 = ap (λ (k : State). k .top) (p .is) in
@@ -157,7 +130,7 @@ module _ {image : List ℕ} {h : Head} {end size : ℕ} {l : List ℕ} {budget :
     unfolding judged-loading
     judged-ends {out} {out′} {x} y = record {
       means = λ d.
-          let p = charge-paid size (first h budget) e i in
+          let p = charge-went size (first h budget) e i in
           let enough : loadSize (d .thing) ≤ budget = subst (λ (n : ℕ). n ≤ budget) (d .sized) (p .enough) in
           let c : after (charge (loadSize (d .thing)) (stateOf (first h budget) noBinds)) (λ u. evaluate 128 (d .thing)) ≡ evaluate 128 (d .thing) (stateOf (paid (loadSize (d .thing)) (first h budget)) noBinds) =
           ap (λ (z : m.Out (Unit {0})). after z (λ u. evaluate 128 (d .thing))) (charge-ok (loadSize (d .thing)) (first h budget) noBinds enough) in
