@@ -1,25 +1,22 @@
 -- From what the work came to, to how the job ends: over any work that gives a tree.
 use Prim.Native.Nat.{ℕ, _-_, _≤_}
-use mathlib.Core.Path.{_≡_, refl, sym, ap, _∙_, subst}
+use mathlib.Core.Path.{_≡_, refl, sym, ap, subst}
 use mathlib.Core.List.{List}
 use native.Mathlib.Omega.{arith}
 use lib.ListN.{length}
 use Rattle.model.specs.Trees.{Tree}
-use Rattle.model.specs.Writing.{treeImageBytes}
 use Rattle.model.specs.Steps as m
 use Rattle.model.specs.Steps.{ok, no}
-use Rattle.model.specs.Jobs as j
-use Rattle.model.specs.Jobs.{worked, fitted}
+use Rattle.model.specs.Jobs.{worked}
 use Rattle.refusals.specs.Refusing.{refusalOf}
-use Rattle.steps.specs.declared.State.{State}
 use Rattle.steps.specs.declared.Stop.{Stop}
 use Rattle.steps.specs.declared.Out.{Out}
-use Rattle.steps.specs.States.{Store, stateOf}
+use Rattle.steps.specs.States.{Store, stateOf, Room}
 use Rattle.things.specs.Rep.{Rep}
 use Rattle.head.specs.declared.Head.{Head}
-use Rattle.heading.specs.Headings.{headWith, Headed}
+use Rattle.heading.specs.Headings.{Headed}
 use Rattle.endings.specs.declared.Ending.{Ending}
-use Rattle.endings.specs.declared.Ending.the-variants.{Refused, Written}
+use Rattle.endings.specs.declared.Ending.the-variants.{Refused}
 use Rattle.endings.specs.Ends.{EndsAs, refuses, TreeDone, EndsTree}
 use Rattle.endings.specs.Working.{treeEnding}
 
@@ -28,8 +25,7 @@ pub record Came (l : List ℕ) (b : Store) (names units : ℕ) (q : m.Out Tree) 
   pub value : Tree
   pub is : q ≡ ok value (stateOf (o .state) b)
   pub rep : Rep l (o .state .top) (o .at) value
-  pub inside : o .state .top ≤ length l
-  pub small : length l ≤ 65536
+  pub room : Room l (o .state)
   pub names-from : names ≤ o .state .names
   pub within : o .state .units ≤ units
 
@@ -42,8 +38,8 @@ came-done g n u c = record {
     top = _;
     thing = c .value;
     shown = c .rep;
-    inside = c .inside;
-    small = c .small;
+    inside = omega (arith, c .room .fits);
+    small = c .room .small;
   };
   within = omega (arith, c .within);
 }

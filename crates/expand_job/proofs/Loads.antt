@@ -1,10 +1,9 @@
 -- The job expand from a root that was charged for on, by the tests that the code makes.
 use Prim.Native.Nat.{ℕ, _+_, _-_, _≤_}
-use mathlib.Core.Path.{_≡_, refl, sym, ap, _∙_, subst}
+use mathlib.Core.Path.{_≡_, refl, sym, ap, subst}
 use mathlib.Core.List.{List, []}
 use native.Mathlib.Omega.{arith}
-use lib.ListN.{length, drop}
-use Rattle.model.specs.Limits.{mostNesting}
+use lib.ListN.{length}
 use Rattle.model.specs.Scopes.{Scopes}
 use Rattle.model.specs.Objects.{Stx}
 use Rattle.model.specs.Trees.{stx}
@@ -21,19 +20,20 @@ use Rattle.steps.specs.declared.Stop.{Stop}
 use Rattle.steps.specs.declared.Out.{Out}
 use Rattle.steps.specs.declared.Answer.{Answer}
 use Rattle.steps.specs.declared.Answer.the-variants.{Done, Refused}
-use Rattle.steps.specs.States.{stateOf, raisedTo}
-use Rattle.steps.specs.Agreement.{ended, Agrees, gives, stops}
-use Rattle.head.specs.declared.Head.{Head}
+use Rattle.steps.specs.States.{stateOf, raisedTo, Room}
+use Rattle.steps.specs.Agreement.{ended, Agrees}
+use Rattle.steps.proofs.Laws.{room-later, on-done, on-refused}
+use Rattle.things.specs.Rep.{Rep}
 use Rattle.environment.specs.Meanings.{is-core}
 use Rattle.scoping.specs.Changing.{objects}
-use Rattle.builder.specs.Reads.{ObjectRead, object-read}
+use Rattle.builder.specs.Reads.{ObjectRead}
 use Rattle.builder.specs.Building as built
 use Rattle.builder.specs.Building.{Builds}
 use Rattle.builder.specs.declared.Built.{Built}
-use Rattle.builder.proofs.Sizes.{load-stx, load-some}
 use Rattle.expand.specs.declared.Context.{Context}
 use Rattle.expand.specs.Cycle.{Ready, Expanded}
 use Rattle.judged.specs.declared.Judgement.{Judgement}
+use Rattle.loading.proofs.Building.{object-reads, object-judged, object-room}
 use Rattle.endings.specs.declared.Ending.{Ending}
 use Rattle.endings.specs.declared.Ending.the-variants as ending
 use Rattle.endings.specs.Ends.{SyntaxDone, EndsSyntax}
@@ -47,51 +47,27 @@ module _ {image : List ℕ} {j : Judgement} {st l : List ℕ} {s : State} {budge
   abbrev object : Stx
   object = d .good .known .image .root
 
-  read : ObjectRead (j .head .scopes) (drop (j .root) image) (stx object) []
-  read = object-read mostNesting (d .good .known .image .head) (ap (λ (k : Head). k .scopes) (sym (d .good .known .head-is))) (d .good .known .root-reads)
-
-  pub object-judged : built.Judged (ObjectRead (j .head .scopes)) l (s .top) image (j .root) (j .head .scopes)
-  object-judged =
-      let p = d .paid in
-      let q = d .first in
-      let r = d .good .held .lent .room in
-      let z = d .good .known .size-is in
-      let k = load-stx object in
-      record {
-        thing = stx object;
-        rest = [];
-        read = read;
-        room = record {
-          fits = omega (arith, load-some (stx object));
-          small = d .good .held .lent .small;
-          low = omega arith;
-          place = record { inside = d .good .known .root-within; short = d .good .known .short };
-          few = d .good .known .scopes-to;
-        };
-      }
+  pub root-judged : built.Judged (ObjectRead (j .head .scopes)) l (s .top) image (j .root) (j .head .scopes)
+  root-judged = object-judged (d .good .known) (d .loaded) (d .good .held .lent)
 
   module _ {l′ : List ℕ} {b : Built} (w : Builds (ObjectRead (j .head .scopes)) l l′ (s .top) image (j .root) (j .root + 1) b) (same : length l′ ≡ length l) where
+    room : Room l′ (raisedTo (b .top) s)
+    room = object-room (d .good .known) (d .loaded) (d .good .held .lent) w same
+
+    shown : Rep l′ (b .top) (b .at) (stx object)
+    shown = w .means (stx object) [] (object-reads (d .good .known)) .shown
+
     ready : (at : Context) → at .meanings ≡ 0 → Ready l′ st (raisedTo (b .top) s) (b .at) at
-    ready at core =
-        let p = d .paid in
-        let q = d .first in
-        let r = d .good .held .lent .room in
-        let y = d .good .known .size-is in
-        let k = load-stx object in
-        let z = w .means (stx object) [] read in
-        let g = z .grows in
-        let u = w .rises in
-        let n = d .bindings-are in
-        record {
-          thing = object;
-          shown = z .shown;
-          within = record {
-            meant = coreOnly;
-            known = rw core is-core;
-            room = record { fits = omega arith; small = rw same (d .good .held .lent .small); low = omega arith };
-            held = record { few = omega (arith, d .good .known .few-binds); wide = d .good .held .wide };
-          };
-        }
+    ready at core = record {
+      thing = object;
+      shown = shown;
+      within = record {
+        meant = coreOnly;
+        known = rw core is-core;
+        room = room;
+        held = record { few = omega (arith, d .loaded .bindings-are, d .good .known .few-binds); wide = d .good .held .wide };
+      };
+    }
 
     pub object-ready : {t : State} {ph : ℕ} {none : ScopeSet} → t ≡ raisedTo (b .top) s → Ready l′ st t (b .at) (atCore ph none)
     object-ready {ph = ph} {none = none} e = subst (λ (z : State). Ready l′ st z (b .at) (atCore ph none)) (sym e) (ready (atCore ph none) refl)
@@ -107,52 +83,33 @@ module _ {image : List ℕ} {j : Judgement} {st l : List ℕ} {s : State} {budge
       agrees : Agrees objects 1 5 l′ l″ (raisedTo (b .top) s) (bindsOf st′) result (ended a)
       agrees =
           subst (λ (p : Scopes). Agrees objects 1 5 l′ l″ (raisedTo (b .top) s) (bindsOf st′) (expand 128 ph coreOnly p object (stateOf s (bindsOf st))) (ended a)) ne
-          (v′ .means object coreOnly (w .means (stx object) [] read .shown) is-core)
+          (v′ .means object coreOnly shown is-core)
 
       stopped : {f : Stop} → a ≡ Refused f → result ≡ no (refusalOf (f .refusal)) (f .units)
-      stopped {f} e = go a agrees e
-        where
-          go : (y : Answer) → Agrees objects 1 5 l′ l″ (raisedTo (b .top) s) (bindsOf st′) result (ended y) → y ≡ Refused f → result ≡ no (refusalOf (f .refusal)) (f .units)
-          go (Done o) g e = let z : _≡_ {A = ℕ} 0 1 = cc in absurd (omega arith)
-          go (Refused k) (stops c q) e = let i : k ≡ f = cc in q ∙ ap (λ (x : Stop). no (refusalOf (x .refusal)) (x .units)) i
+      stopped e = on-refused agrees (ap ended e)
 
       came : {o : Out} → length st′ ≡ length st → a ≡ Done o → Came l″ st′ (s .names) (s .units) result o
-      came {o} wide e = go a agrees e
-        where
-          go : (y : Answer) → Agrees objects 1 5 l′ l″ (raisedTo (b .top) s) (bindsOf st′) result (ended y) → y ≡ Done o → Came l″ st′ (s .names) (s .units) result o
-          go (Refused k) g e = let z : _≡_ {A = ℕ} 0 1 = cc in absurd (omega arith)
-          go (Done k) (gives c g) e =
-              let i : k ≡ o = cc in
-              let y = ready (atCore ph none) refl .within .room .fits in
-              let f = g .later .fits in
-              let sp = g .later .spent in
-              let n = names-after (expand 128 ph coreOnly 0 object) (expand-no-rise 128 ph coreOnly 0 object) (g .value) (stateOf s (bindsOf st)) (stateOf (k .state) (bindsOf st′)) (g .is) in
-              subst (λ (z : Out). Came l″ st′ (s .names) (s .units) result z) i
-              (record {
-                value = g .value;
-                is = g .is;
-                rep = g .shown .rep;
-                few = g .shown .few;
-                wide = rw wide (d .good .held .wide);
-                inside = omega arith;
-                small = rw (same′, same) (d .good .held .lent .small);
-                names-from = n;
-                within = omega arith;
-              })
+      came wide e =
+          let g = on-done agrees (ap ended e) in
+          record {
+            value = g .value;
+            is = g .is;
+            rep = g .shown .rep;
+            few = g .shown .few;
+            wide = rw wide (d .good .held .wide);
+            room = room-later room (g .later) same′;
+            names-from = names-after (expand 128 ph coreOnly 0 object) (expand-no-rise 128 ph coreOnly 0 object) (g .value) _ _ (g .is);
+            within = omega (arith, g .later .spent);
+          }
 
       pub refused-units : {f : Stop} → a ≡ Refused f → f .units ≤ budget
-      refused-units {f} e =
-          let u = left-after-refusal (expand 128 ph coreOnly 0 object) (expand-no-rise 128 ph coreOnly 0 object) (refusalOf (f .refusal)) (f .units) (stateOf s (bindsOf st)) (stopped e) in
-          let p = d .paid in
-          omega arith
+      refused-units e = omega (arith, left-after-refusal (expand 128 ph coreOnly 0 object) (expand-no-rise 128 ph coreOnly 0 object) _ _ _ (stopped e), d .loaded .paid)
 
       pub expanded-done : {o : Out} → length st′ ≡ length st → a ≡ Done o → SyntaxDone image (j .head) (j .end) st′ l″ o budget
       expanded-done wide e =
-          let n = d .names-are in
-          let p = d .paid in
-          let k : j .head .names ≤ s .names = omega arith in
-          let u : s .units ≤ budget = omega arith in
-          came-done (d .good .known .headed) k u (came wide e)
+          let n : j .head .names ≤ s .names = omega (arith, d .loaded .names-are) in
+          let u : s .units ≤ budget = omega (arith, d .loaded .paid) in
+          came-done (d .good .known .headed) n u (came wide e)
 
 -- ---- how it ends
 
@@ -165,4 +122,4 @@ module _ (image : List ℕ) (j : Judgement) (st l : List ℕ) (s : State) (ph bu
   pub expand-ends : {o : Out} {out′ : List ℕ} {r : Ending} → length st′ ≡ length st → a ≡ Done o → EndsSyntax image (j .head) (j .end) st′ l″ o budget out out′ r → LoadedEnds image j st l s ph budget out out′ r
   expand-ends wide e q = record { means = λ d. came-ends (d .good .known .headed) (came d w same te ne v same′ wide e) q }
 
-pub ruleset laws = (object-judged, object-ready, refused-units, expanded-done, expand-refused, expand-ends)
+pub ruleset laws = (root-judged, object-ready, refused-units, expanded-done, expand-refused, expand-ends)

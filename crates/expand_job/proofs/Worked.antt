@@ -13,7 +13,7 @@ use Rattle.refusals.specs.Refusing.{refusalOf}
 use Rattle.store.specs.Words.{bindsOf}
 use Rattle.steps.specs.declared.Stop.{Stop}
 use Rattle.steps.specs.declared.Out.{Out}
-use Rattle.steps.specs.States.{stateOf}
+use Rattle.steps.specs.States.{stateOf, Room}
 use Rattle.things.specs.Rep.{Rep}
 use Rattle.head.specs.declared.Head.{Head}
 use Rattle.heading.specs.Headings.{Headed}
@@ -29,8 +29,7 @@ pub record Came (l store : List ℕ) (names units : ℕ) (q : m.Out Stx) (o : Ou
   pub rep : Rep l (o .state .top) (o .at) (stx value)
   pub few : o .state .bindings ≤ 128
   pub wide : 384 ≤ length store
-  pub inside : o .state .top ≤ length l
-  pub small : length l ≤ 65536
+  pub room : Room l (o .state)
   pub names-from : names ≤ o .state .names
   pub within : o .state .units ≤ units
 
@@ -47,8 +46,8 @@ came-done g n u c = record {
     top = _;
     thing = c .value;
     shown = c .rep;
-    inside = c .inside;
-    small = c .small;
+    inside = omega (arith, c .room .fits);
+    small = c .room .small;
   };
   within = omega (arith, c .within);
 }

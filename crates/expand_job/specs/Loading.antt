@@ -1,6 +1,5 @@
 -- The job expand from a judged image on: before its root is charged for, and after.
-use Prim.Native.Nat.{ℕ, _+_, _-_, _≤_}
-use mathlib.Core.Path.{_≡_}
+use Prim.Native.Nat.{ℕ, _-_, _≤_}
 use mathlib.Core.List.{List}
 use lib.ListN.{length}
 use Rattle.model.specs.Objects.{Stx}
@@ -17,6 +16,7 @@ use Rattle.steps.specs.States.{stateOf}
 use Rattle.heading.specs.Headings.{headWith}
 use Rattle.judged.specs.declared.Judgement.{Judgement}
 use Rattle.judged.specs.Judging.{SyntaxGood}
+use Rattle.loading.specs.Loading.{Loaded}
 use Rattle.endings.specs.declared.Ending.{Ending}
 use Rattle.endings.specs.Ends.{EndsAs}
 
@@ -49,10 +49,7 @@ pub record GoodEnds (image : List ℕ) (j : Judgement) (store l : List ℕ) (pha
 -- and its root is charged for
 pub record Loading (image : List ℕ) (j : Judgement) (store l : List ℕ) (s : State) (budget : ℕ) : Type 0 where
   pub good : Good image j store l budget
-  pub first : s .top ≡ 1
-  pub paid : s .units + j .size ≡ budget
-  pub names-are : s .names ≡ j .head .names
-  pub bindings-are : s .bindings ≡ j .bindings
+  pub loaded : Loaded (j .head) (j .bindings) (j .size) s budget
 
 pub record LoadedEnds (image : List ℕ) (j : Judgement) (store l : List ℕ) (s : State) (phase budget : ℕ) (out out′ : List ℕ) (r : Ending) : Type 0 where
   pub means : (d : Loading image j store l s budget)

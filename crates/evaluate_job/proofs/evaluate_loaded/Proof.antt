@@ -15,15 +15,15 @@ evaluate-requires c κs = search (laws, needs)
 enum-known-f : tie.Need-enum-known-f
 enum-known-f c = search (laws, needs)
 
-sub-t20 : tie.Need-sub-t20
-sub-t20 c = search (laws, needs)
+sub-t19 : tie.Need-sub-t19
+sub-t19 c = search (laws, needs)
 
 enum-known-o : tie.Need-enum-known-o
 enum-known-o c = search (laws, needs)
 
 end-tree-requires : tie.Need-end-tree-requires
 end-tree-requires c κs =
-    evaluated-done (c .before .before .before .before .before .before .before .before .before .before .before .before .before .before .before .before .before .pre) (c .before .before .before .before .before .before .before .before .before .before .before .before .tree .ensures) (search needs) (c .before .before .before .before .before .before .before .before .before .raised .ensures) (c .before .before .before .before .before .before .before .evaluate .ensures) (search needs) (search needs)
+    evaluated-done (c .before .before .before .before .before .before .before .before .before .before .before .before .before .before .before .before .before .before .pre) (c .before .before .before .before .before .before .before .before .before .before .before .before .tree .ensures) (search needs) (c .before .before .before .before .before .before .before .before .before .raised .ensures) (c .before .before .before .before .before .before .before .evaluate .ensures) (search needs) (search needs)
 
 same-length : tie.Need-same-length
 same-length c = search (laws, needs)
@@ -48,7 +48,7 @@ evaluate-loaded-spec =
     raised-requires
     evaluate-requires
     enum-known-f
-    sub-t20
+    sub-t19
     enum-known-o
     end-tree-requires
     same-length
