@@ -1,18 +1,16 @@
 -- A change at a charge: one law for each way out, whatever the change.
-use mathlib.Core.Path.{_≡_, refl, sym, ap, _∙_}
+use mathlib.Core.Path.{_≡_, sym, ap, _∙_}
 use mathlib.Core.List.{List}
-use Prim.Native.Nat.{ℕ, zero, suc, _+_, _-_, _*_, _≤_, _<_, min}
+use Prim.Native.Nat.{ℕ, _-_, _<_, min}
 use native.Mathlib.Omega.{arith}
-use lib.ListN.{length}
 use Rattle.model.specs.Objects.{Stx, size}
 use Rattle.model.specs.Trees.{stx}
 use Rattle.model.specs.Steps.{ok}
 use Rattle.laws.proofs.Sizes.{size-some}
-use Rattle.steps.specs.States.{Store, stateOf, paid, raisedTo, chargeOf, Room}
-use Rattle.steps.specs.Agreement.{Agrees, gives, stops}
+use Rattle.steps.specs.States.{stateOf, paid, raisedTo, chargeOf}
+use Rattle.steps.specs.Agreement.{gives, stops}
 use Rattle.steps.specs.declared.State.{State}
 use Rattle.steps.specs.declared.Stop.{Stop}
-use Rattle.steps.specs.declared.Out.{Out}
 use Rattle.steps.specs.declared.Answer.the-variants.{Done, Refused}
 use Rattle.steps.specs.declared.Charged.{Charged}
 use Rattle.steps.specs.declared.Charged.the-variants as charged
@@ -23,7 +21,7 @@ use Rattle.things.specs.Measuring.{Seen, Measured}
 use Rattle.things.specs.declared.Extent.{Extent}
 use Rattle.things.specs.declared.Made.{Made}
 use Rattle.syntax.specs.Copying.{Copyable, Copied}
-use Rattle.scoping.specs.Changing.{ShownObject, objects, ReadyObject, changeRule, Changes}
+use Rattle.scoping.specs.Changing.{ReadyObject, changeRule, Changes}
 
 pub object-seen : {l : List ℕ} {s : State} {i : ℕ} → ReadyObject l s i → Seen l i
 object-seen {s = s} r = record { top = s .top; thing = stx (r .thing); shown = r .shown; inside = omega (arith, r .room .fits); small = r .room .small }
