@@ -7,7 +7,7 @@ use Rattle.model.specs.Refusals.{layout, overLimit}
 use Rattle.model.specs.Resolving.{Bind, bindBefore}
 use Rattle.model.specs.Reading.{Read, got, next, need, numUpTo, Head, symbols, readBind, readBindsAfter, readSomeBinds, readBinds}
 use Rattle.bindings.specs.Sections.{readTarget, readOne, readMore, readSome, readAll}
-use Rattle.bindings.specs.declared.loading.Counts.{Counts}
+use Rattle.head.specs.declared.Counts.{Counts}
 
 abbrev countsOf : Head → Counts
 countsOf h = record { symbols = symbols h; names = h .names; scopes = h .scopes }

@@ -30,7 +30,7 @@ use Rattle.sets.proofs.Reading.{set-tail}
 use Rattle.store.specs.Words.{bindAt, bindsFrom, bindsOf, written}
 use Rattle.store.proofs.Runs.{run-step, same-bind, written-other}
 use Rattle.bindings.specs.Sections.{readTarget, readOne, readMore, readSome, readAll, noBind, MoreRead, SomeRead}
-use Rattle.bindings.specs.declared.loading.Counts.{Counts}
+use Rattle.head.specs.declared.Counts.{Counts}
 
 -- ---- what is left is a tail
 

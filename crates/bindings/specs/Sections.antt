@@ -10,7 +10,7 @@ use Rattle.model.specs.Reading.{Reader, _>>=_, _>>_, got, give, need, numBelow,
 use Rattle.numbers.specs.Answers.{Seen, placeAt}
 use Rattle.numbers.specs.declared.Place.{Place}
 use Rattle.store.specs.Words.{bindOf, bindsFrom, bindsOf}
-use Rattle.bindings.specs.declared.loading.Counts.{Counts}
+use Rattle.head.specs.declared.Counts.{Counts}
 use Rattle.bindings.specs.declared.loading.BindingRead.{BindingRead}
 use Rattle.bindings.specs.declared.loading.BindingsRead.{BindingsRead}
 

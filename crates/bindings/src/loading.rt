@@ -1,4 +1,5 @@
 // Bindings read into the store of a job: the first fault decides, and each binding is judged against the one before it when it is whole.
+use head::Counts;
 use numbers::Cursor;
 use numbers::Number;
 use numbers::Place;
@@ -16,13 +17,6 @@ ghost use lib.ListN.{length};
 ghost use Rattle.numbers.specs.Answers.{seenAt, unseen};
 ghost use Rattle.store.specs.Words.{bindOf};
 ghost use Rattle.bindings.specs.Sections.{readOne, readTarget, readAll, noBind, bindSeen, bindsSeen, MoreRead, SomeRead};
-
-// How many symbols, names and scopes an image has declared.
-pub struct Counts {
-    pub symbols: u32,
-    pub names: u32,
-    pub scopes: u32,
-}
 
 // A binding beside the place past it, or beside the fault.
 pub struct BindingRead {

@@ -18,6 +18,13 @@ pub struct Head {
     pub scopes: u32,
 }
 
+// How many symbols, names (symbols counted) and scopes the head declares.
+pub struct Counts {
+    pub symbols: u32,
+    pub names: u32,
+    pub scopes: u32,
+}
+
 // The head with the place past it, or the fault.
 pub enum HeadRead {
     Read(Head, Cursor),

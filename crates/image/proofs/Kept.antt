@@ -17,7 +17,7 @@ use Rattle.model.specs.Jobs.{isAmong, closed, closedAll}
 use Rattle.numbers.specs.Answers.{kept}
 use Rattle.objects.specs.Measuring.{readContentOf, measureStx}
 use Rattle.objects.proofs.Kept.{content-is, stx-is}
-use Rattle.image.specs.declared.Counts.{Counts}
+use Rattle.head.specs.declared.Counts.{Counts}
 use Rattle.image.specs.declared.Extent.{Extent}
 use Rattle.image.specs.Measuring.{nothing, oneMore, joined, measureVariable, measureAtom, measureObject, measureAll, measureSeveral, functionWith, bodyWith, measureTree, thenEnd, wholeSyntax, noneAround, wholeTree}
 

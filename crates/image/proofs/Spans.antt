@@ -11,7 +11,7 @@ use Rattle.model.specs.Reading as m
 use Rattle.model.specs.Reading.{Reader, got, fault, next}
 use Rattle.numbers.proofs.Tails.{Behind, Tail, tail-got, tail-fault, tail-give, tail-next, tail-need, num-tail, below-tail, Shrinks, shrinks-got, shrinks-fault, num-shrinks}
 use Rattle.objects.proofs.Sizes.{content-tail, object-tail, Sized, sized-got, sized-fault, object-sized}
-use Rattle.image.specs.declared.Counts.{Counts}
+use Rattle.head.specs.declared.Counts.{Counts}
 use Rattle.image.specs.declared.Extent.{Extent}
 use Rattle.image.specs.Measuring.{nothing, oneMore, joined, measureVariable, measureAtom, measureObject, measureAll, measureSeveral, functionWith, bodyWith, measureTree}
 

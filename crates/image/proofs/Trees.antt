@@ -22,7 +22,7 @@ use Rattle.numbers.proofs.Tails.{Tail, num-tail, below-tail}
 use Rattle.numbers.proofs.Answering.{Shape, Took, took, refused, number-shape, goes, gives, refuses, stops, moved-on, kept-within}
 use Rattle.objects.specs.Measuring.{readContentOf, measureStx}
 use Rattle.objects.proofs.Sizes.{content-tail, object-tail}
-use Rattle.image.specs.declared.Counts.{Counts}
+use Rattle.head.specs.declared.Counts.{Counts}
 use Rattle.image.specs.declared.Extent.{Extent}
 use Rattle.image.specs.declared.TreeRead.{TreeRead}
 use Rattle.image.specs.declared.TreeRead.the-variants.{Read, Fault}

@@ -10,7 +10,7 @@ use Rattle.model.specs.Reading as m
 use Rattle.model.specs.Reading.{Reader, _>>=_, _>>_, give, fail, need, num, numBelow, atEnd}
 use Rattle.numbers.specs.Answers.{answerAt}
 use Rattle.objects.specs.Measuring.{readContentOf, measureStx}
-use Rattle.image.specs.declared.Counts.{Counts}
+use Rattle.head.specs.declared.Counts.{Counts}
 use Rattle.image.specs.declared.Extent.{Extent}
 use Rattle.image.specs.declared.TreeRead.{TreeRead}
 use Rattle.image.specs.declared.TreeRead.the-variants.{Read, Fault}

@@ -1,5 +1,6 @@
 // The root of an image, checked and measured: nothing is stored. A tree's variables are held against the functions around them in
 // the same pass.
+use head::Counts;
 use numbers::Cursor;
 use numbers::Number;
 use refusals::Refusal;
@@ -9,13 +10,6 @@ ghost use Prim.Native.Nat.{ℕ, _+_, _≤_};
 ghost use lib.ListN.{length, replicate};
 ghost use Rattle.numbers.specs.Answers.{numberAt};
 ghost use Rattle.image.specs.Measuring.{treeAt, nothing, oneMore, joined, measureVariable, measureAtom, measureObject, measureSeveral, measureAll, measureFunction, measureBody, measureTree, wholeSyntax, wholeTree};
-
-// How many symbols, names (symbols counted) and scopes the head declares.
-pub struct Counts {
-    pub symbols: u32,
-    pub names: u32,
-    pub scopes: u32,
-}
 
 // The charge for loading a tree, and whether every variable of it, outside syntax values, has an enclosing function of its name.
 pub struct Extent {

@@ -21,9 +21,9 @@ use Rattle.objects.specs.Measuring.{measureStx}
 use Rattle.objects.proofs.Sizes.{object-tail}
 use Rattle.image.specs.Measuring.{thenEnd, wholeSyntax}
 use Rattle.bindings.specs.Sections.{readAll}
-use Rattle.bindings.specs.declared.loading.Counts.{Counts}
+use Rattle.head.specs.declared.Counts.{Counts}
 use Rattle.bindings.proofs.InTurn.{all-tail}
-use Rattle.judged.specs.Judging.{declaredBy, measureRest, RestGood, BehindHead}
+use Rattle.judged.specs.Judging.{measureRest, RestGood, BehindHead}
 use Rattle.judged.specs.declared.Rest.{Rest}
 use Rattle.judged.specs.declared.RestJudged.the-variants as rest
 
@@ -34,7 +34,7 @@ unfolding atEnd
 end-tail [] = tail-give tt []
 end-tail (b ∷ s) = tail-fault
 
-last-tail : (n : Counts) (s : List ℕ) → Tail s (wholeSyntax (declaredBy n) s)
+last-tail : (n : Counts) (s : List ℕ) → Tail s (wholeSyntax n s)
 unfolding wholeSyntax thenEnd
 last-tail n s = tail-next _ (object-tail (n .symbols) (n .scopes) 64 s) (λ k t. tail-next _ (end-tail t) (λ x u. tail-give k u))
 
@@ -45,7 +45,7 @@ then-whole (fault c) k left e = let z : _≡_ {A = ℕ} 0 1 = cc in absurd (omeg
 then-whole {A} (got v []) k left e = let i : v ≡ k = cc in ap (λ (x : A). got x []) i
 then-whole (got v (b ∷ t)) k left e = let z : _≡_ {A = ℕ} 0 1 = cc in absurd (omega arith)
 
-last-whole : (n : Counts) (s : List ℕ) (k : ℕ) (left : List ℕ) → wholeSyntax (declaredBy n) s ≡ got k left → measureStx (n .symbols) (n .scopes) 64 s ≡ got k []
+last-whole : (n : Counts) (s : List ℕ) (k : ℕ) (left : List ℕ) → wholeSyntax n s ≡ got k left → measureStx (n .symbols) (n .scopes) 64 s ≡ got k []
 unfolding wholeSyntax thenEnd
 last-whole n s k left e = then-whole (measureStx (n .symbols) (n .scopes) 64 s) k left e
 
@@ -70,24 +70,24 @@ module _ (n : Counts) (at : ℕ) (s l : List ℕ) where
     binds-stop {f} e = let g : readAll n s ≡ fault (refusalOf f) = seen-refused [] (at + length s) (readAll n s) h e in rest-bad (rw g)
 
     module _ {past : Cursor} (e : q ≡ place.At past) {u : List ℕ} (i : u ≡ drop (past .at - at) s) {r : Number}
-        (k : r ≡ numberAt (past .at + length u) (wholeSyntax (declaredBy n) u)) where
+        (k : r ≡ numberAt (past .at + length u) (wholeSyntax n u)) where
       held : Took at s (readAll n s) bs (past .at)
       held = took (seen-shape []) h (whole [] at s (readAll n s) h e (all-tail n s)) (all-tail n s)
 
       pub rest-stops : {f : Refusal} → r ≡ number.Fault f → BehindHead n at s l (rest.Fault f)
       unfolding measureRest
       rest-stops {f} d =
-          let g : wholeSyntax (declaredBy n) u ≡ fault (refusalOf f) = refused number-shape (past .at + length u) (wholeSyntax (declaredBy n) u) k d in
+          let g : wholeSyntax n u ≡ fault (refusalOf f) = refused number-shape (past .at + length u) (wholeSyntax n u) k d in
           rest-bad (rw (held .is, ← i, g))
 
       measured : {z : ℕ} {end : Cursor} → r ≡ number.Read z end → measureStx (n .symbols) (n .scopes) 64 (drop (past .at - at) s) ≡ got z []
       measured {z} {end} d =
-          let T : Took (past .at) u (wholeSyntax (declaredBy n) u) z (end .at) = took number-shape k d (last-tail n u) in
+          let T : Took (past .at) u (wholeSyntax n u) z (end .at) = took number-shape k d (last-tail n u) in
           subst (λ (v : List ℕ). measureStx (n .symbols) (n .scopes) 64 v ≡ got z []) i (last-whole n u z (drop (end .at - past .at) u) (T .is))
 
   pub rest-good : (count : ℕ) {q : Place} → record { value = bindsOf l count; end = q } ≡ seenAt [] (at + length s) (readAll n s) → count ≤ 128
       → {past : Cursor} → q ≡ place.At past → {u : List ℕ} → u ≡ drop (past .at - at) s
-      → {r : Number} → r ≡ numberAt (past .at + length u) (wholeSyntax (declaredBy n) u) → {z : ℕ} {end : Cursor} → r ≡ number.Read z end
+      → {r : Number} → r ≡ numberAt (past .at + length u) (wholeSyntax n u) → {z : ℕ} {end : Cursor} → r ≡ number.Read z end
       → BehindHead n at s l (rest.Good (record { root = past .at; size = z; bindings = count }))
   rest-good count h few {past} e i k d =
       let T : Took at s (readAll n s) (bindsOf l count) (past .at) = held h e i k in

@@ -25,13 +25,13 @@ use Rattle.objects.proofs.Sizes.{object-sized, sized-is}
 use Rattle.objects.proofs.Kept.{stx-is}
 use Rattle.image.specs.Measuring.{thenEnd, wholeSyntax}
 use Rattle.bindings.specs.Sections.{readAll}
-use Rattle.bindings.specs.declared.loading.Counts.{Counts}
+use Rattle.head.specs.declared.Counts.{Counts}
 use Rattle.bindings.proofs.Definition.{reads-binds}
 use Rattle.head.specs.Heads.{headAt}
 use Rattle.head.specs.declared.Head.{Head}
 use Rattle.head.specs.declared.HeadRead.{HeadRead}
 use Rattle.head.specs.declared.HeadRead.the-variants as hd
-use Rattle.judged.specs.Judging.{declaredBy, measureRest, RestGood, BehindHead, SyntaxGood, SyntaxJudged}
+use Rattle.judged.specs.Judging.{measureRest, RestGood, BehindHead, SyntaxGood, SyntaxJudged}
 use Rattle.judged.proofs.Heads.{bytes-of, image-short, image-long, HeadHere, head-here, head-fault, name-count, scope-count, symbol-count, names-from, names-to, scopes-to, headed-by, headed-words, behind-head}
 use Rattle.judged.specs.declared.Rest.{Rest}
 use Rattle.judged.specs.declared.RestJudged.{RestJudged}
@@ -77,7 +77,7 @@ module _ (n : Counts) (h : m.Head) (ag : Agree n h) where
 
   rest-fault : (u : List ℕ) (f : r.Refusal) → measureRest n u ≡ fault f → next (readBinds h u) (λ bs v. next (readStx mostNesting h v) (finish h bs)) ≡ fault f
   unfolding measureRest wholeSyntax thenEnd
-  rest-fault u f e = go (readBinds h u) (subst (λ (g : Read (List Bind)). next {B = ℕ} g (λ b. wholeSyntax (declaredBy n)) ≡ fault f) (same-binds u) e)
+  rest-fault u f e = go (readBinds h u) (subst (λ (g : Read (List Bind)). next {B = ℕ} g (λ b. wholeSyntax n) ≡ fault f) (same-binds u) e)
     where
       ended : (x : Stx) (bs : List Bind) (g : Read (Unit {0})) → next g (λ y w. got (size x) w) ≡ fault f → next {B = Image Stx} g (λ y w. got (record { head = h; binds = bs; root = x }) w) ≡ fault f
       ended x bs (fault y) e = let i : y ≡ f = cc in ap fault i
@@ -87,7 +87,7 @@ module _ (n : Counts) (h : m.Head) (ag : Agree n h) where
       rooted bs (fault x) e = let i : x ≡ f = cc in ap fault i
       rooted bs (got x t) e = ended x bs (atEnd t) e
 
-      go : (g : Read (List Bind)) → next {B = ℕ} g (λ b. wholeSyntax (declaredBy n)) ≡ fault f → next g (λ bs v. next (readStx mostNesting h v) (finish h bs)) ≡ fault f
+      go : (g : Read (List Bind)) → next {B = ℕ} g (λ b. wholeSyntax n) ≡ fault f → next g (λ bs v. next (readStx mostNesting h v) (finish h bs)) ≡ fault f
       go (fault x) e = let i : x ≡ f = cc in ap fault i
       go (got bs v) e = rooted bs (readStx mostNesting h v) (subst (λ (g : Read ℕ). next {B = ℕ} g (λ k t. next (atEnd t) (λ x w. got k w)) ≡ fault f) (sym (same-root v)) e)
 

@@ -21,7 +21,7 @@ use Rattle.head.specs.Heads.{headAt}
 use Rattle.head.specs.declared.Head.{Head}
 use Rattle.head.specs.declared.HeadRead.{HeadRead}
 use Rattle.head.specs.declared.HeadRead.the-variants as hd
-use Rattle.image.specs.declared.Counts.{Counts}
+use Rattle.head.specs.declared.Counts.{Counts}
 use Rattle.image.specs.declared.Extent.{Extent}
 use Rattle.image.specs.declared.TreeRead.{TreeRead}
 use Rattle.image.specs.declared.TreeRead.the-variants as tree

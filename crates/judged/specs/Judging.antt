@@ -10,10 +10,9 @@ use Rattle.refusals.specs.declared.Refusal.{Refusal}
 use Rattle.refusals.specs.Refusing.{refusalOf}
 use Rattle.codec_laws.specs.WellFormed.{Bytes, HeadFits}
 use Rattle.store.specs.Words.{bindsOf}
-use Rattle.bindings.specs.declared.loading.Counts.{Counts}
+use Rattle.head.specs.declared.Counts.{Counts}
 use Rattle.bindings.specs.Sections.{readAll}
 use Rattle.objects.specs.Measuring.{measureStx}
-use Rattle.image.specs.declared.Counts as i
 use Rattle.image.specs.Measuring.{wholeSyntax}
 use Rattle.head.specs.Heads.{headOf}
 use Rattle.heading.specs.Headings.{Headed}
@@ -26,15 +25,12 @@ use Rattle.judged.specs.declared.Judged.the-variants as judged
 
 -- ---- behind the head, whose counts are n
 
-abbrev pub declaredBy : Counts → i.Counts
-declaredBy n = record { symbols = n .symbols; names = n .names; scopes = n .scopes }
-
 -- the size of the root, behind the bindings
 unfoldable pub measureRest : Counts → Reader ℕ
 unfolding readAll wholeSyntax
 measureRest n = do
   readAll n
-  wholeSyntax (declaredBy n)
+  wholeSyntax n
 
 -- the bindings of s, which begins at the place `at`, are in the store l, and the root behind them ends the image
 pub record RestGood (n : Counts) (at : ℕ) (s l : List ℕ) (j : Rest) : Type 0 where

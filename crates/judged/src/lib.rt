@@ -2,7 +2,7 @@
 pub mod trees;
 
 use bindings::loading;
-use bindings::loading::Counts;
+use head::Counts;
 use head::Head;
 use head::HeadRead;
 use numbers::Cursor;
@@ -55,12 +55,7 @@ fn judge_rest(c: Cursor, s: &[u8], counts: Counts, store: &mut [u64]) -> RestJud
     let end = read.end;
     match end {
         Place::At(past) => {
-            let declared = image::Counts {
-                symbols: counts.symbols,
-                names: counts.names,
-                scopes: counts.scopes,
-            };
-            match image::measure_syntax_root(past, c.after(s, past), declared) {
+            match image::measure_syntax_root(past, c.after(s, past), counts) {
                 Number::Read(size, _) => RestJudged::Good(Rest {
                     root: past.at,
                     size,

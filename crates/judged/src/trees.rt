@@ -1,7 +1,7 @@
 // A tree image judged whole: its head and root, and that it ends there. Nothing is stored.
+use head::Counts;
 use head::Head;
 use head::HeadRead;
-use image::Counts;
 use image::TreeRead;
 use numbers::Cursor;
 use refusals::Refusal;

@@ -25,7 +25,7 @@ use Rattle.objects.specs.Measuring.{measureStx}
 use Rattle.objects.proofs.Sizes.{object-tail}
 use Rattle.objects.proofs.Kept.{stx-is}
 use Rattle.bindings.specs.Sections.{readAll}
-use Rattle.bindings.specs.declared.loading.Counts.{Counts}
+use Rattle.head.specs.declared.Counts.{Counts}
 use Rattle.bindings.proofs.InTurn.{all-tail}
 use Rattle.bindings.proofs.Definition.{reads-binds}
 use Rattle.meirhuppa.specs.Stages.{rootEnding, Agree, RootEnds, work, fromRoot, RootRead, fromBinds, BindsRead}

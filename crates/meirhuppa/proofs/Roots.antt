@@ -26,7 +26,7 @@ use Rattle.numbers.specs.Answers.{numberAt, seenAt}
 use Rattle.numbers.proofs.Tails.{below-tail, up-to-tail}
 use Rattle.numbers.proofs.Answering.{Took, took, refused, number-shape, seen-shape, whole, seen-refused}
 use Rattle.sets.proofs.Reading.{sets-tail}
-use Rattle.bindings.specs.declared.loading.Counts.{Counts}
+use Rattle.head.specs.declared.Counts.{Counts}
 use Rattle.meirhuppa.specs.Endings.{endingOf, foundEnding}
 use Rattle.meirhuppa.specs.Stages.{phased, rootEnding, Agree, RootEnds}
 use Rattle.meirhuppa.specs.declared.answers.Ending.{Ending}

@@ -9,7 +9,7 @@ use Rattle.model.specs.Objects.{symbol, number, point, prim, rung, setAt, Stx, 
 use Rattle.model.specs.Resolving.{Bind, resolve}
 use Rattle.model.specs.Reading.{got, next, Head, Image, symbols, atEnd, readStx, readBinds, readSyntax, readImage}
 use Rattle.model.specs.Jobs.{Ending, refused, named, withImage, worked, start, resolveRoot}
-use Rattle.bindings.specs.declared.loading.Counts.{Counts}
+use Rattle.head.specs.declared.Counts.{Counts}
 use Rattle.meirhuppa.specs.Endings.{endingOf, foundEnding}
 use Rattle.meirhuppa.specs.declared.answers.Ending as code
 

@@ -3,7 +3,7 @@ use crate::answers::Answer;
 use crate::answers::Ending;
 use crate::limits;
 use bindings::loading;
-use bindings::loading::Counts;
+use head::Counts;
 use head::Head;
 use head::HeadRead;
 use numbers::Cursor;
