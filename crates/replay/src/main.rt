@@ -125,15 +125,13 @@ fn next(
 }
 
 // A proved loop has to end, and nothing says that the input does: the calls are counted down from a number that no run uses up.
-fn main() {
-    let mut room = [0u8; Input::ROOM];
-    let mut page = [0u8; Lines::PAGE];
-    let mut most_image = [0u8; MOST];
-    let mut most_table = [0u32; MOST];
-    let mut most_output = [0u8; MOST];
-    let image: &mut [u8] = &mut most_image;
-    let table: &mut [u32] = &mut most_table;
-    let output: &mut [u8] = &mut most_output;
+fn answer_all(
+    room: &mut [u8; Input::ROOM],
+    image: &mut [u8],
+    table: &mut [u32],
+    output: &mut [u8],
+    page: &mut [u8; Lines::PAGE],
+) {
     let mut run = Run {
         input: Input::start(),
         lines: Lines::start(),
@@ -141,9 +139,18 @@ fn main() {
     };
     let mut turns = u64::MAX;
     while turns > 0 && run.goes_on {
-        run = next(run, &mut room, image, table, output, &mut page);
+        run = next(run, room, image, table, output, page);
         turns -= 1;
     }
     let lines = run.lines;
-    lines.close(&page);
+    lines.close(page);
+}
+
+fn main() {
+    let mut room = [0u8; Input::ROOM];
+    let mut page = [0u8; Lines::PAGE];
+    let mut image = [0u8; MOST];
+    let mut table = [0u32; MOST];
+    let mut output = [0u8; MOST];
+    answer_all(&mut room, &mut image, &mut table, &mut output, &mut page);
 }
