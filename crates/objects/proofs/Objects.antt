@@ -9,7 +9,6 @@ use lib.Seq.{drop-drop}
 use borrow.Author.Tests.{eq-eqb, ne-eqb}
 use Rattle.model.specs.Limits.{lastPoint, lastPrimitive, lastRungWord}
 use Rattle.model.specs.Refusals.{layout, overLimit}
-use Rattle.model.specs.Objects.{Sets, noSets}
 use Rattle.model.specs.Reading.{Reader, next, num, numUpTo, numBelow, readSets}
 use Rattle.refusals.specs.declared.Refusal.{Refusal}
 use Rattle.refusals.specs.declared.Refusal.the-variants.{Layout, OverLimit}
@@ -17,10 +16,11 @@ use Rattle.refusals.proofs.Cases.{case-back}
 use Rattle.numbers.specs.declared.Cursor.{Cursor}
 use Rattle.numbers.specs.declared.Number.{Number}
 use Rattle.numbers.specs.declared.Number.the-variants.{Read, Fault}
+use Rattle.numbers.specs.declared.Place.{Place}
 use Rattle.numbers.specs.declared.Place.the-variants as place
-use Rattle.numbers.specs.Answers.{numberAt, Seen, seenAt}
+use Rattle.numbers.specs.Answers.{numberAt, placeAt}
 use Rattle.numbers.proofs.Tails.{num-tail, up-to-tail}
-use Rattle.numbers.proofs.Answering.{Took, took, refused, number-shape, goes, gives, stops, seen-gives, seen-stops}
+use Rattle.numbers.proofs.Answering.{Took, took, refused, number-shape, goes, gives, stops, place-took, place-value, place-refused}
 use Rattle.sets.proofs.Reading.{sets-tail}
 use Rattle.objects.specs.Measuring.{readContentOf, readTop, measureParts, measureContent, measureStx, measureList}
 use Rattle.objects.proofs.Sizes.{content-tail, top-tail, object-tail, all-parts-tail, object-sized, all-parts-sized, sized-is}
@@ -67,18 +67,20 @@ module _ (at scopes : ℕ) (s : List ℕ) {r : Number} (h : r ≡ numberAt (at +
   unfolding readTop
   top-stops e = stops number-shape Read Fault (at + length s) (numUpTo layout 5 s) _ h e
 
-  module _ {t : ℕ} {past : Cursor} {u : List ℕ} {x : Seen Sets} (e : r ≡ Read t past) (i : u ≡ drop (past .at - at) s) (k : x ≡ seenAt noSets (past .at + length u) (readSets scopes u)) where
-    pub top-sets-stop : {f : Refusal} → x .end ≡ place.Fault f → Fault f ≡ numberAt (at + length s) (readTop scopes s)
+  module _ {t : ℕ} {past : Cursor} {u : List ℕ} {x : Place} (e : r ≡ Read t past) (i : u ≡ drop (past .at - at) s) (k : x ≡ placeAt (past .at + length u) (readSets scopes u)) where
+    pub top-sets-stop : {f : Refusal} → x ≡ place.Fault f → Fault f ≡ numberAt (at + length s) (readTop scopes s)
     unfolding readTop
-    top-sets-stop d =
+    top-sets-stop {f} d =
         goes number-shape Read Fault at (numUpTo layout 5 s) _ h e (up-to-tail layout 5 s) i
-        (seen-stops noSets Read Fault (past .at + length u) (readSets scopes u) _ k d)
+        (rw (place-refused (past .at + length u) (readSets scopes u) k d) (ap Fault (sym (case-back f))))
 
-    pub top-read : {end : Cursor} → x .end ≡ place.At end → Read t end ≡ numberAt (at + length s) (readTop scopes s)
+    pub top-read : {end : Cursor} → x ≡ place.At end → Read t end ≡ numberAt (at + length s) (readTop scopes s)
     unfolding readTop
-    top-read d =
-        goes number-shape Read Fault at (numUpTo layout 5 s) _ h e (up-to-tail layout 5 s) i
-        (seen-gives noSets (past .at) u (readSets scopes u) k d (sets-tail scopes u) Read Fault _ (λ v. refl))
+    top-read {end} d =
+        let T = place-took (past .at) u (readSets scopes u) k d (sets-tail scopes u) in
+        let v = place-value (past .at) u (readSets scopes u) k d (sets-tail scopes u) in
+        let p : past .at + length u - length (drop (end .at - past .at) u) ≡ end .at = omega (arith, T .ends) in
+        goes number-shape Read Fault at (numUpTo layout 5 s) _ h e (up-to-tail layout 5 s) i (rw (v .is, p))
 
 -- ---- an object
 

@@ -39,9 +39,7 @@ pub fn read_top(c: Cursor, s: &[u8], scopes: u32) -> Number
 {
     match c.number_up_to(s, Refusal::Layout, 5) {
         Number::Read(tag, past) => {
-            let three = sets::read_sets(past, c.after(s, past), scopes);
-            let end = three.end;
-            match end {
+            match sets::skip_sets(past, c.after(s, past), scopes) {
                 Place::At(behind) => Number::Read(tag, behind),
                 Place::Fault(f) => Number::Fault(f),
             }

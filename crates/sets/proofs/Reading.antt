@@ -11,6 +11,7 @@ use borrow.Author.Tests.{eqb-true, lt-ltb, le-ltb, le-leb, lt-leb}
 use Rattle.model.specs.Refusals.{layout}
 use Rattle.model.specs.Scopes.{Scopes, add}
 use Rattle.model.specs.Objects.{Sets, noSets}
+use Rattle.model.specs.Reading as m
 use Rattle.model.specs.Reading.{got, fault, next, need, byte, num, readMembers, readSet, readSets}
 use Rattle.scopes.specs.declared.Scope.{Scope}
 use Rattle.scopes.specs.Sets.{Declared}
@@ -21,7 +22,7 @@ use Rattle.numbers.specs.declared.Number.{Number}
 use Rattle.numbers.specs.declared.Number.the-variants.{Read, Fault}
 use Rattle.numbers.specs.declared.Place.{Place}
 use Rattle.numbers.specs.declared.Place.the-variants as place
-use Rattle.numbers.specs.Answers.{numberAt, Seen, seen, unseen, seenAt}
+use Rattle.numbers.specs.Answers.{numberAt, placeAt, Seen, seen, unseen, seenAt}
 use Rattle.sets.specs.Seeing.{readLaterSets, StartsEmpty}
 use Rattle.numbers.proofs.Tails.{Tail, tail-give, tail-next, tail-need, num-tail}
 use Rattle.numbers.proofs.Answering.{Took, took, number-shape, goes, refuses, stops, seen-goes, seen-gives, seen-stops}
@@ -177,4 +178,17 @@ empty-sets at n (a ∷ b ∷ c ∷ s) h e =
     let p : at + length (a ∷ b ∷ c ∷ s) - length s ≡ at + 3 = omega arith in
     rw (empty-set n a (b ∷ c ∷ s) (h .first), empty-set n b (c ∷ s) (h .second), empty-set n c s (h .third), e, p)
 
-pub ruleset set-laws = (not-empty, starts, empty-sets, no-set, no-sets, declared, set-tail, members-start, members-read, members-fit, members-stop, member-low, member-over, member-more, set-stops, set-goes, sets-tail, first-stops, first-goes, second-stops, third-stops, sets-read)
+-- ---- the place past three sets
+
+module _ (at n : ℕ) (s : List ℕ) where
+  pub sets-skipped : {v : Sets} {p : Place} → record { value = v; end = p } ≡ seenAt noSets (at + length s) (readSets n s) → p ≡ placeAt (at + length s) (readSets n s)
+  sets-skipped h = ap (λ (x : Seen Sets). x .end) h ∙ go (readSets n s)
+    where
+      go : (g : m.Read Sets) → (seenAt noSets (at + length s) g) .end ≡ placeAt (at + length s) g
+      go (got v rest) = refl
+      go (fault r) = refl
+
+  pub empty-skipped : StartsEmpty s → place.At (record { at = at + 3 }) ≡ placeAt (at + length s) (readSets n s)
+  empty-skipped h = sets-skipped (empty-sets at n s h refl)
+
+pub ruleset set-laws = (sets-skipped, empty-skipped, not-empty, starts, empty-sets, no-set, no-sets, declared, set-tail, members-start, members-read, members-fit, members-stop, member-low, member-over, member-more, set-stops, set-goes, sets-tail, first-stops, first-goes, second-stops, third-stops, sets-read)

@@ -14,7 +14,7 @@ ghost use Rattle.model.specs.Scopes.{members};
 ghost use Rattle.model.specs.Objects.{noSets};
 ghost use Rattle.model.specs.Reading.{readMembers, readSet, readSets};
 ghost use Rattle.model.specs.Writing.{numsBytes, setBytes, setsBytes};
-ghost use Rattle.numbers.specs.Answers.{seenAt, unseen};
+ghost use Rattle.numbers.specs.Answers.{placeAt, seenAt, unseen};
 ghost use Rattle.scopes.specs.Sets.{scopesOf};
 ghost use Rattle.sets.specs.Writing.{threeSets};
 ghost use Rattle.sets.specs.Seeing.{setSeen, setsSeen, readLaterSets, StartsEmpty};
@@ -174,6 +174,18 @@ pub fn read_sets(c: Cursor, s: &[u8], scopes: u32) -> SetsRead
         };
     }
     read_each_set(c, s, scopes)
+}
+
+// The place past three sets, for one who judges them and keeps nothing.
+pub fn skip_sets(c: Cursor, s: &[u8], scopes: u32) -> Place
+    requires { ⌜ (c .at + length (now s) ≤ 65536) × (scopes ≤ 64) ⌝ }
+    ensures { λ r. ⌜ r ≡ placeAt (c .at + length (now (s .entry))) (readSets scopes (now (s .entry))) ⌝ }
+{
+    if starts_empty(s) {
+        return Place::At(Cursor { at: c.at + 3 });
+    }
+    let three = read_each_set(c, s, scopes);
+    three.end
 }
 
 // How many bytes a set takes: one for the count, and one for each member, since both are below 128.

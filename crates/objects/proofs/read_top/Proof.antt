@@ -14,17 +14,17 @@ enum-known-tag c = search (object-laws, answering, sets-tail, needs)
 after-requires : tie.Need-after-requires
 after-requires c κs = search (object-laws, answering, sets-tail, needs)
 
-read-sets-requires : tie.Need-read-sets-requires
-read-sets-requires c κs = search (object-laws, answering, sets-tail, needs)
+skip-sets-requires : tie.Need-skip-sets-requires
+skip-sets-requires c κs = search (object-laws, answering, sets-tail, needs)
 
-enum-known-end : tie.Need-enum-known-end
-enum-known-end c = search (object-laws, answering, sets-tail, needs)
-
-enum-known-end-2 : tie.Need-enum-known-end-2
-enum-known-end-2 c = search (object-laws, answering, sets-tail, needs)
+enum-known-behind : tie.Need-enum-known-behind
+enum-known-behind c = search (object-laws, answering, sets-tail, needs)
 
 enum-known-f : tie.Need-enum-known-f
 enum-known-f c = search (object-laws, answering, sets-tail, needs)
+
+enum-known-f-2 : tie.Need-enum-known-f-2
+enum-known-f-2 c = search (object-laws, answering, sets-tail, needs)
 
 returns : tie.Need-returns
 returns c = search (object-laws, answering, sets-tail, needs)
@@ -36,16 +36,4 @@ returns-3 : tie.Need-returns-3
 returns-3 c = search (object-laws, answering, sets-tail, needs)
 
 pub read-top-spec : {M : Type 1} → statement M
-read-top-spec =
-    tie.close
-    (tie.spec
-    number-up-to-requires
-    enum-known-tag
-    after-requires
-    read-sets-requires
-    enum-known-end
-    enum-known-end-2
-    enum-known-f
-    returns
-    returns-2
-    returns-3)
+read-top-spec = tie.close (tie.spec number-up-to-requires enum-known-tag after-requires skip-sets-requires enum-known-behind enum-known-f enum-known-f-2 returns returns-2 returns-3)
