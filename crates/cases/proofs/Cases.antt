@@ -5,7 +5,8 @@ use Prim.Native.Nat.{ℕ, zero, suc, _*_}
 use mathlib.Core.List.{List, [], _∷_}
 use Rattle.model.specs.Objects.{number, noSets, Stx, Stxs, nil}
 use Rattle.model.specs.Trees.{var, app, fun, datum, tnil, tcons}
-use Rattle.model.specs.Writing.{syntaxBytes, treeImageBytes}
+use Rattle.model.specs.Writing.{setBytes, syntaxBytes, treeImageBytes}
+use Rattle.model.specs.Scopes.{only}
 use Rattle.model.specs.Jobs.{resolveJob, expandJob, parseJob, evaluateJob, program, lineBytes}
 use Rattle.cases.proofs.Notation.{s1, s2, s12, s3, s123, id, id01, ls, _▹_, lambda′, let-syntax′, quote′, syntax′, number′, call, to, wx, wy, wm, wz, head, lentTable, lentOutput, refuses, names, writes, resolved, expanded, parsed, evaluated}
 
@@ -50,19 +51,19 @@ rung-7 = ls (lambda′ ▹ id 4 0 ▹ id 4 0 ▹ nil)
 abbrev image-7 : List ℕ
 image-7 = syntaxBytes (head (wx ∷ []) 6 1) (to 4 s1 5 ∷ []) (ls (lambda′ ▹ id 4 s1 ▹ id 4 s1 ▹ nil))
 
-case-7-expanded : expanded (wx ∷ []) 5 rung-7 ≡ writes 1024 8 image-7
+case-7-expanded : expanded (wx ∷ []) 5 rung-7 ≡ writes 400 8 image-7
 unfolding expandJob syntaxBytes lentTable lentOutput noSets
 case-7-expanded = refl
 
-case-7-parsed : parsed image-7 ≡ writes 1024 6 (treeImageBytes (head (wx ∷ []) 6 1) (fun 5 (var 5)))
+case-7-parsed : parsed image-7 ≡ writes 400 6 (treeImageBytes (head (wx ∷ []) 6 1) (fun 5 (var 5)))
 unfolding parseJob syntaxBytes treeImageBytes lentTable lentOutput noSets
 case-7-parsed = refl
 
-case-8 : expanded (wx ∷ []) 5 (id 4 0) ≡ refuses 1024 lentOutput 7 2
+case-8 : expanded (wx ∷ []) 5 (id 4 0) ≡ refuses 400 lentOutput 7 2
 unfolding expandJob syntaxBytes lentTable lentOutput
 case-8 = refl
 
-case-9 : expanded (wx ∷ []) 5 (ls nil) ≡ refuses 1024 lentOutput 8 2
+case-9 : expanded (wx ∷ []) 5 (ls nil) ≡ refuses 400 lentOutput 8 2
 unfolding expandJob syntaxBytes lentTable lentOutput noSets
 case-9 = refl
 
@@ -70,11 +71,11 @@ case-9 = refl
 abbrev image-10 : List ℕ
 image-10 = syntaxBytes (head [] 5 1) (to 0 s1 4 ∷ []) (ls (lambda′ ▹ id 0 s1 ▹ id 0 s1 ▹ nil))
 
-case-10-expanded : expanded [] 4 (ls (lambda′ ▹ lambda′ ▹ lambda′ ▹ nil)) ≡ writes 1024 8 image-10
+case-10-expanded : expanded [] 4 (ls (lambda′ ▹ lambda′ ▹ lambda′ ▹ nil)) ≡ writes 400 8 image-10
 unfolding expandJob syntaxBytes lentTable lentOutput noSets
 case-10-expanded = refl
 
-case-10-parsed : parsed image-10 ≡ writes 1024 6 (treeImageBytes (head [] 5 1) (fun 4 (var 4)))
+case-10-parsed : parsed image-10 ≡ writes 400 6 (treeImageBytes (head [] 5 1) (fun 4 (var 4)))
 unfolding parseJob syntaxBytes treeImageBytes lentTable lentOutput noSets
 case-10-parsed = refl
 
@@ -88,7 +89,7 @@ rung-11 = macro-for-x (ls (lambda′ ▹ id 4 0 ▹ ls (id 5 0 ▹ nil) ▹ nil)
 abbrev rung-12 : Stx
 rung-12 = ls (lambda′ ▹ id 4 0 ▹ rung-11 ▹ nil)
 
-case-11 : expanded (wx ∷ wm ∷ wz ∷ []) 7 rung-11 ≡ refuses 1024 lentOutput 7 47
+case-11 : expanded (wx ∷ wm ∷ wz ∷ []) 7 rung-11 ≡ refuses 400 lentOutput 7 47
 unfolding expandJob syntaxBytes lentTable lentOutput noSets
 case-11 = refl
 
@@ -100,11 +101,11 @@ image-12 =
     ∷ 0 ∷ 0 ∷ 0 ∷ 0 ∷ 0 ∷ 0 ∷ 1 ∷ 1 ∷ 0 ∷ 0 ∷ 4 ∷ 5 ∷ 2 ∷ 1 ∷ 2 ∷ 0 ∷ 0 ∷ 3 ∷ 0 ∷ 2 ∷ 1 ∷ 2 ∷ 0 ∷ 0 ∷ 0 ∷ 0 ∷ 3 ∷ 1 ∷ 2 ∷ 4 ∷ 0 ∷ 0 ∷ 4 ∷ 0 ∷ 1 ∷ 1
     ∷ 0 ∷ 0 ∷ 4 ∷ []
 
-case-12-expanded : expanded (wx ∷ wm ∷ wz ∷ []) 7 rung-12 ≡ writes 1024 66 image-12
+case-12-expanded : expanded (wx ∷ wm ∷ wz ∷ []) 7 rung-12 ≡ writes 400 66 image-12
 unfolding expandJob syntaxBytes lentTable lentOutput noSets image-12
 case-12-expanded = refl
 
-case-12-parsed : parsed image-12 ≡ writes 1024 10 (treeImageBytes (head (wx ∷ wm ∷ wz ∷ []) 11 6) (fun 7 (fun 10 (var 7))))
+case-12-parsed : parsed image-12 ≡ writes 400 10 (treeImageBytes (head (wx ∷ wm ∷ wz ∷ []) 11 6) (fun 7 (fun 10 (var 7))))
 unfolding parseJob treeImageBytes lentTable lentOutput image-12
 case-12-parsed = refl
 
@@ -183,11 +184,11 @@ image-own-binder =
     ∷ 0 ∷ 0 ∷ 0 ∷ 0 ∷ 0 ∷ 0 ∷ 1 ∷ 1 ∷ 0 ∷ 0 ∷ 4 ∷ 5 ∷ 3 ∷ 1 ∷ 2 ∷ 4 ∷ 0 ∷ 0 ∷ 3 ∷ 0 ∷ 2 ∷ 1 ∷ 5 ∷ 0 ∷ 0 ∷ 0 ∷ 0 ∷ 3 ∷ 1 ∷ 5 ∷ 6 ∷ 0 ∷ 0 ∷ 4 ∷ 0 ∷ 1
     ∷ 1 ∷ 0 ∷ 0 ∷ 4 ∷ []
 
-own-binder-expanded : expanded (wx ∷ wm ∷ wz ∷ []) 7 (macro-rung (makes (link′ own-lambda (link′ own-x argument′)))) ≡ writes 1024 167 image-own-binder
+own-binder-expanded : expanded (wx ∷ wm ∷ wz ∷ []) 7 (macro-rung (makes (link′ own-lambda (link′ own-x argument′)))) ≡ writes 400 167 image-own-binder
 unfolding expandJob syntaxBytes lentTable lentOutput noSets image-own-binder
 own-binder-expanded = refl
 
-own-binder-parsed : parsed image-own-binder ≡ writes 1024 10 tree-of-both
+own-binder-parsed : parsed image-own-binder ≡ writes 400 10 tree-of-both
 unfolding parseJob treeImageBytes lentTable lentOutput image-own-binder
 own-binder-parsed = refl
 
@@ -200,10 +201,23 @@ image-own-variable =
     ∷ 0 ∷ 1 ∷ 1 ∷ 0 ∷ 0 ∷ 4 ∷ []
 
 own-variable-expanded : expanded (wx ∷ wm ∷ wz ∷ []) 7 (macro-rung (makes (link′ own-lambda (link′ (call 2 (argument′ ▹ nil)) (link′ own-x no-more′)))))
-    ≡ writes 1024 249 image-own-variable
+    ≡ writes 400 249 image-own-variable
 unfolding expandJob syntaxBytes lentTable lentOutput noSets image-own-variable
 own-variable-expanded = refl
 
-own-variable-parsed : parsed image-own-variable ≡ writes 1024 10 tree-of-both
+own-variable-parsed : parsed image-own-variable ≡ writes 400 10 tree-of-both
 unfolding parseJob treeImageBytes lentTable lentOutput image-own-variable
 own-variable-parsed = refl
+
+-- request T-09: a scope number from 128 on takes two groups, and 256 is the last
+scope-127-written : setBytes (only 127) ≡ 1 ∷ 127 ∷ []
+unfolding setBytes only
+scope-127-written = refl
+
+scope-128-written : setBytes (only 128) ≡ 1 ∷ 128 ∷ 1 ∷ []
+unfolding setBytes only
+scope-128-written = refl
+
+scope-256-written : setBytes (only 256) ≡ 1 ∷ 128 ∷ 2 ∷ []
+unfolding setBytes only
+scope-256-written = refl

@@ -82,10 +82,10 @@ wz = 122 ∷ []
 abbrev pub head : List (List ℕ) → ℕ → ℕ → Head
 head ws names scopes = record { words = ws; names = names; scopes = scopes }
 
--- ---- what is lent: a table of 16 words per unit and an output of 100 bytes, both filled
+-- ---- what is lent: a table of 40 words per unit and an output of 100 bytes, both filled
 
 unfoldable pub lentTable : ℕ → List ℕ
-lentTable budget = replicate (16 * budget) 2779096485
+lentTable budget = replicate (40 * budget) 2779096485
 
 unfoldable pub lentOutput : List ℕ
 lentOutput = replicate 100 90
@@ -114,11 +114,11 @@ resolved ph bs r = resolveJob (syntaxBytes (head (wx ∷ wy ∷ []) 9 3) bs r) p
 
 -- expanding at phase 0 with the program's budget, an image with no scopes and no bindings
 abbrev pub expanded : List (List ℕ) → ℕ → Stx → Result
-expanded ws n r = expandJob (syntaxBytes (head ws n 0) [] r) 0 1024 (lentTable 1024) lentOutput
+expanded ws n r = expandJob (syntaxBytes (head ws n 0) [] r) 0 400 (lentTable 400) lentOutput
 
 -- parsing an image
 abbrev pub parsed : List ℕ → Result
-parsed image = parseJob image 1024 (lentTable 1024) lentOutput
+parsed image = parseJob image 400 (lentTable 400) lentOutput
 
 -- evaluating a tree with no words and one made name
 abbrev pub evaluated : ℕ → Tree → Result

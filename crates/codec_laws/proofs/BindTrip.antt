@@ -1,13 +1,14 @@
 -- Bindings: what is read keeps the limits and is written again the same; what keeps the limits is read back.
-use mathlib.Core.Path.{_≡_, refl, sym, ap, subst}
+use mathlib.Core.Path.{_≡_, refl, sym, ap, subst, _∙_}
 use Prim.Native.Nat.{ℕ, zero, suc, _≤_, _<_}
+use mathlib.Core.Bool.{Bool}
 use native.Mathlib.Omega.{arith}
 use mathlib.Core.List.{List, [], _∷_, _++_, append-assoc}
 use lib.ListN.{length}
 use Rattle.model.specs.Limits.{mostBindings, mostNames, mostScopes}
 use Rattle.model.specs.Refusals.{layout, overLimit}
 use Rattle.model.specs.Resolving.{Bind, bindBefore}
-use Rattle.model.specs.Reading.{got, need, numUpTo, numBelow, readSet, Head, symbols, readBind, readBindsAfter, readSomeBinds, readBinds}
+use Rattle.model.specs.Reading.{Read, got, next, give, need, numUpTo, numBelow, readSet, Head, symbols, readBind, readBindsAfter, readSomeBinds, readBinds}
 use Rattle.model.specs.Writing.{numBytes, setBytes, bindBytes, bindsBytes}
 use Rattle.laws.specs.Ordered.{Ascending, Sorted}
 use Rattle.codec_laws.specs.WellFormed.{Bytes, HeadFits, BindFits, BindsFit}
@@ -22,7 +23,7 @@ Fits h l = BindsFit (symbols h) (h .names) (h .scopes) l
 
 -- ---- read
 
-bind-w : (h : Head) → h .scopes ≤ 64 → (b : Bind) (s rest : List ℕ) → Bytes s → readBind h s ≡ got b rest → Wrote (bindBytes b) s rest × Fit h b
+bind-w : (h : Head) → h .scopes ≤ 256 → (b : Bind) (s rest : List ℕ) → Bytes s → readBind h s ≡ got b rest → Wrote (bindBytes b) s rest × Fit h b
 unfolding readBind bindBytes
 bind-w h k b s rest bs e =
     let x = next-got (numBelow (symbols h) s) _ b rest e in
@@ -40,7 +41,7 @@ bind-w h k b s rest bs e =
 abbrev AfterTook : Head → ℕ → Bind → List ℕ → List Bind → List ℕ → Type 0
 AfterTook h c p s l rest = Wrote (bindsBytes l) s rest × (length l ≡ c) × Fits h l × Ascending p l
 
-after-w : (h : Head) → h .scopes ≤ 64 → (c : ℕ) (p : Bind) (l : List Bind) (s rest : List ℕ) → Bytes s → readBindsAfter h c p s ≡ got l rest
+after-w : (h : Head) → h .scopes ≤ 256 → (c : ℕ) (p : Bind) (l : List Bind) (s rest : List ℕ) → Bytes s → readBindsAfter h c p s ≡ got l rest
     → AfterTook h c p s l rest
 unfolding readBindsAfter bindsBytes
 after-w h k zero p l s rest b e = moved (AfterTook h 0 p s) [] l s rest e (wrote [] s s b refl, refl, tt, tt)
@@ -61,7 +62,7 @@ after-w h k (suc c) p l s rest b e =
 abbrev SomeTook : Head → ℕ → List ℕ → List Bind → List ℕ → Type 0
 SomeTook h c s l rest = Wrote (bindsBytes l) s rest × (length l ≡ c) × Fits h l × Sorted l
 
-some-w : (h : Head) → h .scopes ≤ 64 → (c : ℕ) (l : List Bind) (s rest : List ℕ) → Bytes s → readSomeBinds h c s ≡ got l rest → SomeTook h c s l rest
+some-w : (h : Head) → h .scopes ≤ 256 → (c : ℕ) (l : List Bind) (s rest : List ℕ) → Bytes s → readSomeBinds h c s ≡ got l rest → SomeTook h c s l rest
 unfolding readSomeBinds bindsBytes
 some-w h k zero l s rest b e = moved (SomeTook h 0 s) [] l s rest e (wrote [] s s b refl, refl, tt, tt)
 some-w h k (suc c) l s rest b e =
@@ -72,7 +73,7 @@ some-w h k (suc c) l s rest b e =
     moved (SomeTook h (suc c) s) (x .0 ∷ r .0) l (r .1) rest (r .3)
     (join (bindBytes (x .0)) (bindsBytes (r .0)) s (x .1) (r .1) (w₁ .0) (w₂ .0), ap suc (w₂ .1), (w₁ .1, w₂ .2), w₂ .3)
 
-pub binds-w : (h : Head) → h .scopes ≤ 64 → (l : List Bind) (s rest : List ℕ) → Bytes s → readBinds h s ≡ got l rest
+pub binds-w : (h : Head) → h .scopes ≤ 256 → (l : List Bind) (s rest : List ℕ) → Bytes s → readBinds h s ≡ got l rest
     → Wrote (numBytes (length l) ++ bindsBytes l) s rest × Fits h l × Sorted l × (length l ≤ mostBindings)
 unfolding readBinds
 binds-w h k l s rest b e =
@@ -109,14 +110,26 @@ after-back : (h : Head) → HeadFits h → (p : Bind) (l : List Bind) (rest : Li
 unfolding readBindsAfter bindsBytes
 after-back h hf p [] rest f a = refl
 after-back h hf p (b ∷ l) rest f a =
-    rw (append-assoc (bindBytes b) (bindsBytes l) rest, bind-back h hf b (bindsBytes l ++ rest) (f .0), a .0, after-back h hf b l rest (f .1) (a .1))
+    ap (readBindsAfter h (suc (length l)) p) (append-assoc (bindBytes b) (bindsBytes l) rest)
+    ∙ step (bindBytes b ++ (bindsBytes l ++ rest)) (bindsBytes l ++ rest) (bind-back h hf b (bindsBytes l ++ rest) (f .0)) (after-back h hf b l rest (f .1) (a .1))
+  where
+    -- over any bytes: what is written is large when it unfolds
+    step : (s t : List ℕ) → readBind h s ≡ got b t → readBindsAfter h (length l) b t ≡ got l rest → readBindsAfter h (suc (length l)) p s ≡ got (b ∷ l) rest
+    step s t e d =
+        ap (λ (r : Read Bind). next r (λ c u. next (need layout (bindBefore p c) u) (λ x v. next (readBindsAfter h (length l) c v) (λ q. give (c ∷ q))))) e
+        ∙ ap (λ (x : Bool). next (need layout x t) (λ y v. next (readBindsAfter h (length l) b v) (λ q. give (b ∷ q)))) (a .0)
+        ∙ ap (λ (x : Read (List Bind)). next x (λ q. give (b ∷ q))) d
 
 some-back : (h : Head) → HeadFits h → (l : List Bind) (rest : List ℕ) → Fits h l → Sorted l
     → readSomeBinds h (length l) (bindsBytes l ++ rest) ≡ got l rest
 unfolding readSomeBinds bindsBytes
 some-back h hf [] rest f a = refl
 some-back h hf (b ∷ l) rest f a =
-    rw (append-assoc (bindBytes b) (bindsBytes l) rest, bind-back h hf b (bindsBytes l ++ rest) (f .0), after-back h hf b l rest (f .1) a)
+    ap (readSomeBinds h (suc (length l))) (append-assoc (bindBytes b) (bindsBytes l) rest)
+    ∙ step (bindBytes b ++ (bindsBytes l ++ rest)) (bindsBytes l ++ rest) (bind-back h hf b (bindsBytes l ++ rest) (f .0)) (after-back h hf b l rest (f .1) a)
+  where
+    step : (s t : List ℕ) → readBind h s ≡ got b t → readBindsAfter h (length l) b t ≡ got l rest → readSomeBinds h (suc (length l)) s ≡ got (b ∷ l) rest
+    step s t e d = rw (e, d)
 
 pub binds-back : (h : Head) → HeadFits h → (l : List Bind) (rest : List ℕ) → Fits h l → Sorted l → length l ≤ mostBindings
     → readBinds h (numBytes (length l) ++ (bindsBytes l ++ rest)) ≡ got l rest

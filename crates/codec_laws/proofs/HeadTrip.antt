@@ -80,7 +80,7 @@ words-w (suc n) seen ws s rest b e =
 
 -- ---- the head read
 
-head-fits : (h : Head) → WordsFit coreWords (h .words) → 4 + length (h .words) ≤ h .names → h .names ≤ 512 → h .scopes ≤ 64 → HeadFits h
+head-fits : (h : Head) → WordsFit coreWords (h .words) → 4 + length (h .words) ≤ h .names → h .names ≤ 1024 → h .scopes ≤ 256 → HeadFits h
 unfolding symbols mostNames mostScopes
 head-fits h a b c d = record { words-fit = a; names-from = b; names-to = c; scopes-to = d }
 
@@ -109,12 +109,12 @@ head-w kind h s rest b e =
     from : (a b c : ℕ) → c ≡ a → 4 + c ≤ 4 + a + b
     from a b c p = omega arith
 
-    to : (a b : ℕ) → a ≤ 508 → b ≤ 508 - a → 4 + a + b ≤ 512
+    to : (a b : ℕ) → a ≤ 1020 → b ≤ 1020 - a → 4 + a + b ≤ 1024
     to a b p q = omega arith
 
     go : (k w m n : ℕ) (ws : List (List ℕ)) (s₁ s₂ s₃ s₄ s₅ : List ℕ) → k ≡ kind → Wrote (numBytes k) s s₁
-        → (Bytes s₁ → Wrote (numBytes w) s₁ s₂ × (w ≤ 508)) → (Bytes s₂ → WordsTook w coreWords s₂ ws s₃)
-        → (Bytes s₃ → Wrote (numBytes m) s₃ s₄ × (m ≤ 508 - w)) → (Bytes s₄ → Wrote (numBytes n) s₄ s₅ × (n ≤ 64))
+        → (Bytes s₁ → Wrote (numBytes w) s₁ s₂ × (w ≤ 1020)) → (Bytes s₂ → WordsTook w coreWords s₂ ws s₃)
+        → (Bytes s₃ → Wrote (numBytes m) s₃ s₄ × (m ≤ 1020 - w)) → (Bytes s₄ → Wrote (numBytes n) s₄ s₅ × (n ≤ 256))
         → got (record { words = ws; names = 4 + w + m; scopes = n }) s₅ ≡ got h rest → Wrote (headBytes kind h) s rest × HeadFits h
     go k w m n ws s₁ s₂ s₃ s₄ s₅ kk a₁ f₂ f₃ f₄ f₅ f =
         let a₂ = f₂ (a₁ .1) in
@@ -181,10 +181,10 @@ head-back kind h rest known f =
       num-back kind (numBytes W ++ (wordsBytes (h .words) ++ (numBytes M ++ r₄))) (small known),
       is-kind known,
       eqb-true kind kind refl,
-      upTo-back overLimit 508 W (wordsBytes (h .words) ++ (numBytes M ++ r₄)) W-le W-small,
+      upTo-back overLimit 1020 W (wordsBytes (h .words) ++ (numBytes M ++ r₄)) W-le W-small,
       words-back coreWords (h .words) (numBytes M ++ r₄) (f .words-fit),
-      upTo-back overLimit (508 - W) M r₄ M-le M-small,
-      upTo-back overLimit 64 (h .scopes) rest (f .scopes-to) scopes-small,
+      upTo-back overLimit (1020 - W) M r₄ M-le M-small,
+      upTo-back overLimit 256 (h .scopes) rest (f .scopes-to) scopes-small,
     )
     (ap (λ (z : ℕ). got (record { words = h .words; names = z; scopes = h .scopes }) rest) all)
   where
@@ -208,16 +208,16 @@ head-back kind h rest known f =
     from : 4 + length (h .words) ≤ h .names
     from = f .names-from
 
-    to : h .names ≤ 512
+    to : h .names ≤ 1024
     to = f .names-to
 
-    W-le : W ≤ 508
+    W-le : W ≤ 1020
     W-le = omega (arith, from, to)
 
     W-small : W < 4294967296
     W-small = omega (arith, from, to)
 
-    M-le : M ≤ 508 - W
+    M-le : M ≤ 1020 - W
     M-le = omega (arith, from, to)
 
     M-small : M < 4294967296

@@ -52,7 +52,7 @@ head-counts : (h : Head) → HeadFits h → Counts h
 unfolding mostNames mostScopes
 head-counts h f = record { scopes-few = f .scopes-to; names-few = f .names-to; symbols-few = few (f .names-from) (f .names-to) }
   where
-    few : symbols h ≤ h .names → h .names ≤ 512 → symbols h < 4294967296
+    few : symbols h ≤ h .names → h .names ≤ 1024 → symbols h < 4294967296
     few a b = omega arith
 
 -- ---- kind 1

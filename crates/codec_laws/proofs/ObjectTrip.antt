@@ -22,10 +22,10 @@ use Rattle.codec_laws.proofs.Lengths.{left-le, right-le, count-le}
 
 -- ---- three sets
 
-set-w : (n : ℕ) (v : ℕ) (s rest : List ℕ) → n ≤ 64 → Bytes s → readSet n s ≡ got v rest → Wrote (setBytes v) s rest
+set-w : (n : ℕ) (v : ℕ) (s rest : List ℕ) → n ≤ 256 → Bytes s → readSet n s ≡ got v rest → Wrote (setBytes v) s rest
 set-w n v s rest h b e = wrote (setBytes v) s rest b (set-same n v s rest h b e .1)
 
-pub sets-w : (n : ℕ) (c : Sets) (s rest : List ℕ) → n ≤ 64 → Bytes s → readSets n s ≡ got c rest → Wrote (setsBytes c) s rest × SetsIn n c
+pub sets-w : (n : ℕ) (c : Sets) (s rest : List ℕ) → n ≤ 256 → Bytes s → readSets n s ≡ got c rest → Wrote (setsBytes c) s rest × SetsIn n c
 unfolding readSets setsBytes
 sets-w n c s rest h b e =
     let g₁ = next-got (readSet n s) _ c rest e in
@@ -39,7 +39,7 @@ sets-w n c s rest h b e =
       (set-same n (g₁ .0) s (g₁ .1) h b (g₁ .2) .0, set-same n (g₂ .0) (g₁ .1) (g₂ .1) h (w₁ .1) (g₂ .2) .0, set-same n (g₃ .0) (g₂ .1) (g₃ .1) h (w₂ .1) (g₃ .2) .0),
     )
 
-sets-back : (n : ℕ) (c : Sets) (rest : List ℕ) → n ≤ 64 → SetsIn n c → readSets n (setsBytes c ++ rest) ≡ got c rest
+sets-back : (n : ℕ) (c : Sets) (rest : List ℕ) → n ≤ 256 → SetsIn n c → readSets n (setsBytes c ++ rest) ≡ got c rest
 unfolding readSets setsBytes
 sets-back n c rest h i =
     rw (
@@ -149,7 +149,7 @@ content-w l h part k c t false q x s₀ s rest w i e =
       suc-le-suc zero-le,
     )
 
-pub stx-w : (l : ℕ) (h : Head) → h .scopes ≤ 64 → PartW l h (readStx l h)
+pub stx-w : (l : ℕ) (h : Head) → h .scopes ≤ 256 → PartW l h (readStx l h)
 unfolding readStx
 stx-w zero h k x s rest b e = absurd (fault≢got overLimit x rest e)
 stx-w (suc l) h k x s rest b e =
@@ -171,7 +171,7 @@ tag-not-5 (prim x) = refl
 tag-not-5 (rung x) = refl
 
 -- the tag and the sets of an object, and then its content
-object-back : (l : ℕ) (h : Head) (t : ℕ) (c : Sets) (w rest : List ℕ) (x : Stx) → h .scopes ≤ 64 → t ≤ 5 → SetsIn (h .scopes) c
+object-back : (l : ℕ) (h : Head) (t : ℕ) (c : Sets) (w rest : List ℕ) (x : Stx) → h .scopes ≤ 256 → t ≤ 5 → SetsIn (h .scopes) c
     → readContent h (readStx l h) c t (eqb t 5) (w ++ rest) ≡ got x rest
     → readStx (suc l) h ((numBytes t ++ setsBytes c ++ w) ++ rest) ≡ got x rest
 unfolding readStx
@@ -208,7 +208,7 @@ parts-nil part rest = refl
 mutual
   unfolding stxBytes nesting count
 
-  pub stx-back : (h : Head) → h .scopes ≤ 64 → symbols h < 4294967296 → (x : Stx) → StxFits (symbols h) (h .scopes) x → length (stxBytes x) ≤ 65536
+  pub stx-back : (h : Head) → h .scopes ≤ 256 → symbols h < 4294967296 → (x : Stx) → StxFits (symbols h) (h .scopes) x → length (stxBytes x) ≤ 65536
       → (l : ℕ) → nesting x ≤ l → (rest : List ℕ) → readStx l h (stxBytes x ++ rest) ≡ got x rest
   stx-back h k j (atom c a) f n zero q rest = absurd (not-suc-le-zero q)
   stx-back h k j (atom c a) f n (suc l) q rest =
@@ -221,7 +221,7 @@ mutual
       ∙ object-back l h 5 c (numBytes (count p) ++ stxsBytes p) rest (list c p) k (le-refl 5) (f .0)
       (list-content l h c p rest (omega (arith, short, count-le p)) (stxs-back h k j p (f .1) short l (le-of-suc-le-suc q) rest))
 
-  pub stxs-back : (h : Head) → h .scopes ≤ 64 → symbols h < 4294967296 → (p : Stxs) → StxsFit (symbols h) (h .scopes) p → length (stxsBytes p) ≤ 65536
+  pub stxs-back : (h : Head) → h .scopes ≤ 256 → symbols h < 4294967296 → (p : Stxs) → StxsFit (symbols h) (h .scopes) p → length (stxsBytes p) ≤ 65536
       → (l : ℕ) → nestings p ≤ l → (rest : List ℕ) → readParts (count p) (readStx l h) (stxsBytes p ++ rest) ≡ got p rest
   stxs-back h k j nil f n l q rest = parts-nil (readStx l h) rest
   stxs-back h k j (cons x p) f n l q rest =

@@ -75,7 +75,7 @@ members-same (suc c) n p m v s rest bs e =
         }
 
 -- a set read, and written again
-pub set-same : (n v : ℕ) (s rest : List ℕ) → n ≤ 64 → Bytes s → readSet n s ≡ got v rest → (v < 2 ^ n) × (s ≡ setBytes v ++ rest)
+pub set-same : (n v : ℕ) (s rest : List ℕ) → n ≤ 256 → Bytes s → readSet n s ≡ got v rest → (v < 2 ^ n) × (s ≡ setBytes v ++ rest)
 unfolding readSet setBytes listBytes
 set-same n v s rest h bs e =
     let g = next-got (num s) _ v rest e in
@@ -86,7 +86,7 @@ set-same n v s rest h bs e =
     go : (c : ℕ) (t : List ℕ) → s ≡ numBytes c ++ t → Members c n 0 0 v t rest → (v < 2 ^ n) × (s ≡ listBytes (members v) ++ rest)
     go c t b r =
         let small : addAll (r .l) 0 < 2 ^ n = addAll-small 0 n (r .l) 0 (r .asc) (pow-pos n) in
-        let asc : Asc 0 64 (r .l) = raise 0 n 64 (r .l) h (r .asc) in
+        let asc : Asc 0 256 (r .l) = raise 0 n 256 (r .l) h (r .asc) in
         let is : members v ≡ r .l = ap members (r .value) ∙ members-of-set (r .l) asc (le-trans small (pow-le-pow-right {n = 2} (zero-lt-suc 1) h)) in (
           subst (λ (x : ℕ). x < 2 ^ n) (sym (r .value)) small,
           b ∙ ap (λ (z : List ℕ). numBytes c ++ z) (r .same) ∙ sym (append-assoc (numBytes c) (numsBytes (r .l)) rest)
@@ -95,7 +95,7 @@ set-same n v s rest h bs e =
 
 -- ---- a set written, and read again
 
-members-back : (n p : ℕ) (m : Scopes) (l rest : List ℕ) → n ≤ 64 → Asc p n l
+members-back : (n p : ℕ) (m : Scopes) (l rest : List ℕ) → n ≤ 256 → Asc p n l
     → readMembers (length l) n p m (numsBytes l ++ rest) ≡ got (addAll l m) rest
 unfolding readMembers addAll numsBytes
 members-back n p m [] rest h a = refl
@@ -112,7 +112,7 @@ asc-length p n (k ∷ k′ ∷ l) a = inl (longer (asc-length k n (k′ ∷ l) (
     longer (inl h) = omega (arith, a .0)
     longer (inr e) = omega (arith, a .0, a .1, ap length e)
 
-pub set-back : (n : ℕ) (m : Scopes) (rest : List ℕ) → n ≤ 64 → m < 2 ^ n → readSet n (setBytes m ++ rest) ≡ got m rest
+pub set-back : (n : ℕ) (m : Scopes) (rest : List ℕ) → n ≤ 256 → m < 2 ^ n → readSet n (setBytes m ++ rest) ≡ got m rest
 unfolding readSet setBytes listBytes
 set-back n m rest h q =
     let small : Small m = le-trans q (pow-le-pow-right {n = 2} (zero-lt-suc 1) h) in

@@ -71,7 +71,7 @@ low-tag low t h k = absurd (two-one (le-trans k h))
     two-one q = omega arith
 
 -- what follows the tag t, where the tag is written at the start of s₀
-body-w : (l : ℕ) (h : Head) (low : ℕ) → h .scopes ≤ 64 → (tree value : Reader Tree) (object : Reader Stx) → PartW l h 0 tree → PartW l h 2 value
+body-w : (l : ℕ) (h : Head) (low : ℕ) → h .scopes ≤ 256 → (tree value : Reader Tree) (object : Reader Stx) → PartW l h 0 tree → PartW l h 2 value
     → ((x : Stx) (s rest : List ℕ) → Bytes s → object s ≡ got x rest → StxTook (suc l) h s x rest)
     → (t : ℕ) → low ≤ t → (v : Tree) (s₀ s rest : List ℕ) → Wrote (numBytes t) s₀ s → readTreeBody h tree value object t s ≡ got v rest
     → TreeTook (suc l) h low s₀ v rest
@@ -146,7 +146,7 @@ body-w l h low i tree value object kt kv ko (suc (suc (suc (suc (suc zero))))) q
     (join (numBytes 5) (stxBytes (a .0)) s₀ s (a .1) w (x .0), x .1, x .2, λ k. tt)
 body-w l h low i tree value object kt kv ko (suc (suc (suc (suc (suc (suc t)))))) q v s₀ s rest w e = absurd (fault≢got layout v rest e)
 
-pub tree-w : (l : ℕ) (h : Head) → h .scopes ≤ 64 → (low : ℕ) → PartW l h low (readTree l h low)
+pub tree-w : (l : ℕ) (h : Head) → h .scopes ≤ 256 → (low : ℕ) → PartW l h low (readTree l h low)
 unfolding readTree
 tree-w zero h i low v s rest b e = absurd (fault≢got overLimit v rest e)
 tree-w (suc l) h i low v s rest b e =
@@ -166,7 +166,7 @@ unfolding readTree
 tagged-back l h low t w rest v q k e =
     rw (append-assoc (numBytes t) w rest, num-back t (w ++ rest) (omega arith), leb-true low t q) e
 
-var-body : (h : Head) (tree value : Reader Tree) (object : Reader Stx) (n : ℕ) (rest : List ℕ) → n < h .names → h .names ≤ 512
+var-body : (h : Head) (tree value : Reader Tree) (object : Reader Stx) (n : ℕ) (rest : List ℕ) → n < h .names → h .names ≤ 1024
     → readTreeBody h tree value object 0 (numBytes n ++ rest) ≡ got (var n) rest
 unfolding readTreeBody
 var-body h tree value object n rest f k = rw (below-back (h .names) n rest f (omega arith))
@@ -184,7 +184,7 @@ app-body h tree value object f p rest n a b =
       b,
     )
 
-fun-body : (h : Head) (tree value : Reader Tree) (object : Reader Stx) (n : ℕ) (b : Tree) (rest : List ℕ) → n < h .names → h .names ≤ 512
+fun-body : (h : Head) (tree value : Reader Tree) (object : Reader Stx) (n : ℕ) (b : Tree) (rest : List ℕ) → n < h .names → h .names ≤ 1024
     → tree (treeBytes b ++ rest) ≡ got b rest → readTreeBody h tree value object 2 ((numBytes n ++ treeBytes b) ++ rest) ≡ got (fun n b) rest
 unfolding readTreeBody
 fun-body h tree value object n b rest f k e =
@@ -224,8 +224,8 @@ trees-nil part rest = refl
 
 -- the head's counts are small
 pub record Counts (h : Head) : Type 0 where
-  pub scopes-few : h .scopes ≤ 64
-  pub names-few : h .names ≤ 512
+  pub scopes-few : h .scopes ≤ 256
+  pub names-few : h .names ≤ 1024
   pub symbols-few : symbols h < 4294967296
 
 -- the least tag asked for, 0 or 2, is met by the tree

@@ -136,16 +136,16 @@ member-digit (suc c) p (suc i) m h = go (eqb (m % 2) 1) (member-digit c (suc p) 
     go false e = ap (λ (x : ℕ). member x rest) move ∙ e
 
 abbrev pub Small : Scopes → Type 0
-Small m = m < 2 ^ 64
+Small m = m < 2 ^ 256
 
 pub asc-of : (m n : ℕ) → m < 2 ^ n → Asc 0 n (members m)
 unfolding members mostScopes
-asc-of m n h = asc-members 64 0 n n m h (omega arith)
+asc-of m n h = asc-members 256 0 n n m h (omega arith)
 
 pub member-has : (j : ℕ) (m : Scopes) → Small m → member j (members m) ≡ has j m
 unfolding members mostScopes has
-member-has zero m h = not-below 0 64 (membersFrom 64 1 m) (asc-of m 64 h) 0 zero-le
-member-has (suc i) m h = ap (λ (x : ℕ). member (suc x) (membersFrom 64 1 m)) (omega arith) ∙ member-digit 64 0 i m h
+member-has zero m h = not-below 0 256 (membersFrom 256 1 m) (asc-of m 256 h) 0 zero-le
+member-has (suc i) m h = ap (λ (x : ℕ). member (suc x) (membersFrom 256 1 m)) (omega arith) ∙ member-digit 256 0 i m h
 
 -- ---- from a list to a set
 
@@ -175,12 +175,12 @@ or-false false = refl
 pub set-of-members : (m : Scopes) → Small m → addAll (members m) 0 ≡ m
 set-of-members m h =
     set-ext (addAll (members m) 0) m
-    (λ j. has-addAll 0 64 (members m) (asc-of m 64 h) j 0 ∙ ap (λ (x : Bool). member j (members m) || x) (has-none j)
+    (λ j. has-addAll 0 256 (members m) (asc-of m 256 h) j 0 ∙ ap (λ (x : Bool). member j (members m) || x) (has-none j)
     ∙ or-false (member j (members m)) ∙ member-has j m h)
 
 -- the list of a list's set
-pub members-of-set : (l : List ℕ) → Asc 0 64 l → Small (addAll l 0) → members (addAll l 0) ≡ l
+pub members-of-set : (l : List ℕ) → Asc 0 256 l → Small (addAll l 0) → members (addAll l 0) ≡ l
 members-of-set l a h =
-    asc-ext 0 64 (members (addAll l 0)) l (asc-of (addAll l 0) 64 h) a
-    (λ j. member-has j (addAll l 0) h ∙ has-addAll 0 64 l a j 0 ∙ ap (λ (x : Bool). member j l || x) (has-none j)
+    asc-ext 0 256 (members (addAll l 0)) l (asc-of (addAll l 0) 256 h) a
+    (λ j. member-has j (addAll l 0) h ∙ has-addAll 0 256 l a j 0 ∙ ap (λ (x : Bool). member j l || x) (has-none j)
     ∙ or-false (member j l))

@@ -2,17 +2,17 @@
 use Prim.Native.Nat.{ℕ}
 
 unfoldable pub mostScopes : ℕ
-mostScopes = 64
+mostScopes = 256
 
 -- core names and words counted
 unfoldable pub mostNames : ℕ
-mostNames = 512
+mostNames = 1024
 
 unfoldable pub coreNames : ℕ
 coreNames = 4
 
 unfoldable pub mostBindings : ℕ
-mostBindings = 128
+mostBindings = 512
 
 -- of any object, value or tree read or made
 unfoldable pub mostNesting : ℕ
@@ -46,8 +46,8 @@ lastRungWord = 15
 
 -- words of the table, 32 bits each, per unit of budget
 unfoldable pub wordsPerUnit : ℕ
-wordsPerUnit = 16
+wordsPerUnit = 40
 
 -- the program gives each job this budget
 unfoldable pub programBudget : ℕ
-programBudget = 1024
+programBudget = 400

@@ -10,7 +10,7 @@ pub data Refusal : Type 0 where
   unowned : Refusal
   -- the kind is 1 or 2 but not the job's
   wrongKind : Refusal
-  -- budget over 4,096, or fewer than 16 table words per unit of budget
+  -- budget over 4,096, or fewer than 40 table words per unit of budget
   smallTable : Refusal
   ambiguous : Refusal
   -- expand: an identifier in expression place whose name has no meaning

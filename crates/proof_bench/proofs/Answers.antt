@@ -41,17 +41,17 @@ pub code-5-touches-nothing : (budget : ℕ) (table output : List ℕ) (e : Endin
 unfolding lent answerOf
 code-5-touches-nothing budget table output e q = rw q
 
--- after all else the first 16 times budget words are zero and the rest untouched
+-- after all else the words that the budget wants are zero and the rest untouched
 pub all-else-clears-the-table : (budget : ℕ) (table output : List ℕ) (e : Ending) → budgetFits budget (length table) ≡ true
-    → (lent budget table output e) .table ≡ replicate (16 * budget) 0 ++ drop (16 * budget) table
+    → (lent budget table output e) .table ≡ replicate (40 * budget) 0 ++ drop (40 * budget) table
 unfolding lent cleared
 all-else-clears-the-table budget table output e q = rw q
 
-enough-words : (budget n : ℕ) → budgetFits budget n ≡ true → (budget ≤ 4096) × (16 * budget ≤ n)
+enough-words : (budget n : ℕ) → budgetFits budget n ≡ true → (budget ≤ 4096) × (40 * budget ≤ n)
 unfolding budgetFits
 enough-words budget n q =
-    let w = and-both (leb budget 4096) (leb (16 * budget) n) q in
-    (leb-le budget 4096 (w .0), leb-le (16 * budget) n (w .1))
+    let w = and-both (leb budget 4096) (leb (40 * budget) n) q in
+    (leb-le budget 4096 (w .0), leb-le (40 * budget) n (w .1))
 
 pub the-table-keeps-its-length : (budget : ℕ) (table output : List ℕ) (e : Ending) → length ((lent budget table output e) .table) ≡ length table
 unfolding lent cleared
@@ -63,10 +63,10 @@ the-table-keeps-its-length budget table output e = go (budgetFits budget (length
     go : (b : Bool) → budgetFits budget (length table) ≡ b
         → length ((if b then after-ending budget table output e else untouched table output) .table) ≡ length table
     go true q =
-        length-append (replicate (16 * budget) 0) (drop (16 * budget) table)
-        ∙ ap (λ (n : ℕ). n + length (drop (16 * budget) table)) (length-replicate (16 * budget) 0)
-        ∙ ap (λ (n : ℕ). 16 * budget + n) (length-drop (16 * budget) table)
-        ∙ whole (16 * budget) (length table) (enough-words budget (length table) q .1)
+        length-append (replicate (40 * budget) 0) (drop (40 * budget) table)
+        ∙ ap (λ (n : ℕ). n + length (drop (40 * budget) table)) (length-replicate (40 * budget) 0)
+        ∙ ap (λ (n : ℕ). 40 * budget + n) (length-drop (40 * budget) table)
+        ∙ whole (40 * budget) (length table) (enough-words budget (length table) q .1)
     go false q = refl
 
 -- ---- success

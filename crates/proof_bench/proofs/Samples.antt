@@ -36,7 +36,7 @@ nested =
     ∷ 5 ∷ 0 ∷ 0 ∷ 0 ∷ 3 ∷ 0 ∷ 0 ∷ 0 ∷ 0 ∷ 0 ∷ 0 ∷ 0 ∷ 0 ∷ 0 ∷ 5 ∷ 0 ∷ 0 ∷ 0 ∷ 0 ∷ 4 ∷ []
 
 unfoldable pub words : List ℕ
-words = replicate 512 0
+words = replicate 1280 0
 
 unfoldable pub room : List ℕ
 room = replicate 64 0
@@ -99,7 +99,7 @@ call image b h = record {
   image-length = omega arith;
   phase = omega arith;
   budget-number = omega arith;
-  table-words = zero-words 512;
+  table-words = zero-words 1280;
   table-length = omega arith;
   output-bytes = zero-bytes 64;
   output-length = omega arith;
