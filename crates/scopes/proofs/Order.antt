@@ -2,12 +2,14 @@
 use mathlib.Core.Path.{_≡_, refl, sym, ap, ap₂, _∙_, subst}
 use mathlib.Core.Bool.{Bool, true, false, not}
 use mathlib.Core.List.{List, [], _∷_}
-use Prim.Native.Nat.{ℕ, zero, suc, _+_, _*_, _/_, _%_, _^_, _≤_, _<_}
-use native.Mathlib.Nat.{pow-suc, mod-lt}
+use Prim.Native.Nat.{ℕ, zero, suc, _+_, _-_, _*_, _/_, _%_, _^_, _≤_, _<_}
+use native.Mathlib.Nat.{pow-suc, mod-lt, zero-add, add-zero, suc-add, div-one}
 use native.Mathlib.Omega.{arith}
-use lib.Dec.{eqb, ltb, lit<}
+use lib.Dec.{eqb, lit<}
+use lib.Pow.{shr-shr, shr-lt, field, mod-mod-pow}
 use borrow.Author.Tests.{eqb-true, eqb-false, eq-eqb, ne-eqb, lt-ltb, le-ltb}
 use Rattle.model.specs.Limits.{mostScopes}
+use Rattle.scopes.specs.Sets.{setScopes}
 use Rattle.model.specs.Scopes.{keep, membersFrom, members, lessThen, listBefore, setBefore}
 
 pub digit-one : (m : ℕ) → eqb (m % 2) 1 ≡ false → m % 2 ≡ 0
@@ -100,9 +102,32 @@ pub record Alike (a b x y : ℕ) : Type 0 where
   pub right : y < 2 ^ count
   pub decides : listBefore (membersFrom count from x) (membersFrom count from y) ≡ setBefore a b
 
-pub start : (a b : ℕ) → a < 2 ^ 64 → b < 2 ^ 64 → Alike a b a b
+-- sets that agree in their d low digits
+many-alike : (d c n x y : ℕ) → x % 2 ^ d ≡ y % 2 ^ d → beforeFrom (d + c) n x y ≡ beforeFrom c (n + d) (x / 2 ^ d) (y / 2 ^ d)
+many-alike zero c n x y e = rw (zero-add c, add-zero n, div-one x, div-one y)
+many-alike (suc d) c n x y e =
+    let plus : suc d ≡ d + 1 = omega arith in
+    let low : (z : ℕ) → z % 2 ^ suc d % 2 ≡ z % 2 = λ z. ap (λ (k : ℕ). z % 2 ^ k % 2) plus ∙ mod-mod-pow z d 1 in
+    let up : (z : ℕ) → z % 2 ^ suc d / 2 ≡ z / 2 % 2 ^ d = λ z. ap (λ (k : ℕ). z % 2 ^ k / 2) plus ∙ field z d 1 in
+    let rest : (z : ℕ) → z / 2 / 2 ^ d ≡ z / 2 ^ suc d = λ z. shr-shr z 1 d ∙ ap (λ (k : ℕ). z / 2 ^ k) (let k : 1 + d ≡ suc d = omega arith in k) in
+    ap (λ (k : ℕ). beforeFrom k n x y) (suc-add d c)
+    ∙ alike (d + c) n x y (sym (low x) ∙ ap (λ (z : ℕ). z % 2) e ∙ low y)
+    ∙ many-alike d c (suc n) (x / 2) (y / 2) (sym (up x) ∙ ap (λ (z : ℕ). z / 2) e ∙ up y)
+    ∙ ap (λ (k : ℕ). beforeFrom c k (x / 2 / 2 ^ d) (y / 2 / 2 ^ d)) (let k : suc n + d ≡ n + suc d = omega arith in k)
+    ∙ ap₂ (beforeFrom c (n + suc d)) (rest x) (rest y)
+
+pub agreeing : (a b d : ℕ) → d ≤ setScopes → a < 2 ^ setScopes → b < 2 ^ setScopes → a % 2 ^ d ≡ b % 2 ^ d → Alike a b (a / 2 ^ d) (b / 2 ^ d)
 unfolding setBefore members mostScopes
-start a b h k = record { count = 64; from = 1; left = h; right = k; decides = refl }
+agreeing a b d h f g e =
+    let all : setScopes ≡ d + (setScopes - d) = omega arith in
+    let k : setScopes - d + d ≡ setScopes = omega arith in
+    record {
+      count = setScopes - d;
+      from = 1 + d;
+      left = shr-lt (setScopes - d) d (rw k f);
+      right = shr-lt (setScopes - d) d (rw k g);
+      decides = sym (many-alike d (setScopes - d) 1 a b e) ∙ ap (λ (n : ℕ). beforeFrom n 1 a b) (sym all);
+    }
 
 -- a law of x and y that differ, so that there is a digit to look at
 differing : {a b x y : ℕ} (P : Bool → Type 0) → Alike a b x y → (x ≡ y → ⊥)
@@ -113,23 +138,9 @@ differing {a} {b} {x} {y} P w d f = subst P (w .decides) (go (w .count) (w .left
     go zero h k = absurd (let e : 2 ^ 0 ≡ 1 = refl in d (omega (arith, e)))
     go (suc c) h k = f c (w .from) h k
 
-pub onward : {a b x y : ℕ} → Alike a b x y → (x ≡ y → ⊥) → x % 2 ≡ y % 2 → Alike a b (x / 2) (y / 2)
-onward {a} {b} {x} {y} w d e = go (w .count) (w .left) (w .right) (w .decides)
-  where
-    go : (c : ℕ) → x < 2 ^ c → y < 2 ^ c → beforeFrom c (w .from) x y ≡ setBefore a b → Alike a b (x / 2) (y / 2)
-    go zero h k q = absurd (let z : 2 ^ 0 ≡ 1 = refl in d (omega (arith, z)))
-    go (suc c) h k q = record {
-      count = c;
-      from = suc (w .from);
-      left = half-less c x h;
-      right = half-less c y k;
-      decides = sym (alike c (w .from) x y e) ∙ q;
-    }
-
-pub settled : {a b x y : ℕ} → Alike a b x y → x ≡ y → setBefore a b ≡ false
-settled {y = y} w e =
-    sym (w .decides) ∙ ap (λ (z : ℕ). listBefore (membersFrom (w .count) (w .from) z) (membersFrom (w .count) (w .from) y)) e
-    ∙ list-self (membersFrom (w .count) (w .from) y)
+pub before-self : (a b : ℕ) → a ≡ b → setBefore a b ≡ false
+unfolding setBefore
+before-self a b e = ap (λ (x : ℕ). listBefore (members x) (members b)) e ∙ list-self (members b)
 
 -- the lowest digit in which they differ is x's: x is first unless y has no more
 pub mine : {a b x y : ℕ} → Alike a b x y → (x ≡ y → ⊥) → (x % 2 ≡ y % 2 → ⊥) → x % 2 ≡ 1 → setBefore a b ≡ not (eqb y 0)

@@ -1,11 +1,12 @@
 // The countings of document 01 and its scope sets. What a set is made of is known in this crate alone.
 ghost use mathlib.Core.Path.{_≡_};
-ghost use Prim.Native.Nat.{_≤_};
+ghost use mathlib.Core.Bool.{not};
+ghost use Prim.Native.Nat.{_+_, _*_, _/_, _^_, _≤_, _<_};
 ghost use lib.ListN.{length};
 ghost use lib.Dec.{eqb};
-ghost use lib.Bits.{bitOr};
+ghost use lib.Bits.{bitOr, bitXor};
 ghost use Rattle.model.specs.Scopes as model;
-ghost use Rattle.scopes.specs.Sets.{scopesOf, Declared};
+ghost use Rattle.scopes.specs.Sets.{setWords, setScopes, mostLong, scopesOf, wordMembers, longMembers, Declared, Differing};
 
 // Scope numbers, name numbers and point numbers are separate countings: a name never serves as a scope.
 pub struct Scope(pub u32);
@@ -18,29 +19,35 @@ pub struct Point(pub u32);
 pub struct Symbol(pub u32);
 
 impl Scope {
-    pub const MOST: u32 = 64;
+    pub const MOST: u32 = 64 * ScopeSet::WORDS as u32;
 }
 
 impl Name {
     pub const CORE: u32 = 4;
 
-    pub const MOST: u32 = 512;
+    pub const MOST: u32 = 1024;
 }
 
 impl Point {
     pub const LAST: u32 = 1023;
 }
 
-// A scope set, handed on as one value: scope k is a member where the digit of weight 2 ^ (k - 1) is 1.
+// A scope set, handed on as one value: scope k is a member where the digit of weight 2 ^ (k - 1) is 1. The words hold 64 digits each, the
+// low word first.
 pub struct ScopeSet {
-    pub bits: u64,
+    pub words: [u64; ScopeSet::WORDS],
 }
 
 impl ScopeSet {
+    // Nothing else says how wide a set is, but for the limit of scopes and how sets lie in the table and the store.
+    pub const WORDS: usize = 4;
+
     pub fn empty() -> Self
         ensures { λ r. ⌜ scopesOf r ≡ 0 ⌝ }
     {
-        ScopeSet { bits: 0 }
+        ScopeSet {
+            words: [0; ScopeSet::WORDS],
+        }
     }
 
     // The set with scope k alone.
@@ -49,9 +56,12 @@ impl ScopeSet {
         ensures { λ r. ⌜ scopesOf r ≡ model.only (k .0) ⌝ }
     {
         let place = k.0 - 1;
-        ScopeSet {
-            bits: 1u64 << place,
-        }
+        let word = (place / 64) as usize;
+        let mut r = ScopeSet {
+            words: [0; ScopeSet::WORDS],
+        };
+        r.words[word] = 1u64 << (place % 64);
+        r
     }
 
     pub fn add(self, k: Scope) -> Self
@@ -59,9 +69,7 @@ impl ScopeSet {
         ensures { λ r. ⌜ scopesOf r ≡ model.add (k .0) (scopesOf self) ⌝ }
     {
         let one = ScopeSet::only(k);
-        ScopeSet {
-            bits: one.bits | self.bits,
-        }
+        one.union(self)
     }
 
     // Taken out where it is there, else put in.
@@ -70,33 +78,61 @@ impl ScopeSet {
         ensures { λ r. ⌜ scopesOf r ≡ model.flip (k .0) (scopesOf self) ⌝ }
     {
         let one = ScopeSet::only(k);
-        ScopeSet {
-            bits: one.bits ^ self.bits,
-        }
+        one.apart(self)
     }
 
     // The members that are not prunable.
     pub fn prune(self, prunable: ScopeSet) -> Self
         ensures { λ r. ⌜ scopesOf r ≡ model.prune (scopesOf prunable) (scopesOf self) ⌝ }
     {
-        ScopeSet {
-            bits: self.bits ^ (prunable.bits & self.bits),
+        let mut r = self;
+        let mut i: usize = 0;
+        while i < ScopeSet::WORDS {
+            let w = self.words[i];
+            r.words[i] = w ^ (prunable.words[i] & w);
+            i += 1;
         }
+        r
     }
 
     pub fn union(self, other: ScopeSet) -> Self
         ensures { λ r. ⌜ scopesOf r ≡ bitOr (scopesOf self) (scopesOf other) ⌝ }
     {
-        ScopeSet {
-            bits: self.bits | other.bits,
+        let mut r = self;
+        let mut i: usize = 0;
+        while i < ScopeSet::WORDS {
+            r.words[i] = self.words[i] | other.words[i];
+            i += 1;
         }
+        r
+    }
+
+    // The members of one of the two sets alone.
+    fn apart(self, other: ScopeSet) -> Self
+        ensures { λ r. ⌜ scopesOf r ≡ bitXor (scopesOf self) (scopesOf other) ⌝ }
+    {
+        let mut r = self;
+        let mut i: usize = 0;
+        while i < ScopeSet::WORDS {
+            r.words[i] = self.words[i] ^ other.words[i];
+            i += 1;
+        }
+        r
     }
 
     // Every member is one of the other set.
     pub fn within(self, other: ScopeSet) -> bool
         ensures { λ r. ⌜ r ≡ model.within (scopesOf self) (scopesOf other) ⌝ }
     {
-        self.bits & other.bits == self.bits
+        let mut i: usize = 0;
+        while i < ScopeSet::WORDS {
+            let w = self.words[i];
+            if w & other.words[i] != w {
+                return false;
+            }
+            i += 1;
+        }
+        true
     }
 
     pub fn has(self, k: Scope) -> bool
@@ -104,19 +140,34 @@ impl ScopeSet {
         ensures { λ r. ⌜ r ≡ model.has (k .0) (scopesOf self) ⌝ }
     {
         let place = k.0 - 1;
-        (self.bits >> place) % 2 == 1
+        let i = (place / 64) as usize;
+        (self.words[i] >> (place % 64)) % 2 == 1
     }
 
-    // How many members there are. What is left of the set is halved, so that the walk ends at the last member.
+    // How many members there are.
     pub fn count(self) -> u32
         ensures { λ r. ⌜ r ≡ length (model.members (scopesOf self)) ⌝ }
-        ensures { λ r. ⌜ r ≤ 64 ⌝ }
+        ensures { λ r. ⌜ r ≤ setScopes ⌝ }
     {
-        let mut rest = self.bits;
         let mut n: u32 = 0;
-        while rest != 0 {
-            n += (rest % 2) as u32;
-            rest /= 2;
+        let mut i: usize = 0;
+        while i < ScopeSet::WORDS {
+            n += ones(self.words[i]);
+            i += 1;
+        }
+        n
+    }
+
+    // How many members there are from scope 128 on: the last digit of word 1, and the words above.
+    pub fn count_long(self) -> u32
+        ensures { λ r. ⌜ (r ≡ length (longMembers (scopesOf self))) × (r ≤ mostLong) ⌝ }
+    {
+        let top = self.words[1] >> 63;
+        let mut n = ones(top);
+        let mut i: usize = 2;
+        while i < ScopeSet::WORDS {
+            n += ones(self.words[i]);
+            i += 1;
         }
         n
     }
@@ -124,22 +175,80 @@ impl ScopeSet {
     pub fn same(self, other: ScopeSet) -> bool
         ensures { λ r. ⌜ r ≡ eqb (scopesOf self) (scopesOf other) ⌝ }
     {
-        self.bits == other.bits
+        let mut i: usize = 0;
+        while i < ScopeSet::WORDS {
+            if self.words[i] != other.words[i] {
+                return false;
+            }
+            i += 1;
+        }
+        true
     }
 
-    // The order of an image: that of the ascending lists of members, a proper prefix first.
+    // A member has digit q of word i or a higher one.
+    fn reaches(self, i: usize, q: u32) -> bool
+        requires { ⌜ (i < setWords) × (q < 64) ⌝ }
+        ensures { λ r. ⌜ r ≡ not (eqb (scopesOf self / 2 ^ (i * 64 + q)) 0) ⌝ }
+    {
+        if self.words[i] >> q != 0 {
+            return true;
+        }
+        let mut k = i + 1;
+        while k < ScopeSet::WORDS {
+            if self.words[k] != 0 {
+                return true;
+            }
+            k += 1;
+        }
+        false
+    }
+
+    // The order of an image: that of the ascending lists of members, a proper prefix first. The lowest digit in which the sets differ decides.
     pub fn before(self, other: ScopeSet) -> bool
         ensures { λ r. ⌜ r ≡ model.setBefore (scopesOf self) (scopesOf other) ⌝ }
     {
-        let mut a = self.bits;
-        let mut b = other.bits;
-        while a != b && a % 2 == b % 2 {
-            a /= 2;
-            b /= 2;
+        let mut i: usize = 0;
+        while i < ScopeSet::WORDS {
+            let a = self.words[i];
+            let b = other.words[i];
+            if a != b {
+                let q = differing(a, b);
+                if (a >> q) % 2 == 1 {
+                    return other.reaches(i, q);
+                }
+                return !self.reaches(i, q);
+            }
+            i += 1;
         }
-        if a == b {
-            return false;
-        }
-        if a % 2 == 1 { b != 0 } else { a == 0 }
+        false
     }
+}
+
+// How many digits of a word are 1. What is left of it is halved, so that the walk ends at the last.
+fn ones(word: u64) -> u32
+    ensures { λ r. ⌜ (r ≡ length (wordMembers word)) × (r ≤ 64) ⌝ }
+{
+    let mut rest = word;
+    let mut n: u32 = 0;
+    while rest != 0 {
+        n += (rest % 2) as u32;
+        rest /= 2;
+    }
+    n
+}
+
+// The lowest digit in which two words differ.
+fn differing(a: u64, b: u64) -> u32
+    requires { ⌜ (a ≡ b → ⊥) ⌝ }
+    ensures { λ r. ⌜ Differing a b r ⌝ }
+{
+    let mut x = a;
+    let mut y = b;
+    let mut q: u32 = 0;
+    while x % 2 == y % 2 {
+        x /= 2;
+        y /= 2;
+        q += 1;
+    }
+    q
 }

@@ -49,7 +49,7 @@ no-sets {f = f} e = ap (λ (v : Scopes). record { value = record { at0 = v; at1 
 
 -- ---- members
 
-pub declared : {k : Scope} {p n : ℕ} → p < k .0 → k .0 ≤ n → n ≤ 64 → Declared k
+pub declared : {k : Scope} {p n : ℕ} → p < k .0 → k .0 ≤ n → n ≤ 256 → Declared k
 declared l h m = record { from-one = omega arith; most = omega arith }
 
 members-more : (left n p : ℕ) (m : Scopes) (s : List ℕ) → (left ≡ 0 → ⊥)

@@ -1,11 +1,13 @@
 -- A set written member by member, as the definition lists them.
-use Prim.Native.Nat.{ℕ, zero, suc, _+_, _-_, _*_, _/_, _%_, _≤_, _<_}
-use mathlib.Core.Path.{_≡_, refl, sym, ap, _∙_}
+use Prim.Native.Nat.{ℕ, zero, suc, _+_, _-_, _*_, _/_, _%_, _^_, _≤_, _<_}
+use mathlib.Core.Path.{_≡_, refl, sym, ap, ap₂, _∙_}
 use mathlib.Core.List.{List, [], _∷_, _++_}
 use mathlib.Core.Bool.{Bool, true, false}
+use native.Mathlib.Nat.{zero-add, add-zero, suc-add, div-one}
 use native.Mathlib.Omega.{arith}
 use native.Mathlib.Numerals.{add-one}
 use lib.ListN.{length, length-append}
+use lib.Pow.{shr-shr, field, mod-mod-pow}
 use lib.Seq.{sets, length-sets}
 use lib.Dec.{eqb, ltb}
 use borrow.Author.Tests.{ltb-true, ltb-false}
@@ -13,8 +15,8 @@ use Rattle.model.specs.Limits.{mostScopes}
 use Rattle.model.specs.Scopes.{Scopes, digit, has, keep, membersFrom, members}
 use Rattle.model.specs.Writing.{numBytes, numsBytes, listBytes, setBytes, setsBytes}
 use Rattle.scopes.specs.declared.Scope.{Scope}
-use Rattle.scopes.specs.Sets.{Declared}
-use Rattle.numbers.proofs.Writing.{sets-append, len-one}
+use Rattle.scopes.specs.Sets.{Declared, longMembers}
+use Rattle.numbers.proofs.Writing.{sets-append, len-one, len-two}
 
 -- ---- the members above k
 
@@ -33,23 +35,23 @@ digit-is zero m = refl
 digit-is (suc k) m = digit-is k (m / 2)
 
 unfoldable pub above : ℕ → Scopes → List ℕ
-above k m = membersFrom (64 - k) (suc k) (halved k m)
+above k m = membersFrom (256 - k) (suc k) (halved k m)
 
 above-all : (m : Scopes) → above 0 m ≡ members m
 unfolding above members halved mostScopes
 above-all m = refl
 
-above-none : (k : ℕ) (m : Scopes) → 64 ≤ k → above k m ≡ []
+above-none : (k : ℕ) (m : Scopes) → 256 ≤ k → above k m ≡ []
 unfolding above membersFrom
-above-none k m h = let e : 64 - k ≡ 0 = omega arith in rw e
+above-none k m h = let e : 256 - k ≡ 0 = omega arith in rw e
 
-above-next : (k : ℕ) (m : Scopes) → k < 64 → above k m ≡ keep (has (suc k) m) (suc k) (above (suc k) m)
+above-next : (k : ℕ) (m : Scopes) → k < 256 → above k m ≡ keep (has (suc k) m) (suc k) (above (suc k) m)
 unfolding above membersFrom has
 above-next k m h =
-    let e : 64 - k ≡ suc (64 - suc k) = omega arith in
+    let e : 256 - k ≡ suc (256 - suc k) = omega arith in
     rw (e, digit-is, halved-next)
 
-module _ (k : ℕ) (m : Scopes) (h : k < 64) {b : Bool} (e : b ≡ has (k + 1) m) where
+module _ (k : ℕ) (m : Scopes) (h : k < 256) {b : Bool} (e : b ≡ has (k + 1) m) where
   is : above k m ≡ keep b (k + 1) (above (k + 1) m)
   is = rw (e, add-one) (above-next k m h)
 
@@ -61,7 +63,7 @@ module _ (k : ℕ) (m : Scopes) (h : k < 64) {b : Bool} (e : b ≡ has (k + 1) m
   unfolding keep
   above-absent t = rw t at is
 
--- ---- the count and each member take one byte
+-- ---- a member takes one byte, from 128 on two
 
 short-from : (c n : ℕ) (m : Scopes) → n + c ≤ 128 → length (numsBytes (membersFrom c n m)) ≡ length (membersFrom c n m)
 unfolding membersFrom keep numsBytes
@@ -72,15 +74,62 @@ short-from (suc c) n m h = go (eqb (m % 2) 1) (membersFrom c (suc n) (m / 2)) (s
     go true l r = let a = length-append (numBytes n) (numsBytes l) in let o = len-one n (omega arith) in omega arith
     go false l r = r
 
-members-short : (m : Scopes) → length (numsBytes (members m)) ≡ length (members m)
+long-from : (c n : ℕ) (m : Scopes) → 128 ≤ n → n + c ≤ 16384 → length (numsBytes (membersFrom c n m)) ≡ 2 * length (membersFrom c n m)
+unfolding membersFrom keep numsBytes
+long-from zero n m g h = refl
+long-from (suc c) n m g h = go (eqb (m % 2) 1) (membersFrom c (suc n) (m / 2)) (long-from c (suc n) (m / 2) (omega arith) (omega arith))
+  where
+    go : (t : Bool) (l : List ℕ) → length (numsBytes l) ≡ 2 * length l → length (numsBytes (keep t n l)) ≡ 2 * length (keep t n l)
+    go true l r = let a = length-append (numBytes n) (numsBytes l) in let o = len-two n g (omega arith) in omega arith
+    go false l r = r
+
+-- the members among the d low digits, and those above
+members-split : (d c n x : ℕ) → membersFrom (d + c) n x ≡ membersFrom d n (x % 2 ^ d) ++ membersFrom c (n + d) (x / 2 ^ d)
+unfolding membersFrom keep
+members-split zero c n x = rw (zero-add c, add-zero n, div-one x)
+members-split (suc d) c n x =
+    let same : x % 2 ^ suc d % 2 ≡ x % 2 = ap (λ (e : ℕ). x % 2 ^ e % 2) plus ∙ mod-mod-pow x d 1 in
+    let half : x % 2 ^ suc d / 2 ≡ x / 2 % 2 ^ d = ap (λ (e : ℕ). x % 2 ^ e / 2) plus ∙ field x d 1 in
+    let rest : x / 2 / 2 ^ d ≡ x / 2 ^ suc d = shr-shr x 1 d ∙ ap (λ (e : ℕ). x / 2 ^ e) (let e : 1 + d ≡ suc d = omega arith in e) in
+    let from : suc n + d ≡ n + suc d = omega arith in
+    ap (λ (e : ℕ). membersFrom e n x) (suc-add d c)
+    ∙ ap (keep (eqb (x % 2) 1) n) (members-split d c (suc n) (x / 2))
+    ∙ kept (eqb (x % 2) 1) (membersFrom d (suc n) (x / 2 % 2 ^ d)) (membersFrom c (suc n + d) (x / 2 / 2 ^ d))
+    ∙ ap₂ (λ (p q : ℕ). keep (eqb p 1) n (membersFrom d (suc n) q) ++ membersFrom c (suc n + d) (x / 2 / 2 ^ d)) (sym same) (sym half)
+    ∙ ap₂ (λ (p q : ℕ). membersFrom (suc d) n (x % 2 ^ suc d) ++ membersFrom c p q) from rest
+  where
+    plus : suc d ≡ d + 1
+    plus = omega arith
+
+    kept : (t : Bool) (k l : List ℕ) → keep t n (k ++ l) ≡ keep t n k ++ l
+    kept true k l = refl
+    kept false k l = refl
+
+nums-append : (k l : List ℕ) → length (numsBytes (k ++ l)) ≡ length (numsBytes k) + length (numsBytes l)
+unfolding numsBytes
+nums-append [] l = sym (zero-add _)
+nums-append (x ∷ k) l =
+    let a = length-append (numBytes x) (numsBytes (k ++ l)) in
+    let b = length-append (numBytes x) (numsBytes k) in
+    let i = nums-append k l in
+    omega arith
+
+members-long : (m : Scopes) → length (numsBytes (members m)) ≡ length (members m) + length (longMembers m)
 unfolding members mostScopes
-members-short m = short-from 64 1 m (omega arith)
+members-long m =
+    let low = membersFrom 127 1 (m % 2 ^ 127) in
+    let split : members m ≡ low ++ longMembers m = members-split 127 129 1 m in
+    let n = ap (λ (l : List ℕ). length (numsBytes l)) split ∙ nums-append low (longMembers m) in
+    let k = ap length split ∙ length-append low (longMembers m) in
+    let a = short-from 127 1 (m % 2 ^ 127) (omega arith) in
+    let b = long-from 129 128 (m / 2 ^ 127) (omega arith) (omega arith) in
+    omega arith
 
 -- ---- the members written
 
 -- the members above k are still to be written, `left` of them
 pub record Putting (out₀ : List ℕ) (at : ℕ) (m : Scopes) (out : List ℕ) (here left k : ℕ) : Type 0 where
-  pub most : k ≤ 64
+  pub most : k ≤ 256
   pub same : length out ≡ length out₀
   pub some : left ≡ length (above k m)
   pub past : here + length (numsBytes (above k m)) ≡ at + length (numsBytes (members m))
@@ -114,17 +163,17 @@ module _ {out₀ : List ℕ} {at : ℕ} {m : Scopes} {out : List ℕ} {here left
     put-members-bytes = sym (ap (λ (l : List ℕ). sets out here (numsBytes l)) none) ∙ p .bytes
 
   module _ (h : 0 < left) where
-    put-members-next : k < 64
-    put-members-next = go (ltb k 64) refl
+    put-members-next : k < 256
+    put-members-next = go (ltb k 256) refl
       where
-        go : (t : Bool) → ltb k 64 ≡ t → k < 64
-        go true e = ltb-true k 64 e
-        go false e = let a = ap length (above-none k m (ltb-false k 64 e)) in omega (arith, p .some)
+        go : (t : Bool) → ltb k 256 ≡ t → k < 256
+        go true e = ltb-true k 256 e
+        go false e = let a = ap length (above-none k m (ltb-false k 256 e)) in omega (arith, p .some)
 
     pub member-declared : {j : Scope} → j .0 ≡ k + 1 → Declared j
     member-declared e = let n = put-members-next in record { from-one = omega arith; most = omega arith }
 
-    pub put-members-less : 64 - (k + 1) < 64 - k
+    pub put-members-less : 256 - (k + 1) < 256 - k
     put-members-less = let n = put-members-next in omega arith
 
     pub put-members-fits : k + 1 < 4294967296
@@ -163,6 +212,13 @@ module _ {out₀ : List ℕ} {at : ℕ} {m : Scopes} {out : List ℕ} {here left
 
 -- ---- the set written
 
+count-few : (c : ℕ) → c ≤ 256 → length (numBytes c) ≤ 2
+count-few c h = go (ltb c 128) refl
+  where
+    go : (t : Bool) → ltb c 128 ≡ t → length (numBytes c) ≤ 2
+    go true e = let o = len-one c (ltb-true c 128 e) in omega arith
+    go false e = let o = len-two c (ltb-false c 128 e) (omega arith) in omega arith
+
 module _ (m : Scopes) {c : ℕ} (e : c ≡ length (members m)) where
   split : setBytes m ≡ numBytes c ++ numsBytes (members m)
   unfolding setBytes listBytes
@@ -171,8 +227,11 @@ module _ (m : Scopes) {c : ℕ} (e : c ≡ length (members m)) where
   long : length (setBytes m) ≡ length (numBytes c) + length (numsBytes (members m))
   long = ap length split ∙ length-append (numBytes c) (numsBytes (members m))
 
-  pub set-len : c ≤ 64 → c + 1 ≡ length (setBytes m)
-  set-len h = let l = long in let s = members-short m in let o = len-one c (omega arith) in omega arith
+  pub set-len : {k d : ℕ} → k ≡ length (numBytes c) → (d ≡ length (longMembers m)) × (d ≤ 129) → k + c + d ≡ length (setBytes m)
+  set-len h (f, g) = let l = long in let s = members-long m in omega arith
+
+  pub set-few : {k d : ℕ} → k ≡ length (numBytes c) → c ≤ 256 → (d ≡ length (longMembers m)) × (d ≤ 129) → k + c + d ≤ 387
+  set-few h f (_, g) = let t = count-few c f in omega arith
 
   module _ (out : List ℕ) (at : ℕ) where
     pub count-room : at + length (setBytes m) ≤ length out → at + length (numBytes c) ≤ length out
@@ -228,4 +287,4 @@ module _ (a b d : Scopes) where
             let q : here′ ≡ at + length (setBytes a ++ setBytes b) = let l = length-append (setBytes a) (setBytes b) in omega arith in
             h ∙ rw (p, q) (sets-append (setBytes a ++ setBytes b) (setBytes d) out at ∙ ap (sets out at) (sym three))
 
-pub ruleset set-writing = (put-members-start, put-members-past, put-members-bytes, member-declared, put-members-less, put-members-fits, put-members-absent, member-room, put-members-there, set-len, count-room, members-room, put-set-past, put-set-bytes, sets-len, first-room, second-room, third-room, sets-past, sets-bytes)
+pub ruleset set-writing = (put-members-start, put-members-past, put-members-bytes, member-declared, put-members-less, put-members-fits, put-members-absent, member-room, put-members-there, set-len, set-few, count-room, members-room, put-set-past, put-set-bytes, sets-len, first-room, second-room, third-room, sets-past, sets-bytes)

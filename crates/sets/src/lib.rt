@@ -61,7 +61,7 @@ impl SetsRead {
 
 // `count` members, strictly ascending and at most `scopes`.
 fn read_members(c: Cursor, s: &[u8], scopes: u32, count: u32) -> SetRead
-    requires { ⌜ (c .at + length (now s) ≤ 65536) × (scopes ≤ 64) ⌝ }
+    requires { ⌜ (c .at + length (now s) ≤ 65536) × (scopes ≤ 256) ⌝ }
     ensures { λ r. ⌜ setSeen r ≡ seenAt 0 (c .at + length (now (s .entry))) (readMembers count scopes 0 0 (now (s .entry))) ⌝ }
 {
     let mut here = c;
@@ -93,7 +93,7 @@ fn read_members(c: Cursor, s: &[u8], scopes: u32, count: u32) -> SetRead
 
 // The set at a cursor, where `s` is the image from there on, and `scopes` scopes are declared.
 pub fn read_set(c: Cursor, s: &[u8], scopes: u32) -> SetRead
-    requires { ⌜ (c .at + length (now s) ≤ 65536) × (scopes ≤ 64) ⌝ }
+    requires { ⌜ (c .at + length (now s) ≤ 65536) × (scopes ≤ 256) ⌝ }
     ensures { λ r. ⌜ setSeen r ≡ seenAt 0 (c .at + length (now (s .entry))) (readSet scopes (now (s .entry))) ⌝ }
 {
     match c.number(s) {
@@ -104,7 +104,7 @@ pub fn read_set(c: Cursor, s: &[u8], scopes: u32) -> SetRead
 
 // The sets of phases 1 and 2, behind that of phase 0.
 fn read_later_sets(c: Cursor, s: &[u8], scopes: u32, at0: ScopeSet) -> SetsRead
-    requires { ⌜ (c .at + length (now s) ≤ 65536) × (scopes ≤ 64) ⌝ }
+    requires { ⌜ (c .at + length (now s) ≤ 65536) × (scopes ≤ 256) ⌝ }
     ensures { λ r. ⌜ setsSeen r ≡ seenAt noSets (c .at + length (now (s .entry))) (readLaterSets scopes (scopesOf at0) (now (s .entry))) ⌝ }
 {
     let second = read_set(c, s, scopes);
@@ -129,7 +129,7 @@ fn read_later_sets(c: Cursor, s: &[u8], scopes: u32, at0: ScopeSet) -> SetsRead
 
 // The sets of phases 0, 1 and 2, one after another.
 fn read_each_set(c: Cursor, s: &[u8], scopes: u32) -> SetsRead
-    requires { ⌜ (c .at + length (now s) ≤ 65536) × (scopes ≤ 64) ⌝ }
+    requires { ⌜ (c .at + length (now s) ≤ 65536) × (scopes ≤ 256) ⌝ }
     ensures { λ r. ⌜ setsSeen r ≡ seenAt noSets (c .at + length (now (s .entry))) (readSets scopes (now (s .entry))) ⌝ }
 {
     let first = read_set(c, s, scopes);
@@ -161,7 +161,7 @@ fn starts_empty(s: &[u8]) -> bool
 
 // The sets of phases 0, 1 and 2. Those of a program before it is expanded are mostly empty, which is seen at once.
 pub fn read_sets(c: Cursor, s: &[u8], scopes: u32) -> SetsRead
-    requires { ⌜ (c .at + length (now s) ≤ 65536) × (scopes ≤ 64) ⌝ }
+    requires { ⌜ (c .at + length (now s) ≤ 65536) × (scopes ≤ 256) ⌝ }
     ensures { λ r. ⌜ setsSeen r ≡ seenAt noSets (c .at + length (now (s .entry))) (readSets scopes (now (s .entry))) ⌝ }
 {
     if starts_empty(s) {
@@ -178,7 +178,7 @@ pub fn read_sets(c: Cursor, s: &[u8], scopes: u32) -> SetsRead
 
 // The place past three sets, for one who judges them and keeps nothing.
 pub fn skip_sets(c: Cursor, s: &[u8], scopes: u32) -> Place
-    requires { ⌜ (c .at + length (now s) ≤ 65536) × (scopes ≤ 64) ⌝ }
+    requires { ⌜ (c .at + length (now s) ≤ 65536) × (scopes ≤ 256) ⌝ }
     ensures { λ r. ⌜ r ≡ placeAt (c .at + length (now (s .entry))) (readSets scopes (now (s .entry))) ⌝ }
 {
     if starts_empty(s) {
@@ -188,11 +188,13 @@ pub fn skip_sets(c: Cursor, s: &[u8], scopes: u32) -> Place
     three.end
 }
 
-// How many bytes a set takes: one for the count, and one for each member, since both are below 128.
+// How many bytes a set takes: those of the count, and one for each member, or two from scope 128 on.
 pub fn set_len(set: ScopeSet) -> usize
-    ensures { λ r. ⌜ (r ≡ length (setBytes (scopesOf set))) × (r ≤ 65) ⌝ }
+    ensures { λ r. ⌜ (r ≡ length (setBytes (scopesOf set))) × (r ≤ 387) ⌝ }
 {
-    set.count() as usize + 1
+    let count = set.count();
+    let long = set.count_long();
+    numbers::number_len(count) + count as usize + long as usize
 }
 
 // The members, of which there are `count`; the place past them.
@@ -228,7 +230,7 @@ pub fn put_set(out: &mut [u8], at: usize, set: ScopeSet) -> usize
 // How many bytes three sets take.
 pub fn sets_len(at0: ScopeSet, at1: ScopeSet, at2: ScopeSet) -> usize
     ensures { λ r. ⌜ r ≡ length (setsBytes (threeSets at0 at1 at2)) ⌝ }
-    ensures { λ r. ⌜ r ≤ 195 ⌝ }
+    ensures { λ r. ⌜ r ≤ 1161 ⌝ }
 {
     set_len(at0) + set_len(at1) + set_len(at2)
 }

@@ -1,8 +1,8 @@
--- The scope alone, joined with the set.
-use mathlib.Core.Path.{ap}
-use Prim.Native.Nat.{ℕ}
-use lib.Bits.{bitOr}
+use Rattle.scopes.specs.Sets.{scopesOf}
 use Rattle.model.specs.Scopes.{add}
+use lib.Bits.{bitOr}
+use Prim.Native.Nat.{ℕ}
+use mathlib.Core.Path.{ap, _∙_}
 use borrow.Author.Needs.{needs}
 use Rattle.scopes.proofs.ScopeSet.add.Statement.{statement}
 use Rattle.scopes.proofs.ScopeSet.add.Tie as tie
@@ -10,9 +10,12 @@ use Rattle.scopes.proofs.ScopeSet.add.Tie as tie
 only-requires : tie.Need-only-requires
 only-requires c κs = search needs
 
+union-requires : tie.Need-union-requires
+union-requires c κs = search needs
+
 returns : tie.Need-returns
 unfolding add
-returns c = ap (λ (one : ℕ). bitOr one (c .before .before .before .args .self .bits)) (c .before .before .only .ensures)
+returns c = c .union .ensures ∙ ap (λ (one : ℕ). bitOr one (scopesOf (c .before .before .args .self))) (c .before .only .ensures)
 
 pub add-spec : {M : Type 1} → statement M
-add-spec = tie.close (tie.spec only-requires returns)
+add-spec = tie.close (tie.spec only-requires union-requires returns)
