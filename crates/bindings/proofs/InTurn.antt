@@ -5,7 +5,7 @@ use mathlib.Core.List.{List, [], _∷_}
 use Prim.Native.Nat.{ℕ, zero, suc, _+_, _-_, _*_, _≤_, _<_}
 use native.Mathlib.Omega.{arith}
 use lib.Dec.{leb}
-use lib.ListN.{length, drop, getD, length-drop, length-set}
+use lib.ListN.{length, drop, getD, length-drop}
 use lib.Seq.{drop-drop}
 use borrow.Author.Tests.{leb-true}
 use Rattle.model.specs.Limits.{mostBindings}
@@ -27,10 +27,11 @@ use Rattle.numbers.specs.Answers.{numberAt, placeAt, Seen, seen, unseen, seenAt
 use Rattle.numbers.proofs.Tails.{Tail, tail-give, tail-next, tail-need, below-tail, up-to-tail}
 use Rattle.numbers.proofs.Answering.{Took, took, number-shape, seen-shape, goes, stops, whole, seen-gives, seen-stops, seen-refused}
 use Rattle.sets.proofs.Reading.{set-tail}
-use Rattle.store.specs.Words.{bindAt, bindsFrom, bindsOf, written}
-use Rattle.store.proofs.Runs.{run-step, same-bind, written-other}
+use Rattle.store.specs.Words.{bindAt, bindsFrom, bindsOf, Put}
+use Rattle.store.proofs.Runs.{run-step, same-bind}
 use Rattle.bindings.specs.Sections.{readTarget, readOne, readMore, readSome, readAll, noBind, MoreRead, SomeRead}
 use Rattle.head.specs.declared.Counts.{Counts}
+use Rattle.store.specs.Sizes.{bindingSize}
 
 -- ---- what is left is a tail
 
@@ -190,7 +191,7 @@ module _ {c : Counts} {s : List ℕ} {at : ℕ} {p : Bind} {i n : ℕ} {was : Li
         pub more-disorder : t ≡ false → MoreRead c s (at + length s) p i n was now (place.Fault Layout)
         more-disorder f = refusing (step-here ∙ rw (there .is, sym d ∙ f))
 
-        module _ (f : t ≡ true) {now1 : List ℕ} (g : (now1 ≡ written now k b) × (bindAt now1 k ≡ b)) where
+        module _ (f : t ≡ true) {now1 : List ℕ} (g : Put b now now1 k) where
           behind : drop (past .at - here) u ≡ drop (past .at - at) s
           behind =
               let T = there in
@@ -203,7 +204,7 @@ module _ {c : Counts} {s : List ℕ} {at : ℕ} {p : Bind} {i n : ℕ} {was : Li
           goes-on : {l : List ℕ} {r : Place} → MoreRead c (drop (past .at - at) s) (at + length s) b (k + 1) n now1 l r
               → MoreRead c (drop (here - at) s) (at + length s) q k n now l r
           goes-on {l} {r} w = record {
-            kept = λ y x. w .kept y (omega arith) ∙ ap (λ (z : List ℕ). getD z y 0) (g .0) ∙ below y x;
+            kept = λ y x. w .kept y (omega arith) ∙ g .before y x;
             place =
                 w .place ∙ sym (place-onto (at + length s) b (readMore c (n - (k + 1)) b (drop (past .at - at) s)))
                 ∙ ap (placeAt (at + length s)) (sym on);
@@ -212,11 +213,8 @@ module _ {c : Counts} {s : List ℕ} {at : ℕ} {p : Bind} {i n : ℕ} {was : Li
                 run-step l n k some ∙ ap₂ (λ (z : Bind) (v : List Bind). z ∷ v) first (w .held (y .others) (y .rest) (y .read)) ∙ sym (y .is);
           }
             where
-              below : (y : ℕ) → y < k * 3 → getD (written now k b) y 0 ≡ getD now y 0
-              below y x = written-other now k b y (λ z. omega arith) (λ z. omega arith) (λ z. omega arith)
-
               first : bindAt l k ≡ b
-              first = same-bind l now1 k k (λ y x. w .kept (k * 3 + y) (omega arith)) ∙ g .1
+              first = same-bind l now1 k k (λ y x. w .kept (k * bindingSize + y) (omega arith)) ∙ g .there
 
           pub more-goes : Midway c s at p i n was (past .at) (k + 1) b now1
           more-goes =
@@ -226,7 +224,7 @@ module _ {c : Counts} {s : List ℕ} {at : ℕ} {p : Bind} {i n : ℕ} {was : Li
                 moved = omega arith;
                 within = omega arith;
                 inside = omega arith;
-                long = ap length (g .0) ∙ simp length-set (m .long);
+                long = g .long ∙ m .long;
                 rest = λ l r w. m .rest l r (goes-on w);
               }
 
@@ -271,7 +269,7 @@ module _ (c : Counts) (s : List ℕ) (at n : ℕ) (l : List ℕ) (some : n ≡ 0
     on-first : readSome c n s ≡ onto b (readMore c (n - 1) b u)
     on-first = some-here ∙ rw (there-first .is, ← j)
 
-    pub some-goes : {l1 l2 : List ℕ} {r : Place} → (l1 ≡ written l 0 b) × (bindAt l1 0 ≡ b) → MoreRead c u (past .at + length u) b 1 n l1 l2 r
+    pub some-goes : {l1 l2 : List ℕ} {r : Place} → Put b l l1 0 → MoreRead c u (past .at + length u) b 1 n l1 l2 r
         → SomeRead c s (at + length s) n l2 r
     unfolding bindsOf
     some-goes {l1} {l2} {r} g w = record {
@@ -287,7 +285,7 @@ module _ (c : Counts) (s : List ℕ) (at n : ℕ) (l : List ℕ) (some : n ≡ 0
       where
         first : bindAt l2 0 ≡ b
         first =
-            same-bind l2 l1 0 0 (λ k x. w .kept (0 * 3 + k) (omega arith)) ∙ g .1
+            same-bind l2 l1 0 0 (λ k x. w .kept (0 * bindingSize + k) (omega arith)) ∙ g .there
 
 -- ---- the count, and so many
 
@@ -320,18 +318,18 @@ withheld : (end : ℕ) (g : Read (List Bind)) (f : Refusal) → place.Fault f �
 withheld end (got r v) f e = let z : _≡_ {A = ℕ} 0 1 = cc in absurd (omega arith)
 withheld end (fault c) f e = let z : f ≡ caseOf c = cc in ap (unseen []) z
 
-module _ (c : Counts) (s : List ℕ) (at : ℕ) {r : Number} (h : r ≡ numberAt (at + length s) (numUpTo overLimit 128 s)) where
+module _ (c : Counts) (s : List ℕ) (at : ℕ) {r : Number} (h : r ≡ numberAt (at + length s) (numUpTo overLimit 512 s)) where
   pub all-stops : (l : List ℕ) {f : Refusal} → r ≡ number.Fault f
       → record { value = bindsOf l 0; end = place.Fault f } ≡ seenAt [] (at + length s) (readAll c s)
   unfolding readAll mostBindings bindsOf bindsFrom
-  all-stops l e = stops number-shape seen (unseen []) (at + length s) (numUpTo overLimit 128 s) _ h e
+  all-stops l e = stops number-shape seen (unseen []) (at + length s) (numUpTo overLimit 512 s) _ h e
 
   module _ {n : ℕ} {past : Cursor} (e : r ≡ number.Read n past) where
-    counted : Took at s (numUpTo overLimit 128 s) n (past .at)
-    counted = took number-shape h e (up-to-tail overLimit 128 s)
+    counted : Took at s (numUpTo overLimit 512 s) n (past .at)
+    counted = took number-shape h e (up-to-tail overLimit 512 s)
 
-    pub all-few : n ≤ 128
-    all-few = up-to-small overLimit 128 s n (drop (past .at - at) s) (counted .is)
+    pub all-few : n ≤ 512
+    all-few = up-to-small overLimit 512 s n (drop (past .at - at) s) (counted .is)
 
     module _ {u : List ℕ} (j : u ≡ drop (past .at - at) s) {l : List ℕ} {q : Place} (w : SomeRead c u (past .at + length u) n l q) where
       from-count : readAll c s ≡ readSome c n u

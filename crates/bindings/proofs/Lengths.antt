@@ -22,7 +22,7 @@ module _ (x t : ℕ) (s : Scopes) where
   unfolding bindBytes
   in-turn = refl
 
-  bind-length : length (bindBytes it) ≡ length (numBytes x) + length (numBytes t) + length (setBytes s)
+  pub bind-length : length (bindBytes it) ≡ length (numBytes x) + length (numBytes t) + length (setBytes s)
   bind-length =
       let a : length (bindBytes it) ≡ length (numBytes x ++ numBytes t) + length (setBytes s) = ap length in-turn ∙ length-append (numBytes x ++ numBytes t) (setBytes s) in
       omega (arith, length-append (numBytes x) (numBytes t))
@@ -30,10 +30,10 @@ module _ (x t : ℕ) (s : Scopes) where
   pub len-is : {a b c : ℕ} → a ≡ length (numBytes x) → b ≡ length (numBytes t) → c ≡ length (setBytes s) → a + b + c ≡ length (bindBytes it)
   len-is p q r = omega (arith, bind-length)
 
-  pub len-small : {a b c : ℕ} → a ≡ length (numBytes x) → b ≡ length (numBytes t) → c ≤ 65 → a + b + c ≤ 75
+  pub len-small : {a b c : ℕ} → a ≡ length (numBytes x) → b ≡ length (numBytes t) → c ≤ 387 → a + b + c ≤ 397
   len-small p q r = omega (arith, num-short x, num-short t)
 
-  pub len-fits : {a b c : ℕ} → a ≡ length (numBytes x) → b ≡ length (numBytes t) → c ≤ 65 → a + b + c < 18446744073709551616
+  pub len-fits : {a b c : ℕ} → a ≡ length (numBytes x) → b ≡ length (numBytes t) → c ≤ 387 → a + b + c < 18446744073709551616
   len-fits p q r = omega (arith, num-short x, num-short t)
 
   pub len-fits-two : {a b : ℕ} → a ≡ length (numBytes x) → b ≡ length (numBytes t) → a + b < 18446744073709551616
@@ -86,27 +86,27 @@ all-bytes l n = ap (λ (k : ℕ). bindsBytes (bindsFrom l 0 k)) (let e : n - 0 �
 
 pub record Counted (l : List ℕ) (n i total : ℕ) : Type 0 where
   pub inside : i ≤ n
-  pub small : total ≤ 75 * i
+  pub small : total ≤ 397 * i
   pub is : total + length (bindsBytes (bindsFrom l i (n - i))) ≡ length (bindsBytes (bindsOf l n))
 
 pub count-start : (l : List ℕ) (n : ℕ) → Counted l n 0 0
 count-start l n = record { inside = omega arith; small = omega arith; is = omega (arith, ap length (all-bytes l n)) }
 
 module _ {l : List ℕ} {n i total : ℕ} (w : Counted l n i total) where
-  pub count-more : {b : Bind} {k : ℕ} → i < n → b ≡ bindAt l i → k ≡ length (bindBytes b) → k ≤ 75 → Counted l n (i + 1) (total + k)
+  pub count-more : {b : Bind} {k : ℕ} → i < n → b ≡ bindAt l i → k ≡ length (bindBytes b) → k ≤ 397 → Counted l n (i + 1) (total + k)
   count-more h e p q = record {
     inside = omega arith;
     small = omega (arith, w .small);
     is = omega (arith, w .is, next-length l n i h, p, ap (λ (x : Bind). length (bindBytes x)) e);
   }
 
-  pub count-fits : {k : ℕ} → i < n → n ≤ 128 → k ≤ 75 → total + k < 18446744073709551616
+  pub count-fits : {k : ℕ} → i < n → n ≤ 512 → k ≤ 397 → total + k < 18446744073709551616
   count-fits h m q = omega (arith, w .small)
 
   pub count-is : n ≤ i → total ≡ length (bindsBytes (bindsOf l n))
   count-is h = omega (arith, w .is, ap length (no-bytes l n i h))
 
-  pub count-small : n ≤ 128 → total ≤ 9600
+  pub count-small : n ≤ 512 → total ≤ 203264
   count-small m = omega (arith, w .small, w .inside)
 
 -- ---- writing: what is written and what is left make all

@@ -13,6 +13,7 @@ use Rattle.store.specs.Words.{bindOf, bindsFrom, bindsOf}
 use Rattle.head.specs.declared.Counts.{Counts}
 use Rattle.bindings.specs.declared.loading.BindingRead.{BindingRead}
 use Rattle.bindings.specs.declared.loading.BindingsRead.{BindingsRead}
+use Rattle.store.specs.Sizes.{bindingSize}
 
 unfoldable pub readTarget : Counts → ℕ → Reader Bind
 unfolding numBelow readSet
@@ -64,7 +65,7 @@ bindsSeen l r = record { value = bindsOf l (r .count); end = r .end }
 
 -- the bindings from place i to place n have been read behind p
 pub record MoreRead (c : Counts) (s : List ℕ) (end : ℕ) (p : Bind) (i n : ℕ) (was now : List ℕ) (r : Place) : Type 0 where
-  pub kept : (k : ℕ) → k < i * 3 → getD now k 0 ≡ getD was k 0
+  pub kept : (k : ℕ) → k < i * bindingSize → getD now k 0 ≡ getD was k 0
   pub place : r ≡ placeAt end (readMore c (n - i) p s)
   pub held : (b : List Bind) (rest : List ℕ) → readMore c (n - i) p s ≡ got b rest → bindsFrom now i (n - i) ≡ b
 

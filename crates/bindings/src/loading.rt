@@ -17,6 +17,7 @@ ghost use lib.ListN.{length};
 ghost use Rattle.numbers.specs.Answers.{seenAt, unseen};
 ghost use Rattle.store.specs.Words.{bindOf};
 ghost use Rattle.bindings.specs.Sections.{readOne, readTarget, readAll, noBind, bindSeen, bindsSeen, MoreRead, SomeRead};
+ghost use Rattle.store.specs.Sizes.{bindingSize, storeSize};
 
 // A binding beside the place past it, or beside the fault.
 pub struct BindingRead {
@@ -47,7 +48,7 @@ impl BindingRead {
 
 // The target and the set of a binding, behind its symbol x.
 fn read_target(c: Cursor, s: &[u8], counts: Counts, x: u32) -> BindingRead
-    requires { ⌜ (c .at + length (now s) ≤ 65536) × (counts .scopes ≤ 64) ⌝ }
+    requires { ⌜ (c .at + length (now s) ≤ 65536) × (counts .scopes ≤ 256) ⌝ }
     ensures { λ r. ⌜ bindSeen r ≡ seenAt noBind (c .at + length (now (s .entry))) (readTarget counts x (now (s .entry))) ⌝ }
 {
     match c.number_below(s, counts.names) {
@@ -74,7 +75,7 @@ fn read_target(c: Cursor, s: &[u8], counts: Counts, x: u32) -> BindingRead
 
 // A binding: symbol, target, set.
 fn read_binding(c: Cursor, s: &[u8], counts: Counts) -> BindingRead
-    requires { ⌜ (c .at + length (now s) ≤ 65536) × (counts .scopes ≤ 64) ⌝ }
+    requires { ⌜ (c .at + length (now s) ≤ 65536) × (counts .scopes ≤ 256) ⌝ }
     ensures { λ r. ⌜ bindSeen r ≡ seenAt noBind (c .at + length (now (s .entry))) (readOne counts (now (s .entry))) ⌝ }
 {
     match c.number_below(s, counts.symbols) {
@@ -93,8 +94,8 @@ fn read_more(
     count: usize,
     last: Binding,
 ) -> Place
-    requires image { ⌜ (c .at + length (now s) ≤ 65536) × (counts .scopes ≤ 64) ⌝ }
-    requires held { ⌜ (i ≤ count) × (count * 3 ≤ length (now store)) ⌝ }
+    requires image { ⌜ (c .at + length (now s) ≤ 65536) × (counts .scopes ≤ 256) ⌝ }
+    requires held { ⌜ (i ≤ count) × (count * bindingSize ≤ length (now store)) ⌝ }
     ensures { λ r. ⌜ MoreRead counts (now (s .entry)) (c .at + length (now (s .entry))) (bindOf last) i count (now (store .entry)) (now (store .exit)) r ⌝ }
 {
     let mut here = c;
@@ -123,8 +124,8 @@ fn read_more(
 
 // So many bindings, into the store from its start.
 fn read_some(c: Cursor, s: &[u8], counts: Counts, store: &mut [u64], count: usize) -> Place
-    requires image { ⌜ (c .at + length (now s) ≤ 65536) × (counts .scopes ≤ 64) ⌝ }
-    requires held { ⌜ count * 3 ≤ length (now store) ⌝ }
+    requires image { ⌜ (c .at + length (now s) ≤ 65536) × (counts .scopes ≤ 256) ⌝ }
+    requires held { ⌜ count * bindingSize ≤ length (now store) ⌝ }
     ensures { λ r. ⌜ SomeRead counts (now (s .entry)) (c .at + length (now (s .entry))) count (now (store .exit)) r ⌝ }
 {
     if count == 0 {
@@ -144,10 +145,10 @@ fn read_some(c: Cursor, s: &[u8], counts: Counts, store: &mut [u64], count: usiz
 
 // The bindings of an image, at a cursor, where `s` is the image from there on.
 pub fn read_bindings(c: Cursor, s: &[u8], counts: Counts, store: &mut [u64]) -> BindingsRead
-    requires image { ⌜ (c .at + length (now s) ≤ 65536) × (counts .scopes ≤ 64) ⌝ }
-    requires held { ⌜ 384 ≤ length (now store) ⌝ }
+    requires image { ⌜ (c .at + length (now s) ≤ 65536) × (counts .scopes ≤ 256) ⌝ }
+    requires held { ⌜ storeSize ≤ length (now store) ⌝ }
     ensures { λ r. ⌜ bindsSeen (now (store .exit)) r ≡ seenAt [] (c .at + length (now (s .entry))) (readAll counts (now (s .entry))) ⌝ }
-    ensures { λ r. ⌜ r .count ≤ 128 ⌝ }
+    ensures { λ r. ⌜ r .count ≤ 512 ⌝ }
 {
     match c.number_up_to(s, Refusal::OverLimit, Resolving::MOST as u32) {
         Number::Read(n, past) => {

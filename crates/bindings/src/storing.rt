@@ -1,4 +1,4 @@
-// Bindings written, in the order in which they stand. All of them together take at most 9,600 bytes, so their length is exact.
+// Bindings written, in the order in which they stand. All of them together take at most 203,264 bytes, so their length is exact.
 use scopes::Name;
 use scopes::ScopeSet;
 use scopes::Symbol;
@@ -10,10 +10,11 @@ ghost use lib.ListN.{length};
 ghost use lib.Seq.{sets};
 ghost use Rattle.model.specs.Writing.{bindBytes, bindsBytes};
 ghost use Rattle.store.specs.Words.{bindOf, bindsOf};
+ghost use Rattle.store.specs.Sizes.{bindingSize};
 
 // How many bytes a binding takes.
 fn binding_len(b: Binding) -> usize
-    ensures { λ r. ⌜ (r ≡ length (bindBytes (bindOf b))) × (r ≤ 75) ⌝ }
+    ensures { λ r. ⌜ (r ≡ length (bindBytes (bindOf b))) × (r ≤ 397) ⌝ }
 {
     let symbol = b.symbol;
     let target = b.target;
@@ -37,8 +38,8 @@ fn put_binding(out: &mut [u8], at: usize, b: Binding) -> usize
 
 // How many bytes the first count bindings take.
 pub fn bindings_len(store: &[u64], count: usize) -> usize
-    requires { ⌜ (count * 3 ≤ length (now store)) × (count ≤ 128) ⌝ }
-    ensures { λ r. ⌜ (r ≡ length (bindsBytes (bindsOf (now (store .entry)) count))) × (r ≤ 9600) ⌝ }
+    requires { ⌜ (count * bindingSize ≤ length (now store)) × (count ≤ 512) ⌝ }
+    ensures { λ r. ⌜ (r ≡ length (bindsBytes (bindsOf (now (store .entry)) count))) × (r ≤ 203264) ⌝ }
 {
     let mut n: usize = 0;
     let mut i: usize = 0;
@@ -52,7 +53,7 @@ pub fn bindings_len(store: &[u64], count: usize) -> usize
 // Writes the first count bindings at a place, and gives the place past them.
 pub fn put_bindings(out: &mut [u8], at: usize, store: &[u64], count: usize) -> usize
     requires room { ⌜ at + length (bindsBytes (bindsOf (now store) count)) ≤ length (now out) ⌝ }
-    requires held { ⌜ count * 3 ≤ length (now store) ⌝ }
+    requires held { ⌜ count * bindingSize ≤ length (now store) ⌝ }
     ensures past { λ r. ⌜ r ≡ at + length (bindsBytes (bindsOf (now (store .entry)) count)) ⌝ }
     ensures bytes { λ _. ⌜ now (out .exit) ≡ sets (now (out .entry)) at (bindsBytes (bindsOf (now (store .entry)) count)) ⌝ }
 {

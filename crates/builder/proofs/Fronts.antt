@@ -24,8 +24,6 @@ use Rattle.numbers.specs.declared.Place.the-variants as place
 use Rattle.numbers.proofs.Answering.{Took, took, refused, number-shape, seen-shape}
 use Rattle.numbers.proofs.Tails.{num-tail}
 use Rattle.numbers.proofs.Reading.{part-from}
-use Rattle.sets.specs.Seeing.{setsSeen}
-use Rattle.sets.specs.declared.SetsRead.{SetsRead}
 use Rattle.sets.proofs.Reading.{sets-tail}
 use Rattle.table.specs.declared.Sets.{Sets}
 use Rattle.things.specs.Rep.{setsOf}
@@ -126,20 +124,20 @@ module _ {image : List ℕ} {at scopes : ℕ} (h : FrontHere image at scopes) wh
     pub here-short : here + length (take (length image - here) (drop here image)) ≤ 65536
     here-short = let w : Within image here = record { inside = here-inside; short = h .place .short } in place-short w
 
-    pub few-scopes : scopes ≤ 64
+    pub few-scopes : scopes ≤ 256
     few-scopes = h .few
 
-    module _ {three : SetsRead} (a : setsSeen three ≡ seenAt noSets (here + length (take (length image - here) (drop here image))) (readSets scopes (take (length image - here) (drop here image)))) where
-      seen-there : setsSeen three ≡ seenAt noSets (here + length (drop here image)) (readSets scopes (drop here image))
+    module _ {o : Seen m.Sets} (a : o ≡ seenAt noSets (here + length (take (length image - here) (drop here image))) (readSets scopes (take (length image - here) (drop here image)))) where
+      seen-there : o ≡ seenAt noSets (here + length (drop here image)) (readSets scopes (drop here image))
       seen-there = rw part-from at a
 
       sets-here : readSets scopes (drop here image) ≡ got (h .sets) (h .is .behind-sets)
       sets-here = ap (readSets scopes) (sym (behind .is)) ∙ h .is .sets-read
 
-      module _ {past : Cursor} (e : three .end ≡ place.At past) where
-        sets-taken : Taken image here (past .at) (readSets scopes (drop here image)) (setsSeen three .value)
+      module _ {past : Cursor} (e : o .end ≡ place.At past) where
+        sets-taken : Taken image here (past .at) (readSets scopes (drop here image)) (o .value)
         sets-taken =
-            let x : setsSeen three ≡ seen (setsSeen three .value) past = ap (λ p. record { value = setsSeen three .value; end = p }) e in
+            let x : o ≡ seen (o .value) past = ap (λ p. record { value = o .value; end = p }) e in
             taken here-inside (took (seen-shape noSets) seen-there x (sets-tail scopes (drop here image)))
 
         pub number-here : NumberHere image (past .at)
@@ -148,7 +146,7 @@ module _ {image : List ℕ} {at scopes : ℕ} (h : FrontHere image at scopes) wh
             let z : num (drop (past .at) image) ≡ got (h .n) (h .rest) = ap num (sym (q .1)) ∙ h .is .number-read in
             record { place = record { inside = sets-taken .inside; short = h .place .short }; n = h .n; rest = h .rest; is = z }
 
-        pub front-read : {c : Sets} {n after : ℕ} → setsOf c ≡ setsSeen three .value → NumberRead image (past .at) n after → FrontRead image at scopes tag c n after
+        pub front-read : {c : Sets} {n after : ℕ} → setsOf c ≡ o .value → NumberRead image (past .at) n after → FrontRead image at scopes tag c n after
         front-read {c} {n} {after} i w =
             record {
               means = λ tag₀ sets₀ n₀ rest f.
@@ -165,7 +163,7 @@ module _ {image : List ℕ} {at scopes : ℕ} (h : FrontHere image at scopes) wh
                   };
             }
 
-      pub sets-sure : {f : Refusal} {x y z : ℕ} {c : Sets} → three .end ≡ place.Fault f → FrontRead image at scopes x c y z
+      pub sets-sure : {f : Refusal} {x y z : ℕ} {c : Sets} → o .end ≡ place.Fault f → FrontRead image at scopes x c y z
       sets-sure {f} e =
           let end = here + length (drop here image) in
           let p : place.Fault f ≡ place.At (record { at = end - length (h .is .behind-sets) }) =

@@ -20,8 +20,9 @@ use Rattle.builder.specs.Building.{Judged, JudgedAll, Builds, BuildsAll}
 use Rattle.builder.proofs.Inverting.{ObjectBody, an-atom, a-list, ObjectAt, object-at}
 use Rattle.builder.proofs.Sizes.{load-atom, load-list, load-some}
 use Rattle.builder.proofs.Standing.{atom-stands, list-stands}
+use Rattle.table.specs.Sizes.{nodeSize}
 
-pub node-roomy : {R : List ℕ → Tree → List ℕ → Type 0} {l : List ℕ} {top : ℕ} {image : List ℕ} {at scopes : ℕ} → Judged R l top image at scopes → Roomy l top 8
+pub node-roomy : {R : List ℕ → Tree → List ℕ → Type 0} {l : List ℕ} {top : ℕ} {image : List ℕ} {at scopes : ℕ} → Judged R l top image at scopes → Roomy l top nodeSize
 node-roomy s = record { fits = omega (arith, s .room .fits, load-some (s .thing)); small = s .room .small; low = s .room .low }
 
 module _ {scopes : ℕ} {l : List ℕ} {top : ℕ} {image : List ℕ} {at : ℕ} (s : Judged (ObjectRead scopes) l top image at scopes) where
@@ -98,7 +99,7 @@ module _ {scopes : ℕ} {image : List ℕ} {at tag n past : ℕ} {c : Sets} (f :
       pub parts-later : {t : ℕ} → tag ≡ listTag → (length image - at) * 3 ≡ t → (length image - past) * 3 + 1 < t
       parts-later h z = let p = list-at (s .read) h in omega (arith, p .further, p .within)
 
-      pub list-roomy : {l1 : List ℕ} {r : Built} → tag ≡ listTag → BuildsAll (ObjectsRead scopes) n l l1 top image past r → length l1 ≡ length l → Roomy l1 (r .top) 8
+      pub list-roomy : {l1 : List ℕ} {r : Built} → tag ≡ listTag → BuildsAll (ObjectsRead scopes) n l l1 top image past r → length l1 ≡ length l → Roomy l1 (r .top) nodeSize
       list-roomy h b q =
           let p = list-at (s .read) h in
           let w = b .means (fromStxs (p .parts)) (s .rest) (p .read) in
@@ -108,7 +109,7 @@ module _ {scopes : ℕ} {image : List ℕ} {at tag n past : ℕ} {c : Sets} (f :
             low = omega (arith, s .room .low, b .rises);
           }
 
-      pub atom-roomy : ¬ (tag ≡ listTag) → Roomy l top 8
+      pub atom-roomy : ¬ (tag ≡ listTag) → Roomy l top nodeSize
       atom-roomy h =
           let p = atom-at (s .read) h in
           record { fits = omega (arith, s .room .fits, ap loadSize (p .is), load-atom (p .sets) (p .value)); small = s .room .small; low = s .room .low }

@@ -12,34 +12,35 @@ use Rattle.table.specs.declared.Sets.{Sets}
 use Rattle.things.specs.Making.{Stored, StoredObject}
 use Rattle.things.specs.Rep.{Rep, RepP, is-var, is-app, is-lst, is-datum, is-atom, is-list, setsOf}
 use Rattle.things.proofs.Frame.{staysP}
+use Rattle.table.specs.Sizes.{nodeSize}
 
 module _ {l l1 : List ℕ} {top at top1 : ℕ} where
   pub atom-stands : {n : Node} {c : Sets} {s : m.Sets} {a : Atom} → StoredObject l l1 top n c at top1 → n .tag ≡ tagOf a → n .content ≡ contentOf a → setsOf c ≡ s → Rep l1 top1 at (stx (atom s a))
   atom-stands {n} p e f g =
-      let z : at + 8 ≤ top1 = omega (arith, p .stored .place, p .stored .grows) in
-      is-atom z (p .stored .node ∙ (λ j. record { tag = e j; content = f j })) (ap setsOf (p .sets) ∙ g)
+      let z : at + nodeSize ≤ top1 = omega (arith, p .stored .place, p .stored .grows) in
+      is-atom z (p .stored .node ∙ (λ j. record { tag = e j; content = f j })) (p .sets ∙ g)
 
   pub list-stands : {n : Node} {c : Sets} {s : m.Sets} {ps : Stxs} → StoredObject l l1 top n c at top1 → n .tag ≡ listTag → setsOf c ≡ s → RepP l top (n .content) (fromStxs ps)
       → Rep l1 top1 at (stx (list s ps))
   list-stands {n} {ps = ps} p e g r =
-      let z : at + 8 ≤ top1 = omega (arith, p .stored .place, p .stored .grows) in
+      let z : at + nodeSize ≤ top1 = omega (arith, p .stored .place, p .stored .grows) in
       let q : RepP l1 at (n .content) (fromStxs ps) = subst (λ (k : ℕ). RepP l1 k (n .content) (fromStxs ps)) (sym (p .stored .place)) (staysP r (p .stored .kept)) in
-      is-list z (p .stored .node ∙ (λ j. record { tag = e j; content = n .content })) (ap setsOf (p .sets) ∙ g) q
+      is-list z (p .stored .node ∙ (λ j. record { tag = e j; content = n .content })) (p .sets ∙ g) q
 
   pub var-stands : {n : Node} {k : ℕ} → Stored l l1 top n at top1 → n .tag ≡ variableTag → n .content ≡ k → Rep l1 top1 at (var k)
-  var-stands p e f = let z : at + 8 ≤ top1 = omega (arith, p .place, p .grows) in is-var z (p .node ∙ (λ j. record { tag = e j; content = f j }))
+  var-stands p e f = let z : at + nodeSize ≤ top1 = omega (arith, p .place, p .grows) in is-var z (p .node ∙ (λ j. record { tag = e j; content = f j }))
 
   pub datum-stands : {n : Node} {a : Atom} → Stored l l1 top n at top1 → n .tag ≡ atomValueTag + tagOf a → n .content ≡ contentOf a → Rep l1 top1 at (datum a)
-  datum-stands p e f = let z : at + 8 ≤ top1 = omega (arith, p .place, p .grows) in is-datum z (p .node ∙ (λ j. record { tag = e j; content = f j }))
+  datum-stands p e f = let z : at + nodeSize ≤ top1 = omega (arith, p .place, p .grows) in is-datum z (p .node ∙ (λ j. record { tag = e j; content = f j }))
 
   pub app-stands : {n : Node} {h : Tree} {ts : Trees} → Stored l l1 top n at top1 → n .tag ≡ applicationTag → RepP l top (n .content) (tcons h ts) → Rep l1 top1 at (app h ts)
   app-stands {n} {h} {ts} p e r =
-      let z : at + 8 ≤ top1 = omega (arith, p .place, p .grows) in
+      let z : at + nodeSize ≤ top1 = omega (arith, p .place, p .grows) in
       let q : RepP l1 at (n .content) (tcons h ts) = subst (λ (k : ℕ). RepP l1 k (n .content) (tcons h ts)) (sym (p .place)) (staysP r (p .kept)) in
       is-app z (p .node ∙ (λ j. record { tag = e j; content = n .content })) q
 
   pub lst-stands : {n : Node} {ts : Trees} → Stored l l1 top n at top1 → n .tag ≡ listValueTag → RepP l top (n .content) ts → Rep l1 top1 at (lst ts)
   lst-stands {n} {ts} p e r =
-      let z : at + 8 ≤ top1 = omega (arith, p .place, p .grows) in
+      let z : at + nodeSize ≤ top1 = omega (arith, p .place, p .grows) in
       let q : RepP l1 at (n .content) ts = subst (λ (k : ℕ). RepP l1 k (n .content) ts) (sym (p .place)) (staysP r (p .kept)) in
       is-lst z (p .node ∙ (λ j. record { tag = e j; content = n .content })) q

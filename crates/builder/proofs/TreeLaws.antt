@@ -21,6 +21,7 @@ use Rattle.builder.proofs.Inverting.{TreeBody, a-variable, an-applicati
 use Rattle.builder.proofs.Sizes.{load-var, load-datum, load-app, load-lst, load-fun}
 use Rattle.builder.proofs.Standing.{var-stands, datum-stands, app-stands, lst-stands}
 use Rattle.builder.proofs.ObjectLaws.{node-roomy}
+use Rattle.table.specs.Sizes.{nodeSize}
 
 -- ---- from one way to read to another, further on
 
@@ -31,7 +32,7 @@ pub record Leads (R Q : List ℕ → Tree → List ℕ → Type 0) (image : List
   pub further : {t : Tree} {rest : List ℕ} → R (drop at image) t rest → at + 1 ≤ past
 
 module _ {R Q : List ℕ → Tree → List ℕ → Type 0} {image : List ℕ} {at past : ℕ} (L : Leads R Q image at past) {l : List ℕ} {top : ℕ} where
-  leads-judged : {scopes k : ℕ} → k ≤ 64 → Judged R l top image at scopes → Judged Q l top image past k
+  leads-judged : {scopes k : ℕ} → k ≤ 256 → Judged R l top image at scopes → Judged Q l top image past k
   leads-judged h s =
       record {
         thing = s .thing;
@@ -375,7 +376,7 @@ module _ {scopes count tag : ℕ} {l : List ℕ} {top : ℕ} {image : List ℕ} 
           room = record { fits = omega (arith, s .room .fits, p .size); small = s .room .small; low = s .room .low; place = s .room .place; few = s .room .few };
         }
 
-    pub trees-roomy : {l1 : List ℕ} {r : Built} → BuildsAll (TreesRead scopes) count l l1 top image at r → length l1 ≡ length l → Roomy l1 (r .top) 8
+    pub trees-roomy : {l1 : List ℕ} {r : Built} → BuildsAll (TreesRead scopes) count l l1 top image at r → length l1 ≡ length l → Roomy l1 (r .top) nodeSize
     trees-roomy b q =
         let p = listed (s .read) in
         let w = b .means (p .parts) (s .rest) (p .read) in

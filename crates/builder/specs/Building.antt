@@ -1,5 +1,5 @@
--- What building asks and gives, for any of the ways to read a thing or so many things. Thirteen words a part are enough, and five are left for
--- the cell that a whole will want.
+-- What building asks and gives, for any of the ways to read a thing or so many things. A node and a cell for each part are enough, and
+-- the cell is left over that a whole will want.
 use mathlib.Core.Path.{_≡_}
 use mathlib.Core.List.{List}
 use Prim.Native.Nat.{ℕ, _+_, _*_, _≤_}
@@ -12,6 +12,7 @@ use Rattle.things.specs.Making.{Stored}
 use Rattle.things.specs.Rep.{Rep, RepP}
 use Rattle.builder.specs.Fronts.{Within, Left}
 use Rattle.builder.specs.declared.Built.{Built}
+use Rattle.table.specs.Sizes.{cellSize, partSize, tableSize}
 
 abbrev pub loadSizes : Trees → ℕ
 loadSizes ts = tsizesBy size ts
@@ -19,32 +20,32 @@ loadSizes ts = tsizesBy size ts
 -- so many words are free, and `at` is a place of the image
 pub record Room (l : List ℕ) (top n : ℕ) (image : List ℕ) (at scopes : ℕ) : Type 0 where
   pub fits : top + n ≤ length l
-  pub small : length l ≤ 65536
+  pub small : length l ≤ tableSize
   pub low : 1 ≤ top
   pub place : Within image at
-  pub few : scopes ≤ 64
+  pub few : scopes ≤ 256
 
 pub record Judged (R : List ℕ → Tree → List ℕ → Type 0) (l : List ℕ) (top : ℕ) (image : List ℕ) (at scopes : ℕ) : Type 0 where
   pub thing : Tree
   pub rest : List ℕ
   pub read : R (drop at image) thing rest
-  pub room : Room l top (13 * loadSize thing) image at scopes
+  pub room : Room l top (partSize * loadSize thing) image at scopes
 
 pub record JudgedAll (R : ℕ → List ℕ → Trees → List ℕ → Type 0) (count : ℕ) (l : List ℕ) (top : ℕ) (image : List ℕ) (at scopes : ℕ) : Type 0 where
   pub thing : Trees
   pub rest : List ℕ
   pub read : R count (drop at image) thing rest
-  pub room : Room l top (13 * loadSizes thing) image at scopes
+  pub room : Room l top (partSize * loadSizes thing) image at scopes
 
 -- t was built, and `rest` is behind it, not before the place `from`
 pub record Stands (l : List ℕ) (top : ℕ) (image : List ℕ) (from : ℕ) (r : Built) (t : Tree) (rest : List ℕ) : Type 0 where
   pub shown : Rep l (r .top) (r .at) t
-  pub grows : r .top + 5 ≤ top + 13 * loadSize t
+  pub grows : r .top + cellSize ≤ top + partSize * loadSize t
   pub left : Left image from (r .past) rest
 
 pub record StandsAll (l : List ℕ) (top : ℕ) (image : List ℕ) (at : ℕ) (r : Built) (ts : Trees) (rest : List ℕ) : Type 0 where
   pub shown : RepP l (r .top) (r .at) ts
-  pub grows : r .top ≤ top + 13 * loadSizes ts
+  pub grows : r .top ≤ top + partSize * loadSizes ts
   pub left : Left image at (r .past) rest
 
 -- whatever stands there was built, and all below top is as it was

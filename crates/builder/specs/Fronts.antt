@@ -39,7 +39,7 @@ pub record ObjectFront (scopes : ℕ) (s : List ℕ) (tag : ℕ) (sets : m.Sets)
 
 pub record FrontHere (image : List ℕ) (at scopes : ℕ) : Type 0 where
   pub place : Within image at
-  pub few : scopes ≤ 64
+  pub few : scopes ≤ 256
   pub tag : ℕ
   pub sets : m.Sets
   pub n : ℕ

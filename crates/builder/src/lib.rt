@@ -10,6 +10,7 @@ ghost use Rattle.builder.specs.Reads.{ObjectRead, ObjectsRead, TreeRead,
 ghost use Rattle.builder.specs.Fronts.{NumberHere, NumberRead, FrontHere, FrontRead};
 ghost use Rattle.builder.specs.Building.{Judged, JudgedAll, Builds, BuildsAll, StoredLeaf};
 ghost use Rattle.things.specs.Making.{Roomy};
+ghost use Rattle.table.specs.Sizes.{nodeSize};
 
 // What was built: where it lies, the first free word after it, and the place past its bytes in the image.
 pub struct Built {
@@ -193,7 +194,7 @@ pub fn tree(table: &mut [u32], top: u32, image: &[u8], at: usize, scopes: u32) -
 
 // A node without parts, whose bytes end at `past`.
 fn leaf(table: &mut [u32], top: u32, node: Node, past: usize) -> Built
-    requires { ⌜ Roomy (now table) top 8 ⌝ }
+    requires { ⌜ Roomy (now table) top nodeSize ⌝ }
     ensures { λ r. ⌜ StoredLeaf (now (table .entry)) (now (table .exit)) top node past r ⌝ }
 {
     let made = things::make(table, top, node);

@@ -9,6 +9,7 @@ use Rattle.table.specs.Words.{getCell, Same}
 use Rattle.table.proofs.Laws.{same-under, getCell-same}
 use Rattle.things.proofs.Frame.{stays, carry, up}
 use Rattle.environment.specs.Meanings.{Meant, meant-variable, meant-macro, RepE, is-core, is-entry}
+use Rattle.table.specs.Sizes.{cellSize}
 
 pub carryM : {l l′ : List ℕ} {n k kind i : ℕ} {x : m.Meaning} → Meant l n kind i x → Same n l l′ → n ≤ k → Meant l′ k kind i x
 carryM (meant-variable r) e h = meant-variable (carry r e h)
@@ -24,7 +25,7 @@ staysM (meant-macro r) e = meant-macro (stays r e)
 
 pub upE : {l : List ℕ} {n k e : ℕ} {env : Env} → RepE l n e env → n ≤ k → RepE l k e env
 upE is-core h = is-core
-upE {k = k} {e = e} (is-entry a b q w r) h = let z : e + 5 ≤ k = omega arith in is-entry a z q w r
+upE {k = k} {e = e} (is-entry a b q w r) h = let z : e + cellSize ≤ k = omega arith in is-entry a z q w r
 
 pub staysE : {l l′ : List ℕ} {n e : ℕ} {env : Env} → RepE l n e env → Same n l l′ → RepE l′ n e env
 staysE is-core s = is-core

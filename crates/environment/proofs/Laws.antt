@@ -39,17 +39,18 @@ use Rattle.environment.specs.Meanings.{Meant, meant-variable, meant-macr
 use Rattle.environment.specs.declared.Meaning.{Meaning}
 use Rattle.environment.specs.declared.Meaning.the-variants as meant
 use Rattle.environment.proofs.Frame.{upM, upE, carryM, staysE}
+use Rattle.table.specs.Sizes.{cellSize}
 
 -- ---- one entry more
 
-pub extended : {l l1 : List ℕ} {top n kind i next : ℕ} → Roomy l top 5 → l1 ≡ putCell l top (record { head = i; tail = next; weight = n; size = kind; nesting = 0 })
-    → Extended l l1 top n kind i next top (top + 5)
+pub extended : {l l1 : List ℕ} {top n kind i next : ℕ} → Roomy l top cellSize → l1 ≡ putCell l top (record { head = i; tail = next; weight = n; size = kind; nesting = 0 })
+    → Extended l l1 top n kind i next top (top + cellSize)
 extended {l} {l1} {top} {n} {kind} {i} {next} r e =
     let x : Cell = record { head = i; tail = next; weight = n; size = kind; nesting = 0 } in
     let sm : Same top l l1 = rw e (putCell-below l top x) in
     let g : getCell l1 top ≡ x = rw e (get-putCell l top x (r .fits)) in
     let pos : 0 < top = omega (arith, r .low) in
-    let fits : top + 5 ≤ top + 5 = omega arith in
+    let fits : top + cellSize ≤ top + cellSize = omega arith in
     record { kept = sm; grows = refl; means = λ w env a b. is-entry pos fits g (carryM a sm (omega arith)) (staysE b sm) }
 
 -- ---- a name's meaning
@@ -91,7 +92,7 @@ record EntryAt (l : List ℕ) (top e : ℕ) (x : Cell) (env : Env) : Type 0 wher
   meant : m.Meaning
   others : Env
   is : env ≡ m.extend (x .weight) meant others
-  inside : e + 5 ≤ top
+  inside : e + cellSize ≤ top
   low : x .tail < e
   shown : Meant l top (x .size) (x .head) meant
   shown-others : RepE l top (x .tail) others
@@ -119,7 +120,7 @@ entry-at {l} {top} {e} {x} (is-entry {n = n} {kind = kind} {i = i} {r = r} {w = 
       shown-others = rw et z2;
     }
 
-pub entry-inside : {l : List ℕ} {e : ℕ} → Known l e → ¬ (e ≡ 0) → e + 5 ≤ length l
+pub entry-inside : {l : List ℕ} {e : ℕ} → Known l e → ¬ (e ≡ 0) → e + cellSize ≤ length l
 entry-inside r h = omega (arith, entry-at (r .shown) h refl .inside, r .inside)
 
 here : (k n : ℕ) (w : m.Meaning) (env : Env) → k ≡ n → m.meaning n (m.extend k w env) ≡ w

@@ -17,6 +17,7 @@ use Rattle.things.specs.Rep.{Rep}
 use Rattle.forms.specs.Names.{nameFound}
 use Rattle.environment.specs.declared.Meaning.{Meaning}
 use Rattle.environment.specs.declared.Meaning.the-variants.{Lambda, LetSyntax, Quote, Syntax, Variable, Macro, Unknown, Unclear}
+use Rattle.table.specs.Sizes.{cellSize, tableSize}
 
 -- what an entry of that kind says of its name
 pub data Meant (l : List ℕ) (top : ℕ) : ℕ → ℕ → m.Meaning → Type 0 where
@@ -26,7 +27,7 @@ pub data Meant (l : List ℕ) (top : ℕ) : ℕ → ℕ → m.Meaning → Type 0
 -- index e stands for the meanings, all of them below top
 pub data RepE (l : List ℕ) : ℕ → ℕ → Env → Type 0 where
   is-core : {top : ℕ} → RepE l top 0 coreOnly
-  is-entry : {top e n kind i r : ℕ} {w : m.Meaning} {env : Env} → 0 < e → e + 5 ≤ top
+  is-entry : {top e n kind i r : ℕ} {w : m.Meaning} {env : Env} → 0 < e → e + cellSize ≤ top
       → getCell l e ≡ record { head = i; tail = r; weight = n; size = kind; nesting = 0 }
       → Meant l e kind i w → RepE l e r env → RepE l top e (m.extend n w env)
 
@@ -35,11 +36,11 @@ pub record Known (l : List ℕ) (e : ℕ) : Type 0 where
   pub thing : Env
   pub shown : RepE l top e thing
   pub inside : top ≤ length l
-  pub small : length l ≤ 65536
+  pub small : length l ≤ tableSize
 
 pub record Extended (l l′ : List ℕ) (top n kind i next at top′ : ℕ) : Type 0 where
   pub kept : Same top l l′
-  pub grows : top′ ≡ top + 5
+  pub grows : top′ ≡ top + cellSize
   pub means : (w : m.Meaning) (env : Env) → Meant l top kind i w → RepE l top next env → RepE l′ top′ at (m.extend n w env)
 
 -- a meaning of the rules, or none where the name is unclear

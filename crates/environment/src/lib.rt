@@ -11,6 +11,8 @@ ghost use lib.ListN.{length};
 ghost use Rattle.things.specs.Measuring.{Seen};
 ghost use Rattle.things.specs.Making.{Roomy};
 ghost use Rattle.environment.specs.Meanings.{Known, CoreMeans, Means, MeansAt, Extended};
+ghost use Rattle.table.specs.Sizes.{cellSize};
+ghost use Rattle.store.specs.Sizes.{bindingSize};
 
 pub enum Meaning {
     // The core forms.
@@ -37,7 +39,7 @@ impl Meaning {
 // One entry more. It lies as a cell: what the name means and the entry after it are head and tail, the name and the kind of its meaning
 // stand where a chain of things keeps its measures.
 pub fn extend(table: &mut [u32], top: u32, name: Name, kind: u32, at: u32, next: u32) -> Made
-    requires { ⌜ Roomy (now table) top 5 ⌝ }
+    requires { ⌜ Roomy (now table) top cellSize ⌝ }
     ensures { λ r. ⌜ Extended (now (table .entry)) (now (table .exit)) top (name .0) kind at next (r .at) (r .top) ⌝ }
 {
     table::put_cell(
@@ -89,7 +91,7 @@ pub fn lookup(table: &[u32], e: u32, name: Name) -> Meaning
 
 // What the head of a list means: Unknown where it is no identifier.
 pub fn meaning_of(table: &[u32], store: &[u64], count: u32, i: u32, phase: u32, e: u32) -> Meaning
-    requires { ⌜ Seen (now table) i × Known (now table) e × (count * 3 ≤ length (now store)) ⌝ }
+    requires { ⌜ Seen (now table) i × Known (now table) e × (count * bindingSize ≤ length (now store)) ⌝ }
     ensures { λ r. ⌜ MeansAt phase (now (store .entry)) count (now (table .entry)) i e r ⌝ }
 {
     match forms::name_of(table, store, count, i, phase) {

@@ -37,10 +37,11 @@ use Rattle.evaluate.specs.declared.Gathered.{Gathered}
 use Rattle.evaluate.specs.declared.Gathered.the-variants as all
 use Rattle.evaluate.specs.Testing.{Sought, TestedP}
 use Rattle.evaluate.specs.Evaluation.{ReadyApplication, ReadyCall, ReadyApply, ReadyFunction, ReadyPrimitive, callOf, functionOf, primitiveOf, gathered, Evaluates, Applies, Calls, Gathers, Does, DoesFunction, DoesPrimitive}
+use Rattle.table.specs.Sizes.{cellSize, nodeSize}
 
 -- ---- application
 
-pub app-inside : {l : List ℕ} {s : State} {c : ℕ} → ReadyApplication l s c → c + 5 ≤ length l
+pub app-inside : {l : List ℕ} {s : State} {c : ℕ} → ReadyApplication l s c → c + cellSize ≤ length l
 app-inside r = omega (arith, cons-at (r .shown) refl .inside, r .room .fits)
 
 module _ {l : List ℕ} {s : State} {c : ℕ} {x : Cell} (e : x ≡ getCell l c) where
@@ -162,7 +163,7 @@ args-none {left} {l} {s} h =
           rw (none-at r h) (gives (record { x = 0; y = 0; z = 0; state = s }) (record { value = tnil; is = refl; shown = no-more; later = later-refl l s }));
     }
 
-pub args-inside : {l : List ℕ} {s : State} {c : ℕ} → Ready RepP l s c → ¬ (c ≡ 0) → c + 5 ≤ length l
+pub args-inside : {l : List ℕ} {s : State} {c : ℕ} → Ready RepP l s c → ¬ (c ≡ 0) → c + cellSize ≤ length l
 args-inside {l} {s} {c} r h = omega (arith, part-at (r .shown) h refl .cell .inside, r .room .fits)
 
 module _ {l : List ℕ} {s : State} {c : ℕ} {x : Cell} (n : ¬ (c ≡ 0)) (e : x ≡ getCell l c) where
@@ -218,7 +219,7 @@ module _ {l : List ℕ} {s : State} {c : ℕ} {x : Cell} (n : ¬ (c ≡ 0)) (e :
 
 -- ---- apply
 
-pub apply-inside : {l : List ℕ} {s : State} {f x y z : ℕ} → ReadyApply l s f x y z → f + 8 ≤ length l
+pub apply-inside : {l : List ℕ} {s : State} {f x y z : ℕ} → ReadyApply l s f x y z → f + nodeSize ≤ length l
 apply-inside r = omega (arith, below (r .shown), r .room .fits)
 
 one-argument : {n : ℕ} {b t : Tree} (k : ℕ) → t ≡ fun n b → applicable t k ≡ true → 1 ≤ k

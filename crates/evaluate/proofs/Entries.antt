@@ -25,6 +25,7 @@ use Rattle.things.proofs.Frame.{below}
 use Rattle.things.proofs.ByTag.{tag-is, var-at, app-at}
 use Rattle.steps.proofs.Laws.{Entry, entry-refused, entry-goes, enter-left, enter-went, later-refl, later-paid, ready-paid, since}
 use Rattle.evaluate.specs.Evaluation.{ReadyApplication, Evaluates, Forms, Applies}
+use Rattle.table.specs.Sizes.{nodeSize, unitSize}
 
 -- ---- evaluate
 
@@ -49,11 +50,11 @@ module _ (left : ℕ) (s : State) {u : State} {x : Charged} (h : x ≡ enterOf l
   entry-formed {l} {l1} {i} {r} f =
       let q = enter-went left s h e in
       let at : s .top ≡ u .top = sym (ap (λ (y : State). y .top) (q .is)) in
-      record { means = λ b t w. since 1 16 (later-paid l q) (omega arith) (omega arith) (entry-goes (entry t) left s b h e) (f .means b t (rw at at w)) }
+      record { means = λ b t w. since 1 unitSize (later-paid l q) (omega arith) (omega arith) (entry-goes (entry t) left s b h e) (f .means b t (rw at at w)) }
 
 -- ---- form
 
-pub form-inside : {l : List ℕ} {s : State} {i : ℕ} → Ready Rep l s i → i + 8 ≤ length l
+pub form-inside : {l : List ℕ} {s : State} {i : ℕ} → Ready Rep l s i → i + nodeSize ≤ length l
 form-inside r = omega (arith, below (r .shown), r .room .fits)
 
 value-is : {l : List ℕ} {i : ℕ} {o : Node} {top : ℕ} {t : Tree} (e : o ≡ getNode l i) (self : Tree → Step Tree) (y : m.State) → Rep l top i t

@@ -26,6 +26,7 @@ use Rattle.steps.proofs.Laws.{entry-refused, entry-goes, enter-left, enter-went
 use Rattle.evaluate.specs.Testing.{Tested}
 use Rattle.evaluate.specs.Evaluation.{ReadyApply, ReadyOne, callOf, Evaluates, Does, AppliesValue, CallsOne}
 use Rattle.evaluate.proofs.Entries.{entry}
+use Rattle.table.specs.Sizes.{unitSize}
 
 -- ---- apply_value
 
@@ -67,12 +68,12 @@ module _ (left : ℕ) (s : State) {u : State} {x : Charged} (h : x ≡ enterOf l
       pub value-called : {i : ℕ} {l2 : List ℕ} {r : Answer} → CallsOne (left - 1) l1 l2 (o .state) (o .at) i r → AppliesValue left l l2 s f i r
       unfolding evalEntry callOf
       value-called {i} d =
-          let paid16 = later-paid l (enter-went left s h e) in
+          let paid = later-paid l (enter-went left s h e) in
           record {
             means = λ b t w p q.
                 let g = on-done (v .means b t (rw same-top at p)) (ap ended k) in
                 let c : Rep l (u .top) i w = rw same-top at q in
-                since 1 16 (later-trans 1 16 paid16 (g .later) (omega arith) (omega arith)) (omega arith) (omega arith)
+                since 1 unitSize (later-trans 1 unitSize paid (g .later) (omega arith) (omega arith)) (omega arith) (omega arith)
                 (entry-goes (entry (app t (tcons w tnil))) left s b h e ∙ then-ok _ (g .is))
                 (d .means b (g .value) w (g .shown) (carry c (g .later .kept) (g .later .grows)));
           }

@@ -16,26 +16,26 @@ use Rattle.steps.specs.declared.State.{State}
 use Rattle.steps.specs.States.{stateOf}
 use Rattle.steps.specs.Agreement.{Ready}
 
--- word 0; the variable at 1; the function at 9; the number at 17; two cells; the application at 35; and free words
+-- word 0; the variable at 1; the function at 27; the number at 53; two cells; the application at 89; and free words
 abbrev table : List ℕ
 table =
     0
-    ∷ 6 ∷ 4 ∷ 0 ∷ 0 ∷ 0 ∷ 0 ∷ 0 ∷ 0
-    ∷ 8 ∷ 4 ∷ 1 ∷ 1 ∷ 1 ∷ 0 ∷ 0 ∷ 0
-    ∷ 11 ∷ 9 ∷ 0 ∷ 0 ∷ 0 ∷ 0 ∷ 0 ∷ 0
-    ∷ 17 ∷ 0 ∷ 0 ∷ 1 ∷ 1
-    ∷ 9 ∷ 25 ∷ 0 ∷ 3 ∷ 2
-    ∷ 7 ∷ 30 ∷ 0 ∷ 0 ∷ 0 ∷ 0 ∷ 0 ∷ 0
-    ∷ replicate 80 0
+    ∷ 6 ∷ 4 ∷ 0 ∷ 0 ∷ 0 ∷ 0 ∷ 0 ∷ 0 ∷ 0 ∷ 0 ∷ 0 ∷ 0 ∷ 0 ∷ 0 ∷ 0 ∷ 0 ∷ 0 ∷ 0 ∷ 0 ∷ 0 ∷ 0 ∷ 0 ∷ 0 ∷ 0 ∷ 0 ∷ 0
+    ∷ 8 ∷ 4 ∷ 1 ∷ 1 ∷ 1 ∷ 0 ∷ 0 ∷ 0 ∷ 0 ∷ 0 ∷ 0 ∷ 0 ∷ 0 ∷ 0 ∷ 0 ∷ 0 ∷ 0 ∷ 0 ∷ 0 ∷ 0 ∷ 0 ∷ 0 ∷ 0 ∷ 0 ∷ 0 ∷ 0
+    ∷ 11 ∷ 9 ∷ 0 ∷ 0 ∷ 0 ∷ 0 ∷ 0 ∷ 0 ∷ 0 ∷ 0 ∷ 0 ∷ 0 ∷ 0 ∷ 0 ∷ 0 ∷ 0 ∷ 0 ∷ 0 ∷ 0 ∷ 0 ∷ 0 ∷ 0 ∷ 0 ∷ 0 ∷ 0 ∷ 0
+    ∷ 53 ∷ 0 ∷ 0 ∷ 1 ∷ 1
+    ∷ 27 ∷ 79 ∷ 0 ∷ 3 ∷ 2
+    ∷ 7 ∷ 84 ∷ 0 ∷ 0 ∷ 0 ∷ 0 ∷ 0 ∷ 0 ∷ 0 ∷ 0 ∷ 0 ∷ 0 ∷ 0 ∷ 0 ∷ 0 ∷ 0 ∷ 0 ∷ 0 ∷ 0 ∷ 0 ∷ 0 ∷ 0 ∷ 0 ∷ 0 ∷ 0 ∷ 0
+    ∷ replicate 200 0
 
 -- of 9 units, loading took 4
 abbrev start : ℕ → State
-start n = record { top = 43; units = n; names = 5; scopes = 0; bindings = 0 }
+start n = record { top = 115; units = n; names = 5; scopes = 0; bindings = 0 }
 
 abbrev sample : Tree
 sample = app (fun 4 (var 4)) (tcons (datum (number 9)) tnil)
 
-stands : Rep table 43 35 sample
+stands : Rep table 115 89 sample
 unfolding getNode getBody getCell tagOf contentOf tsize tsizesBy tnesting tnestings weights
 stands =
     is-app (lit≤ tt) refl
@@ -43,7 +43,7 @@ stands =
     (is-fun (lit≤ tt) refl refl (is-var (lit≤ tt) refl))
     (is-part (lit< tt) (lit≤ tt) refl (is-datum (lit≤ tt) refl) is-none))
 
-pub met : Ready Rep table (start 5) 35
+pub met : Ready Rep table (start 5) 89
 met = record { thing = sample; shown = stands; room = record { fits = lit≤ tt; small = lit≤ tt; low = lit≤ tt } }
 
 pub nine : evaluate 128 sample (stateOf (start 5) (λ n. [])) ≡ ok (datum (number 9)) (record { left = 0; names = 5; scopes = 0; binds = [] })

@@ -30,6 +30,7 @@ use Rattle.primitives.specs.declared.Part.{Part}
 use Rattle.primitives.specs.declared.Part.the-variants.{Wrong, Piece}
 use Rattle.steps.proofs.Laws.{Went, charge-went, charge-failed, charge-ok, charge-no, then-ok, then-no, unless-ok, unless-no}
 use Rattle.evaluate.specs.Evaluation.{ReadyPrimitive, primitiveOf, DoesPrimitive}
+use Rattle.table.specs.Sizes.{unitSize}
 
 record PieceAt (l l1 : List ℕ) (top : ℕ) (q : Option Tree) (m : Made) : Type 0 where
   value : Tree
@@ -37,7 +38,7 @@ record PieceAt (l l1 : List ℕ) (top : ℕ) (q : Option Tree) (m : Made) : Type
   shown : Rep l1 (m .top) (m .at) value
   kept : Same top l l1
   grows : top ≤ m .top
-  fits : m .top ≤ top + 16
+  fits : m .top ≤ top + unitSize
 
 on-piece : {l l1 : List ℕ} {top : ℕ} {q : Option Tree} {r : Part} {m : Made} → Pieced l l1 top q r → r ≡ Piece m → PieceAt l l1 top q m
 on-piece (wrong a) e = let z : _≡_ {A = ℕ} 0 1 = cc in absurd (omega arith)

@@ -17,6 +17,7 @@ use Rattle.steps.specs.Agreement.{Shape, placed, Ended, done, refused, ended, A
 use Rattle.evaluate.specs.declared.Values.{Values}
 use Rattle.evaluate.specs.declared.Gathered.{Gathered}
 use Rattle.evaluate.specs.declared.Gathered.the-variants.{All, Refused}
+use Rattle.table.specs.Sizes.{unitSize}
 
 -- ---- what is asked
 
@@ -96,7 +97,7 @@ primitiveOf p l = do
 
 -- an entry charges at least one unit, and needs none of the words that it pays for
 pub record Evaluates (left : ℕ) (l l′ : List ℕ) (s : State) (i : ℕ) (r : Answer) : Type 0 where
-  pub means : (b : Store) (t : Tree) → Rep l (s .top) i t → Agrees (placed Rep) 1 16 l l′ s b (evaluate left t (stateOf s b)) (ended r)
+  pub means : (b : Store) (t : Tree) → Rep l (s .top) i t → Agrees (placed Rep) 1 unitSize l l′ s b (evaluate left t (stateOf s b)) (ended r)
 
 pub record Forms (left : ℕ) (l l′ : List ℕ) (s : State) (i : ℕ) (r : Answer) : Type 0 where
   pub means : (b : Store) (t : Tree) → Rep l (s .top) i t → Agrees (placed Rep) 0 0 l l′ s b (evalEntry (λ u. evaluate left u) t (stateOf s b)) (ended r)
@@ -132,7 +133,7 @@ pub record DoesPrimitive (l l′ : List ℕ) (s : State) (p x y z : ℕ) (r : An
 
 -- the application of t to u, evaluated
 pub record AppliesValue (left : ℕ) (l l′ : List ℕ) (s : State) (f x : ℕ) (r : Answer) : Type 0 where
-  pub means : (b : Store) (t u : Tree) → Rep l (s .top) f t → Rep l (s .top) x u → Agrees (placed Rep) 1 16 l l′ s b (evaluate left (app t (tcons u tnil)) (stateOf s b)) (ended r)
+  pub means : (b : Store) (t u : Tree) → Rep l (s .top) f t → Rep l (s .top) x u → Agrees (placed Rep) 1 unitSize l l′ s b (evaluate left (app t (tcons u tnil)) (stateOf s b)) (ended r)
 
 pub record CallsOne (left : ℕ) (l l′ : List ℕ) (s : State) (f x : ℕ) (r : Answer) : Type 0 where
   pub means : (b : Store) (t u : Tree) → Rep l (s .top) f t → Rep l (s .top) x u

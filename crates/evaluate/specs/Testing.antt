@@ -7,6 +7,7 @@ use lib.ListN.{length}
 use Rattle.model.specs.Trees.{Tree, Trees, tcount}
 use Rattle.model.specs.Evaluating.{applicable}
 use Rattle.things.specs.Rep.{Rep, RepP}
+use Rattle.table.specs.Sizes.{tableSize}
 
 pub record Counted (l : List ℕ) (c most r : ℕ) : Type 0 where
   pub means : (top : ℕ) (ts : Trees) → RepP l top c ts → r ≡ min most (tcount ts)
@@ -22,7 +23,7 @@ pub record Sought (l : List ℕ) (f c : ℕ) : Type 0 where
   pub shown : Rep l top f value
   pub shown-parts : RepP l top c things
   pub inside : top ≤ length l
-  pub small : length l ≤ 65536
+  pub small : length l ≤ tableSize
 
 pub record TestedP (l : List ℕ) (f c : ℕ) (r : Bool) : Type 0 where
   pub means : (top : ℕ) (t : Tree) (ts : Trees) → Rep l top f t → RepP l top c ts → r ≡ applicable t (tcount ts)

@@ -31,6 +31,7 @@ use Rattle.endings.specs.declared.Ending.the-variants as ending
 use Rattle.endings.specs.Ends.{TreeDone, EndsTree}
 use Rattle.endings.proofs.Worked.{Came, came-done, came-ends, stop-ends}
 use Rattle.evaluate_job.specs.Loading.{Loading, LoadedEnds}
+use Rattle.table.specs.Sizes.{unitSize}
 
 module _ {image : List ℕ} {j : TreeJudgement} {l : List ℕ} {s : State} {budget : ℕ} (d : Loading image j l s budget) where
   abbrev good : TreeImageGood image j
@@ -59,7 +60,7 @@ module _ {image : List ℕ} {j : TreeJudgement} {l : List ℕ} {s : State} {budg
       v′ : Evaluates 128 l′ l″ (raisedTo (b .top) s) (b .at) a
       v′ = subst (λ (z : State). Evaluates 128 l′ l″ z (b .at) a) te v
 
-      agrees : (x : Store) → Agrees (placed Rep) 1 16 l′ l″ (raisedTo (b .top) s) x (evaluate 128 root (stateOf s x)) (ended a)
+      agrees : (x : Store) → Agrees (placed Rep) 1 unitSize l′ l″ (raisedTo (b .top) s) x (evaluate 128 root (stateOf s x)) (ended a)
       agrees x = v′ .means x root shown
 
       stopped : {f : Stop} (x : Store) → a ≡ Refused f → evaluate 128 root (stateOf s x) ≡ no (refusalOf (f .refusal)) (f .units)

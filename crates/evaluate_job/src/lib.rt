@@ -66,7 +66,7 @@ fn evaluate_judged(
     }
 }
 
-// How the job ends, with a table of 16 words per unit of budget.
+// How the job ends, with a table as the budget wants it.
 pub fn evaluate_work(out: &mut [u8], image: &[u8], table: &mut [u32], budget: u32) -> Ending
     requires { ⌜ Lent (now table) budget ⌝ }
     ensures { λ r. ⌜ EndsAs (evaluateEnding (now (image .entry)) budget (length (now (out .entry)))) (now (out .entry)) (now (out .exit)) r ⌝ }

@@ -73,13 +73,15 @@ use Rattle.expand.specs.declared.Context.{Context}
 use Rattle.expand.proofs.Agreeing.{Owed, beyond}
 use Rattle.expand.proofs.Leaves.{owes-none, owes-one, owes-two}
 use Rattle.expand.proofs.Rules.{expand-entry, entry-atom, entry-symbol, entry-empty, list-means, list-unclear, form-lambda, form-let-syntax, form-quote, form-syntax, form-variable, form-macro, form-unknown, function-split, binding-split, macro-split}
+use Rattle.table.specs.Sizes.{cellSize, cellSpare, nodeSize, nodeSpare, tripleSpare, unitSize}
+use Rattle.store.specs.Sizes.{bindingSize}
 
 stx-is : {a b : Stx} → stx a ≡ stx b → a ≡ b
 stx-is e = cc
 
 -- ---- where an object is expanded
 
-within-later : {n v : ℕ} {l l1 st st1 : List ℕ} {s s1 : State} {at : Context} → Within l st s at → Later n v l l1 s s1 → s1 .bindings ≤ 128 → length l1 ≡ length l → length st1 ≡ length st → Within l1 st1 s1 at
+within-later : {n v : ℕ} {l l1 st st1 : List ℕ} {s s1 : State} {at : Context} → Within l st s at → Later n v l l1 s s1 → s1 .bindings ≤ 512 → length l1 ≡ length l → length st1 ≡ length st → Within l1 st1 s1 at
 within-later r p few len len2 =
     record {
       meant = r .meant;
@@ -126,7 +128,7 @@ module _ (left : ℕ) (s : State) {u : State} {x : Charged} (h : x ≡ enterOf l
       record {
         means = λ y g q k.
             let a = f .means y g (rw (top-is w) q) (rw (top-is w) k) in
-            let d : Agrees objects 1 5 l l1 s (bindsOf st1) (expandEntry (entries (left - 1)) (left - 1) (at .phase) g (scopesOf (at .prunable)) y (stateOf u (bindsOf st))) (ended r) = rw (unpaid-is w) at a in
+            let d : Agrees objects 1 cellSize l l1 s (bindsOf st1) (expandEntry (entries (left - 1)) (left - 1) (at .phase) g (scopesOf (at .prunable)) y (stateOf u (bindsOf st))) (ended r) = rw (unpaid-is w) at a in
             rw (entry-goes (expand-entry (at .phase) g (scopesOf (at .prunable)) y) left s (bindsOf st) h e) d;
       }
 
@@ -137,7 +139,7 @@ enter-stops {left} {at} {st} {s} {f = f} h e =
 
 -- ---- an entry by its tag
 
-pub node-inside : {l st : List ℕ} (s : State) {i : ℕ} {at : Context} → Ready l st (unpaid s) i at → i + 8 ≤ length l
+pub node-inside : {l st : List ℕ} (s : State) {i : ℕ} {at : Context} → Ready l st (unpaid s) i at → i + nodeSize ≤ length l
 unfolding unpaid
 node-inside s r = omega (arith, below (r .shown), r .within .room .fits)
 
@@ -196,7 +198,7 @@ module _ {st l : List ℕ} (s : State) {i : ℕ} {at : Context} {o : Node} (e : 
 -- ---- a list by its head's meaning
 
 same-form : (left ph : ℕ) (g : Env) (p : Scopes) (y : ms.State) {l l1 : List ℕ} {s : State} {b : Store} {x : Ended Out} (t : Tree) (k : Sets) {ps qs : Stxs} → ps ≡ qs
-    → Agrees objects 1 5 l l1 s b (expandMacro (entries left) left ph g p t (list k ps) y) x → Agrees objects 1 5 l l1 s b (expandMacro (entries left) left ph g p t (list k qs) y) x
+    → Agrees objects 1 cellSize l l1 s b (expandMacro (entries left) left ph g p t (list k ps) y) x → Agrees objects 1 cellSize l l1 s b (expandMacro (entries left) left ph g p t (list k qs) y) x
 same-form left ph g p y t k e a = rw e at a
 
 pub list-empty : {left : ℕ} {at : Context} {st l : List ℕ} {s : State} {i c : ℕ} → c ≡ 0 → ExpandedList left at st st l l s i c (Refused (record { refusal = NoRule; units = s .units }))
@@ -204,7 +206,7 @@ list-empty {left} {at} {st} {l} {s} h =
     record { means = λ k ps g u w z. rw (nil-at ps w h) (stops _ (entry-empty (entries left) left (at .phase) g (scopesOf (at .prunable)) (stateOf s (bindsOf st)) k)) }
 
 module _ {st l : List ℕ} (s : State) {i c : ℕ} {at : Context} where
-  pub list-inside : ReadyChain l st (unpaid s) i c at → ¬ (c ≡ 0) → c + 5 ≤ length l
+  pub list-inside : ReadyChain l st (unpaid s) i c at → ¬ (c ≡ 0) → c + cellSize ≤ length l
   unfolding unpaid
   list-inside r h = omega (arith, first-at (r .parts) (r .chain) h refl .cell .inside, r .within .room .fits)
 
@@ -212,7 +214,7 @@ module _ {st l : List ℕ} (s : State) {i c : ℕ} {at : Context} where
   unfolding unpaid
   list-known r = record { top = s .top; thing = r .within .meant; shown = r .within .known; inside = omega (arith, r .within .room .fits); small = r .within .room .small }
 
-  pub list-held : ReadyChain l st (unpaid s) i c at → s .bindings * 3 ≤ length st
+  pub list-held : ReadyChain l st (unpaid s) i c at → s .bindings * bindingSize ≤ length st
   unfolding unpaid
   list-held r = omega (arith, r .within .held .few, r .within .held .wide)
 
@@ -296,7 +298,7 @@ module _ {st l : List ℕ} (s : State) {i c : ℕ} {at : Context} where
                   let m = on-macro (p .means (s .top) (q .first) g (q .cell .shown) y) z in
                   let d = a .means (list k ps) (m .value) g u (m .shown) y in
                   rw (q .is, list-means (entries left) left (at .phase) g (scopesOf (at .prunable)) (stateOf s (bindsOf st)) k (q .first) (q .others) (m .is), form-macro (entries left) left (at .phase) g (scopesOf (at .prunable)) (stateOf s (bindsOf st)) k (q .first) (q .others) (m .value))
-                  (same-form left (at .phase) g (scopesOf (at .prunable)) (stateOf s (bindsOf st)) (m .value) k (q .is) (beyond 1 5 0 1 (later-refl l s) (owes-none s) (owes-one s) (omega arith) (omega arith) refl d));
+                  (same-form left (at .phase) g (scopesOf (at .prunable)) (stateOf s (bindsOf st)) (m .value) k (q .is) (beyond 1 cellSize 0 1 (later-refl l s) (owes-none s) (owes-one s) (omega arith) (omega arith) refl d));
             }
 
       module _ {left : ℕ} where
@@ -365,7 +367,7 @@ module _ {left : ℕ} {at : Context} {st st1 l l1 : List ℕ} (s : State) {c : �
         record {
           means = λ k ps g u w y.
               let t = parts-gave ps g w y in
-              beyond 1 5 1 1 (t .later) (owes-one (o .state)) (owes-one s) (omega arith) (omega arith) (then-ok _ (t .is)) (d .means (bindsOf st1) k ps (t .value) (carry u (t .later .kept) (t .later .grows)) (t .shown .rep));
+              beyond 1 cellSize 1 1 (t .later) (owes-one (o .state)) (owes-one s) (omega arith) (omega arith) (then-ok _ (t .is)) (d .means (bindsOf st1) k ps (t .value) (carry u (t .later .kept) (t .later .grows)) (t .shown .rep));
         }
 
 -- ---- parts
@@ -375,7 +377,7 @@ unfolding expandAll fromStxs
 parts-none {left} {at} {st} {l} {s} r h =
     record { means = λ ps g w y. rw (nil-at ps w h) (gives (record { at = 0; state = s }) (record { value = nil; is = refl; shown = record { rep = is-none; few = r .within .held .few }; later = later-refl l s })) }
 
-pub parts-inside : {l st : List ℕ} {s : State} {c : ℕ} {at : Context} → ReadyParts l st s c at → ¬ (c ≡ 0) → c + 5 ≤ length l
+pub parts-inside : {l st : List ℕ} {s : State} {c : ℕ} {at : Context} → ReadyParts l st s c at → ¬ (c ≡ 0) → c + cellSize ≤ length l
 parts-inside r h = omega (arith, first-at (r .parts) (r .shown) h refl .cell .inside, r .within .room .fits)
 
 module _ {st l : List ℕ} {s : State} {c : ℕ} {at : Context} {x : Cell} (h : ¬ (c ≡ 0)) (e : x ≡ getCell l c) where
@@ -399,7 +401,7 @@ module _ {left : ℕ} {at : Context} {st st1 l l1 : List ℕ} {s : State} {i : �
 
   module _ {o : Out} (k : a ≡ Done o) where
     first-gave : (x : Stx) (g : Env) → Rep l (s .top) i (stx x) → RepE l (s .top) (at .meanings) g
-        → Gave objects 1 5 l l1 s (bindsOf st1) (expand left (at .phase) g (scopesOf (at .prunable)) x (stateOf s (bindsOf st))) o
+        → Gave objects 1 cellSize l l1 s (bindsOf st1) (expand left (at .phase) g (scopesOf (at .prunable)) x (stateOf s (bindsOf st))) o
     first-gave x g u y = on-done (v .means x g u y) (ap ended k)
 
     pub pair-rest-ready : {c : ℕ} → ReadyPair l st s i c at → length l1 ≡ length l → length st1 ≡ length st → ReadyRest l1 st1 (o .state) (o .at) c at
@@ -487,7 +489,7 @@ pub scoped-add-ready : {l st : List ℕ} {s : State} {kind thing body : ℕ} {at
 scoped-add-ready r = record { thing = r .object; shown = r .shown-body; room = r .within .room; few = r .within .held .few }
 
 module _ {l l1 : List ℕ} {s : State} {body : ℕ} {h : Stx → Stx} {a : Answer} (v : Changes h l l1 s body a) {o : Out} (e : a ≡ Done o) where
-  added : (b : Store) (y : Stx) → Rep l (s .top) body (stx y) → Gave objects 1 8 l l1 s b (changeRule h y (stateOf s b)) o
+  added : (b : Store) (y : Stx) → Rep l (s .top) body (stx y) → Gave objects 1 nodeSpare l l1 s b (changeRule h y (stateOf s b)) o
   added b y u = on-done (v .means b y u) (ap ended e)
 
   pub scoped-inner-ready : {st : List ℕ} {kind thing : ℕ} {at : Context} → ReadyScoped l st s kind thing body at → length l1 ≡ length l → ReadyInner l1 st (o .state) kind thing (o .at) at
@@ -518,7 +520,7 @@ module _ (at : Context) (d : Scope) {st l l1 : List ℕ} {s : State} {body : ℕ
       record {
         means = λ w y g p u k.
             let t = added v e (bindsOf st) y u in
-            beyond 2 8 1 0 (t .later) (owes-one (o .state)) (owes-none s) (omega arith) (omega arith) (then-ok _ (t .is))
+            beyond 2 nodeSpare 1 0 (t .later) (owes-one (o .state)) (owes-none s) (omega arith) (omega arith) (then-ok _ (t .is))
             (f .means w (t .value) g (carryM p (t .later .kept) (t .later .grows)) (t .shown .rep) (carryE k (t .later .kept) (t .later .grows)));
       }
 
@@ -527,7 +529,7 @@ module _ (at : Context) (d : Scope) {st l l1 : List ℕ} {s : State} {body : ℕ
 pub inner-less : (s : State) {t : State} {n T : ℕ} → t ≡ raisedTo n s → s .units * 32 + 14 ≡ T → t .units * 32 < T
 inner-less s e z = omega (arith, ap (λ (y : State). y .units) e)
 
-pub inner-roomy : {l st : List ℕ} {s : State} {kind thing body : ℕ} {at : Context} → ReadyInner l st s kind thing body at → Roomy l (s .top) 5
+pub inner-roomy : {l st : List ℕ} {s : State} {kind thing body : ℕ} {at : Context} → ReadyInner l st s kind thing body at → Roomy l (s .top) cellSize
 inner-roomy r = record { fits = omega (arith, r .cell); small = r .scoped .within .room .small; low = r .scoped .within .room .low }
 
 module _ {l l1 : List ℕ} {s : State} {n : Name} {kind thing : ℕ} {at : Context} {k : Made} (x : Extended l l1 (s .top) (n .0) kind thing (at .meanings) (k .at) (k .top)) {t : State} (e : t ≡ raisedTo (k .top) s) {p : ScopeSet} where
@@ -549,11 +551,11 @@ module _ {l l1 : List ℕ} {s : State} {n : Name} {kind thing : ℕ} {at : Conte
   unfolding unpaid
   inner-expanded {left} {d} {st} {st1} {l2} {body} {q} f a =
       let a2 : Expanded left (record { phase = at .phase; meanings = k .at; prunable = p }) st st1 l1 l2 (raisedTo (k .top) s) body q = rw e at a in
-      let on : Later 1 11 l l1 (unpaid s) (raisedTo (k .top) s) = record { kept = x .kept; grows = omega (arith, x .grows); fits = omega (arith, x .grows); spent = omega arith } in
+      let on : Later 1 cellSpare l l1 (unpaid s) (raisedTo (k .top) s) = record { kept = x .kept; grows = omega (arith, x .grows); fits = omega (arith, x .grows); spent = omega arith } in
       record {
         means = λ w y g z u v.
             let b = a2 .means y (m.extend (n .0) w g) (carry u (x .kept) (omega (arith, x .grows))) (x .means w g z v) in
-            since 2 16 on (omega arith) (omega arith)
+            since 2 unitSize on (omega arith) (omega arith)
             (ap (λ (c : Scopes). expand left (at .phase) (m.extend (n .0) w g) c y (stateOf s (bindsOf st))) (sym f)) b;
       }
 
@@ -628,7 +630,7 @@ module _ {st l : List ℕ} (s : State) {i head id body : ℕ} {at : Context} (r 
         record { means = λ k qs h c x y g u w a b t. stops _ (function-split (entries left) left (at .phase) g (scopesOf (at .prunable)) (stateOf s (bindsOf st)) k h c x y ∙ then-no _ (on-refused (v .means c x a) (ap boundOf e))) }
 
     module _ {o : Binder} (e : z ≡ bounds.Done o) where
-      bound-to : (c : Sets) (x : ℕ) → Rep l (s .top) id (stx (atom c (symbol x))) → Gave (binders x) 1 8 l l1 s (bindsOf st1) (bindFresh (at .phase) c x (stateOf s (bindsOf st))) o
+      bound-to : (c : Sets) (x : ℕ) → Rep l (s .top) id (stx (atom c (symbol x))) → Gave (binders x) 1 nodeSpare l l1 s (bindsOf st1) (bindFresh (at .phase) c x (stateOf s (bindsOf st))) o
       bound-to c x a = on-done (v .means c x a) (ap boundOf e)
 
       pub function-declared : Declared (o .scope)
@@ -669,7 +671,7 @@ module _ {st l : List ℕ} (s : State) {i head id body : ℕ} {at : Context} (r 
                 let named : abstractionRule (entries left) (at .phase) g (scopesOf (at .prunable)) k h (j .value .name) (j .value .scope) (j .value .sets) x y (stateOf (o .state) (bindsOf st1))
                 ≡ abstractionRule (entries left) (at .phase) g (scopesOf (at .prunable)) k h (o .name .0) (o .scope .0) (j .value .sets) x y (stateOf (o .state) (bindsOf st1)) =
                 λ n. abstractionRule (entries left) (at .phase) g (scopesOf (at .prunable)) k h ((sym (j .shown .name)) n) ((sym (j .shown .scope)) n) (j .value .sets) x y (stateOf (o .state) (bindsOf st1)) in
-                beyond 1 5 2 1 (j .later) (owes-two (o .state)) (owes-one s) (omega arith) (omega arith)
+                beyond 1 cellSize 2 1 (j .later) (owes-two (o .state)) (owes-one s) (omega arith) (omega arith)
                 (function-split (entries left) left (at .phase) g (scopesOf (at .prunable)) (stateOf s (bindsOf st)) k h c x y ∙ then-ok _ (j .is) ∙ named) d;
           }
 
@@ -686,7 +688,7 @@ module _ {left : ℕ} {at : Context} {st st1 l l1 : List ℕ} {s : State} {n d i
 
   module _ {o : Out} (e : a ≡ Done o) where
     scoped-to : (c : Sets) (x : ℕ) (y : Stx) (g : Env) → Rep l (s .top) id (stx (atom c (symbol x))) → Rep l (s .top) body (stx y) → RepE l (s .top) (at .meanings) g
-        → Gave objects 2 8 l l1 s (bindsOf st1) (scopedRule (entries left) (at .phase) g (scopesOf (at .prunable)) n d (variable c x) y (stateOf s (bindsOf st))) o
+        → Gave objects 2 nodeSpare l l1 s (bindsOf st1) (scopedRule (entries left) (at .phase) g (scopesOf (at .prunable)) n d (variable c x) y (stateOf s (bindsOf st))) o
     scoped-to c x y g p b t = on-done (v .means (variable c x) y g (meant-variable p) b t) (ap ended e)
 
     pub abstraction-three-ready : {i head : ℕ} → ReadyAbstraction l st s i head id body at → length l1 ≡ length l → ReadyThree l1 (o .state) i head id (o .at)
@@ -714,7 +716,7 @@ module _ {left : ℕ} {at : Context} {st st1 l l1 : List ℕ} {s : State} {n d i
         record {
           means = λ k qs h c x y g u w p b t.
               let j = scoped-to c x y g p b t in
-              beyond 2 17 2 2 (j .later) (owes-two (o .state)) (owes-two s) (omega arith) (omega arith) (then-ok _ (j .is))
+              beyond 2 (nodeSpare + tripleSpare) 2 2 (j .later) (owes-two (o .state)) (owes-two s) (omega arith) (omega arith) (then-ok _ (j .is))
               (f .means (bindsOf st1) k qs h (atom c (symbol x)) (j .value) (carry u (j .later .kept) (j .later .grows)) (carry w (j .later .kept) (j .later .grows)) (carry p (j .later .kept) (j .later .grows)) (j .shown .rep));
         }
 
@@ -763,7 +765,7 @@ module _ {st l : List ℕ} (s : State) {tail : ℕ} {at : Context} where
                     let q = on-three (h .means (s .top) ps w) e in
                     let n = is-identifier (q .first) (sym (f .means (s .top) (q .first) (q .shown)) ∙ t) in
                     let y = p .means (n .sets) (n .symb) (q .second) (q .third) g (rw (n .is) at (q .shown)) (q .shown-second) (q .shown-third) k in
-                    rw (q .is, n .is) (beyond 1 5 0 1 (later-refl l s) (owes-none s) (owes-one s) (omega arith) (omega arith) refl y);
+                    rw (q .is, n .is) (beyond 1 cellSize 0 1 (later-refl l s) (owes-none s) (owes-one s) (omega arith) (omega arith) refl y);
               }
 
 -- ---- binding
@@ -778,7 +780,7 @@ module _ {st l : List ℕ} {s : State} {id right body : ℕ} {at : Context} (r :
         record { means = λ c x u y g a b w k. stops _ (binding-split (entries left) left (at .phase) g (scopesOf (at .prunable)) (stateOf s (bindsOf st)) c x u y ∙ then-no _ (on-refused (v .means c x a) (ap boundOf e))) }
 
     module _ {o : Binder} (e : z ≡ bounds.Done o) where
-      let-bound : (c : Sets) (x : ℕ) → Rep l (s .top) id (stx (atom c (symbol x))) → Gave (binders x) 1 8 l l1 s (bindsOf st1) (bindFresh (at .phase) c x (stateOf s (bindsOf st))) o
+      let-bound : (c : Sets) (x : ℕ) → Rep l (s .top) id (stx (atom c (symbol x))) → Gave (binders x) 1 nodeSpare l l1 s (bindsOf st1) (bindFresh (at .phase) c x (stateOf s (bindsOf st))) o
       let-bound c x a = on-done (v .means c x a) (ap boundOf e)
 
       pub binding-declared : Declared (o .scope)
@@ -807,7 +809,7 @@ module _ {st l : List ℕ} {s : State} {id right body : ℕ} {at : Context} (r :
                 let named : rhsRule (entries left) left (at .phase) g (scopesOf (at .prunable)) (j .value .name) (j .value .scope) u y (stateOf (o .state) (bindsOf st1))
                 ≡ rhsRule (entries left) left (at .phase) g (scopesOf (at .prunable)) (o .name .0) (o .scope .0) u y (stateOf (o .state) (bindsOf st1)) =
                 λ n. rhsRule (entries left) left (at .phase) g (scopesOf (at .prunable)) ((sym (j .shown .name)) n) ((sym (j .shown .scope)) n) u y (stateOf (o .state) (bindsOf st1)) in
-                since 1 5 (j .later) (omega arith) (omega arith)
+                since 1 cellSize (j .later) (omega arith) (omega arith)
                 (binding-split (entries left) left (at .phase) g (scopesOf (at .prunable)) (stateOf s (bindsOf st)) c x u y ∙ then-ok _ (j .is) ∙ named) d;
           }
 
@@ -826,7 +828,7 @@ module _ {st l : List ℕ} {s : State} {right body : ℕ} {at : Context} (r : Re
   rhs-expand-ready = record { thing = r .thing; shown = r .shown; within = record { meant = coreOnly; known = is-core; room = r .within .room; held = r .within .held } }
 
   module _ (f : scopesOf p ≡ 0) {left : ℕ} {st1 l1 : List ℕ} {a : Answer} (v : Expanded left (record { phase = at .phase + 1; meanings = 0; prunable = p }) st st1 l l1 s right a) where
-    above : (u : Stx) → Rep l (s .top) right (stx u) → Agrees objects 1 5 l l1 s (bindsOf st1) (expand left (at .phase + 1) coreOnly 0 u (stateOf s (bindsOf st))) (ended a)
+    above : (u : Stx) → Rep l (s .top) right (stx u) → Agrees objects 1 cellSize l l1 s (bindsOf st1) (expand left (at .phase + 1) coreOnly 0 u (stateOf s (bindsOf st))) (ended a)
     above u w = rw f at (v .means u coreOnly w is-core)
 
     starts : (g : Env) (n d : ℕ) (u y : Stx) → rhsRule (entries left) left (at .phase) g (scopesOf (at .prunable)) n d u y (stateOf s (bindsOf st))
@@ -838,7 +840,7 @@ module _ {st l : List ℕ} {s : State} {right body : ℕ} {at : Context} (r : Re
     rhs-refused {n} {d} e = record { means = λ u y g w b k. stops _ (starts g n d u y ∙ then-no _ (on-refused (above u w) (ap ended e))) }
 
     module _ {o : Out} (e : a ≡ Done o) where
-      right-to : (u : Stx) → Rep l (s .top) right (stx u) → Gave objects 1 5 l l1 s (bindsOf st1) (expand left (at .phase + 1) coreOnly 0 u (stateOf s (bindsOf st))) o
+      right-to : (u : Stx) → Rep l (s .top) right (stx u) → Gave objects 1 cellSize l l1 s (bindsOf st1) (expand left (at .phase + 1) coreOnly 0 u (stateOf s (bindsOf st))) o
       right-to u w = on-done (above u w) (ap ended e)
 
       pub rhs-less : {T : ℕ} → s .units * 32 + 18 ≡ T → o .state .units * 32 + 16 < T
@@ -863,7 +865,7 @@ module _ {st l : List ℕ} {s : State} {right body : ℕ} {at : Context} (r : Re
           record {
             means = λ u y g w b k.
                 let j = right-to u w in
-                since 1 5 (j .later) (omega arith) (omega arith) (starts g n d u y ∙ then-ok _ (j .is))
+                since 1 cellSize (j .later) (omega arith) (omega arith) (starts g n d u y ∙ then-ok _ (j .is))
                 (c .means (j .value) y g (j .shown .rep) (carry b (j .later .kept) (j .later .grows)) (carryE k (j .later .kept) (j .later .grows)));
           }
 
@@ -882,7 +884,7 @@ module _ {st l : List ℕ} {s : State} {right body : ℕ} {at : Context} (r : Re
     defined-refused e = record { means = λ u y g w b k. stops _ (then-no _ (on-refused (v .means u w) (ap ended e))) }
 
     module _ {o : Out} (e : a ≡ Done o) where
-      value-to : (u : Stx) → Rep l (s .top) right (stx u) → Gave trees 1 5 l l1 s (bindsOf st) (valueRule left (at .phase + 1) u (stateOf s (bindsOf st))) o
+      value-to : (u : Stx) → Rep l (s .top) right (stx u) → Gave trees 1 cellSize l l1 s (bindsOf st) (valueRule left (at .phase + 1) u (stateOf s (bindsOf st))) o
       value-to u w = on-done (v .means u w) (ap ended e)
 
       pub defined-scoped-ready : length l1 ≡ length l → ReadyScoped l1 st (o .state) 1 (o .at) body at
@@ -905,7 +907,7 @@ module _ {st l : List ℕ} {s : State} {right body : ℕ} {at : Context} (r : Re
           record {
             means = λ u y g w b k.
                 let j = value-to u w in
-                since 1 5 (j .later) (omega arith) (omega arith) (then-ok _ (j .is))
+                since 1 cellSize (j .later) (omega arith) (omega arith) (then-ok _ (j .is))
                 (c .means (macro (j .value)) y g (meant-macro (j .shown .rep)) (carry b (j .later .kept) (j .later .grows)) (carryE k (j .later .kept) (j .later .grows)));
           }
 
@@ -921,7 +923,7 @@ module _ {st l : List ℕ} {s : State} {i w : ℕ} {at : Context} (r : ReadyMacr
         record { means = λ x t g a b k. stops _ (macro-split (entries left) left (at .phase) g (scopesOf (at .prunable)) (stateOf s (bindsOf st)) t x ∙ then-no _ (on-refused (v .means (bindsOf st) x a) (ap markingOf e))) }
 
     module _ {o : Mark} (e : z ≡ marking.Done o) where
-      marked-to : (b : Store) (x : Stx) → Rep l (s .top) i (stx x) → Gave marks 1 8 l l1 s b (markRule (at .phase) x (stateOf s b)) o
+      marked-to : (b : Store) (x : Stx) → Rep l (s .top) i (stx x) → Gave marks 1 nodeSpare l l1 s b (markRule (at .phase) x (stateOf s b)) o
       marked-to b x a = on-done (v .means b x a) (ap markingOf e)
 
       pub macro-declared : Declared (o .intro)
@@ -950,7 +952,7 @@ module _ {st l : List ℕ} {s : State} {i w : ℕ} {at : Context} (r : ReadyMacr
                 let named : rewrittenRule (entries left) left (at .phase) g (scopesOf (at .prunable)) t (j .value .intro) (j .value .object) (stateOf (o .state) (bindsOf st))
                 ≡ rewrittenRule (entries left) left (at .phase) g (scopesOf (at .prunable)) t (o .intro .0) (j .value .object) (stateOf (o .state) (bindsOf st)) =
                 λ n. rewrittenRule (entries left) left (at .phase) g (scopesOf (at .prunable)) t ((sym (j .shown .intro)) n) (j .value .object) (stateOf (o .state) (bindsOf st)) in
-                since 1 5 (j .later) (omega arith) (omega arith)
+                since 1 cellSize (j .later) (omega arith) (omega arith)
                 (macro-split (entries left) left (at .phase) g (scopesOf (at .prunable)) (stateOf s (bindsOf st)) t x ∙ then-ok _ (j .is) ∙ named) d;
           }
 
@@ -966,7 +968,7 @@ module _ {st l : List ℕ} {s : State} {w form : ℕ} {at : Context} (r : ReadyR
     rewritten-refused e = record { means = λ x t g b c y. stops _ (then-no _ (on-refused (v .means (bindsOf st) t x b c) (ap ended e))) }
 
     module _ {o : Out} (e : a ≡ Done o) where
-      made-to : (b : Store) (t : Tree) (x : Stx) → Rep l (s .top) w t → Rep l (s .top) form (stx x) → Gave objects 1 8 l l1 s b (transcribeRule left (at .phase) k t x (stateOf s b)) o
+      made-to : (b : Store) (t : Tree) (x : Stx) → Rep l (s .top) w t → Rep l (s .top) form (stx x) → Gave objects 1 nodeSpare l l1 s b (transcribeRule left (at .phase) k t x (stateOf s b)) o
       made-to b t x p q = on-done (v .means b t x p q) (ap ended e)
 
       pub rewritten-expand-ready : length l1 ≡ length l → Ready l1 st (o .state) (o .at) at
@@ -983,7 +985,7 @@ module _ {st l : List ℕ} {s : State} {w form : ℕ} {at : Context} (r : ReadyR
           record {
             means = λ x t g b c y.
                 let j = made-to (bindsOf st) t x b c in
-                since 1 5 (j .later) (omega arith) (omega arith) (then-ok _ (j .is)) (f .means (j .value) g (j .shown .rep) (carryE y (j .later .kept) (j .later .grows)));
+                since 1 cellSize (j .later) (omega arith) (omega arith) (then-ok _ (j .is)) (f .means (j .value) g (j .shown .rep) (carryE y (j .later .kept) (j .later .grows)));
           }
 
 pub ruleset laws = (

@@ -55,9 +55,11 @@ use Rattle.expand.specs.Leaves.{Within, ReadyName, nameRule, ExpandedNam
 use Rattle.expand.specs.declared.Context.{Context}
 use Rattle.expand.proofs.Keeping.{evaluate-keeps}
 use Rattle.expand.proofs.Agreeing.{Owed, beyond}
+use Rattle.table.specs.Sizes.{cellSize, nodeSize, nodeSpare, unitSize}
+use Rattle.store.specs.Sizes.{bindingSize}
 
 -- an entry that makes nothing
-unmade : (l : List ℕ) (s : State) → Later 1 5 l l (unpaid s) s
+unmade : (l : List ℕ) (s : State) → Later 1 cellSize l l (unpaid s) s
 unfolding unpaid
 unmade l s = record { kept = later-refl l s .kept; grows = omega arith; fits = omega arith; spent = omega arith }
 
@@ -87,7 +89,7 @@ module _ {l st : List ℕ} (s : State) {i : ℕ} {at : Context} (r : ReadyName l
   unfolding unpaid
   name-known = record { top = s .top; thing = r .within .meant; shown = r .within .known; inside = omega (arith, r .within .room .fits); small = r .within .room .small }
 
-  pub name-held : s .bindings * 3 ≤ length st
+  pub name-held : s .bindings * bindingSize ≤ length st
   unfolding unpaid
   name-held = omega (arith, r .within .held .few, r .within .held .wide)
 
@@ -191,7 +193,7 @@ module _ {l : List ℕ} (s : State) {i head x : ℕ} (r : ReadyPruned l (unpaid 
     prune-refused e = record { means = λ b k qs h y u w z. stops _ (then-no _ (on-refused (v .means b y z) (ap ended e))) }
 
     module _ {o : Out} (e : a ≡ Done o) where
-      pruned-to : (b : Store) (y : Stx) → Rep l (s .top) x (stx y) → Gave objects 1 8 l l1 s b (changeRule (pruneScopes p ph) y (stateOf s b)) o
+      pruned-to : (b : Store) (y : Stx) → Rep l (s .top) x (stx y) → Gave objects 1 nodeSpare l l1 s b (changeRule (pruneScopes p ph) y (stateOf s b)) o
       pruned-to b y w = on-done (v .means b y w) (ap ended e)
 
       pub prune-two : length l1 ≡ length l → ReadyTwo l1 (o .state) i head (o .at)
@@ -218,12 +220,12 @@ module _ {l : List ℕ} (s : State) {i head x : ℕ} (r : ReadyPruned l (unpaid 
             means = λ b k qs h y u w z.
                 let g = pruned-to b y z in
                 let t = d .means b k qs h (g .value) (carry u (g .later .kept) (g .later .grows)) (carry w (g .later .kept) (g .later .grows)) (g .shown .rep) in
-                beyond 1 5 2 1 (g .later) (owes-two (o .state)) (owes-one s) (omega arith) (omega arith) (then-ok _ (g .is)) t;
+                beyond 1 cellSize 2 1 (g .later) (owes-two (o .state)) (owes-one s) (omega arith) (omega arith) (then-ok _ (g .is)) t;
           }
 
 -- ---- values
 
-few-after : (s : State) (o : Out) (st : List ℕ) (d : ℕ) (t : Tree) {v : Tree} → s .bindings ≤ 128 → evaluate d t (stateOf s (bindsOf st)) ≡ ok v (stateOf (o .state) (bindsOf st)) → o .state .bindings ≤ 128
+few-after : (s : State) (o : Out) (st : List ℕ) (d : ℕ) (t : Tree) {v : Tree} → s .bindings ≤ 512 → evaluate d t (stateOf s (bindsOf st)) ≡ ok v (stateOf (o .state) (bindsOf st)) → o .state .bindings ≤ 512
 few-after s o st d t {v} h e =
     let k : bindsOf st (o .state .bindings) ≡ bindsOf st (s .bindings) = evaluate-keeps d t .kept (stateOf s (bindsOf st)) (stateOf (o .state) (bindsOf st)) v e in
     let n : length (bindsOf st (o .state .bindings)) ≡ length (bindsOf st (s .bindings)) = ap length k in
@@ -238,7 +240,7 @@ module _ {left ph : ℕ} {st l l1 : List ℕ} {s : State} {i : ℕ} {a : Answer}
   value-refused e = record { means = λ x w. stops _ (then-no _ (on-refused (v .means x w) (ap ended e))) }
 
   module _ {o : Out} (e : a ≡ Done o) where
-    parsed-to : (x : Stx) → Rep l (s .top) i (stx x) → Gave trees 1 5 l l1 s (bindsOf st) (parse left ph x (stateOf s (bindsOf st))) o
+    parsed-to : (x : Stx) → Rep l (s .top) i (stx x) → Gave trees 1 cellSize l l1 s (bindsOf st) (parse left ph x (stateOf s (bindsOf st))) o
     parsed-to x w = on-done (v .means x w) (ap ended e)
 
     pub value-evaluate : ReadyValue l st s i → length l1 ≡ length l → agr.Ready Rep l1 (o .state) (o .at)
@@ -247,8 +249,8 @@ module _ {left ph : ℕ} {st l l1 : List ℕ} {s : State} {i : ℕ} {a : Answer}
         record { thing = g .value; shown = g .shown .rep; room = room-later (r .room) (g .later) len }
 
     -- with what is known of bindings
-    as-tree : (t : Tree) {s1 : State} {l2 : List ℕ} {q : agr.Ended Out} → s1 .bindings ≤ 128
-        → Agrees (agr.placed Rep) 1 16 l1 l2 s1 (bindsOf st) (evaluate left t (stateOf s1 (bindsOf st))) q → Agrees trees 1 16 l1 l2 s1 (bindsOf st) (evaluate left t (stateOf s1 (bindsOf st))) q
+    as-tree : (t : Tree) {s1 : State} {l2 : List ℕ} {q : agr.Ended Out} → s1 .bindings ≤ 512
+        → Agrees (agr.placed Rep) 1 unitSize l1 l2 s1 (bindsOf st) (evaluate left t (stateOf s1 (bindsOf st))) q → Agrees trees 1 unitSize l1 l2 s1 (bindsOf st) (evaluate left t (stateOf s1 (bindsOf st))) q
     as-tree t {s1} h (gives p g) = gives p (record { value = g .value; is = g .is; shown = record { rep = g .shown; few = few-after s1 p st left t h (g .is) }; later = g .later })
     as-tree t h (stops f g) = stops f g
 
@@ -258,7 +260,7 @@ module _ {left ph : ℕ} {st l l1 : List ℕ} {s : State} {i : ℕ} {a : Answer}
         record {
           means = λ x w.
               let g = parsed-to x w in
-              since 1 5 (g .later) (omega arith) (omega arith) (then-ok _ (g .is)) (as-tree (g .value) (g .shown .few) (d .means (bindsOf st) (g .value) (g .shown .rep)));
+              since 1 cellSize (g .later) (omega arith) (omega arith) (then-ok _ (g .is)) (as-tree (g .value) (g .shown .few) (d .means (bindsOf st) (g .value) (g .shown .rep)));
         }
 
 -- ---- back from a macro's use
@@ -286,7 +288,7 @@ is-syntax (is-lst a q r) e h = absurd (omega (arith, tag-is e q))
 is-syntax (is-atom {s = c} {a = x} a q y) e h = record { it = atom c x; is = refl }
 is-syntax (is-list {s = c} {ps = ps} a q y r) e h = record { it = list c ps; is = refl }
 
-pub back-inside : {l : List ℕ} {s : State} {i : ℕ} → ReadyBack l s i → i + 8 ≤ length l
+pub back-inside : {l : List ℕ} {s : State} {i : ℕ} → ReadyBack l s i → i + nodeSize ≤ length l
 back-inside r = omega (arith, below (r .shown), r .room .fits)
 
 module _ {l : List ℕ} {s : State} {i : ℕ} {o : Node} (e : o ≡ getNode l i) where
@@ -313,7 +315,7 @@ module _ {left : ℕ} {l l1 : List ℕ} {s : State} {v form : ℕ} {a : Answer} 
   apply-refused e = record { means = λ b t x u w. stops _ (then-no _ (on-refused (d .means b t (stx x) u w) (ap ended e))) }
 
   module _ {o : Out} (e : a ≡ Done o) where
-    applied-to : (b : Store) (t : Tree) (x : Stx) → Rep l (s .top) v t → Rep l (s .top) form (stx x) → Gave (agr.placed Rep) 1 16 l l1 s b (evaluate left (app t (tcons (stx x) tnil)) (stateOf s b)) o
+    applied-to : (b : Store) (t : Tree) (x : Stx) → Rep l (s .top) v t → Rep l (s .top) form (stx x) → Gave (agr.placed Rep) 1 unitSize l l1 s b (evaluate left (app t (tcons (stx x) tnil)) (stateOf s b)) o
     applied-to b t x u w = on-done (d .means b t (stx x) u w) (ap ended e)
 
     pub apply-back : ReadyTranscribed l s v form → length l1 ≡ length l → ReadyBack l1 (o .state) (o .at)
@@ -329,7 +331,7 @@ module _ {left : ℕ} {l l1 : List ℕ} {s : State} {v form : ℕ} {a : Answer} 
     pub apply-done : {ph k : ℕ} {l2 : List ℕ} {q : Answer} → Backs ph k l1 l2 (o .state) (o .at) q → Transcribes left ph k l l2 s v form q
     unfolding transcribeRule
     apply-done f =
-        record { means = λ b t x u w. let g = applied-to b t x u w in since 1 8 (g .later) (omega arith) (omega arith) (then-ok _ (g .is)) (f .means b (g .value) (g .shown)) }
+        record { means = λ b t x u w. let g = applied-to b t x u w in since 1 nodeSpare (g .later) (omega arith) (omega arith) (then-ok _ (g .is)) (f .means b (g .value) (g .shown)) }
 
 pub ruleset laws = (
   name-seen,

@@ -34,16 +34,17 @@ use Rattle.steps.proofs.Laws.{then-ok, then-no, unless-ok, unless-no, since}
 use Rattle.parse.specs.Parsing.{unpaid}
 use Rattle.scoping.specs.Changing.{ShownObject, objects}
 use Rattle.expand.specs.Making.{Relistable, Relisted, Chainable, Chained, ReadyList, Lists, ReadyTwo, TwoLists, ReadyThree, ThreeLists}
+use Rattle.table.specs.Sizes.{cellSize, nodeSize, tripleSpare, unitSize}
 
 -- ---- relist
 
 sets-at : {l : List ℕ} {top i : ℕ} {k : Sets} {ps : Stxs} → Rep l top i (stx (list k ps)) → setsOf (getSets l i) ≡ k
 sets-at (is-list a q y r) = y
 
-pub relist-inside : {l : List ℕ} {top i : ℕ} → Relistable l top i → i + 8 ≤ length l
+pub relist-inside : {l : List ℕ} {top i : ℕ} → Relistable l top i → i + nodeSize ≤ length l
 relist-inside r = omega (arith, below (r .shown), r .room .fits)
 
-pub relist-room : {l : List ℕ} {top i : ℕ} → Relistable l top i → Roomy l top 8
+pub relist-room : {l : List ℕ} {top i : ℕ} → Relistable l top i → Roomy l top nodeSize
 relist-room r = r .room
 
 pub relisted : {l l1 : List ℕ} {top i c at top1 : ℕ} {d : tb.Sets} → d ≡ getSets l i → StoredObject l l1 top (record { tag = listTag; content = c }) d at top1 → Relisted l l1 top i c at top1
@@ -189,11 +190,11 @@ module _ {l : List ℕ} {s : State} {i a c f : ℕ} (r : ReadyThree l s i a c f)
       unfolding unpaid
       three-made {l3} {q} d =
           let d2 : Lists l2 l3 (raisedTo (n .top) s) i (n .at) q = rw e at d in
-          let on : Later 1 1 l l2 (unpaid (unpaid s)) (unpaid (raisedTo (n .top) s)) =
+          let on : Later 1 (unitSize - 3 * cellSize) l l2 (unpaid (unpaid s)) (unpaid (raisedTo (n .top) s)) =
           record { kept = below-kept; grows = omega (arith, k .grows, j .grows); fits = omega (arith, k .grows, j .grows); spent = omega arith } in
           record {
             means = λ b h qs x y z u v w o.
-                since 2 9 on (omega arith) (omega arith) refl
+                since 2 tripleSpare on (omega arith) (omega arith) refl
                 (d2 .means b h qs (cons x (cons y (cons z nil))) (carry u below-kept (omega (arith, k .grows, j .grows))) (linked-parts x y z v w o));
           }
 

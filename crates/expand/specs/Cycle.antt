@@ -24,6 +24,7 @@ use Rattle.scoping.specs.Changing.{objects}
 use Rattle.scoping.specs.Fresh.{Marked}
 use Rattle.expand.specs.Leaves.{Within, valueRule, transcribeRule}
 use Rattle.expand.specs.declared.Context.{Context}
+use Rattle.table.specs.Sizes.{cellSize, cellSpare, nodeSpare, tripleSpare, unitSize}
 
 abbrev pub entries : ℕ → Expander
 entries left = λ q f r x. expand left q f r x
@@ -32,7 +33,7 @@ entries left = λ q f r x. expand left q f r x
 
 pub record ShownParts (l : List ℕ) (o : Out) (ps : Stxs) : Type 0 where
   pub rep : RepP l (o .state .top) (o .at) (fromStxs ps)
-  pub few : o .state .bindings ≤ 128
+  pub few : o .state .bindings ≤ 512
 
 abbrev pub partsOf : Shape Stxs Out
 partsOf = record { shows = λ l o ps. ShownParts l o ps; state = λ o. o .state }
@@ -59,7 +60,7 @@ pub record ReadyPair (l st : List ℕ) (s : State) (i c : ℕ) (at : Context) : 
 -- the first part done, with a cell's room
 pub record ReadyRest (l st : List ℕ) (s : State) (i c : ℕ) (at : Context) : Type 0 where
   pub pair : ReadyPair l st s i c at
-  pub cell : end s + 5 ≤ length l
+  pub cell : end s + cellSize ≤ length l
 
 -- a list and its chain
 pub record ReadyChain (l st : List ℕ) (s : State) (i c : ℕ) (at : Context) : Type 0 where
@@ -100,7 +101,7 @@ pub record ReadyFunction (l st : List ℕ) (s : State) (i head id body : ℕ) (a
 -- with what the units of the entry and the binder have left
 pub record ReadyAbstraction (l st : List ℕ) (s : State) (i head id body : ℕ) (at : Context) : Type 0 where
   pub function : ReadyFunction l st s i head id body at
-  pub free : end s + 24 ≤ length l
+  pub free : end s + (unitSize + nodeSpare) ≤ length l
 
 pub record ReadyScoped (l st : List ℕ) (s : State) (kind thing body : ℕ) (at : Context) : Type 0 where
   pub meaning : Meaning
@@ -112,7 +113,7 @@ pub record ReadyScoped (l st : List ℕ) (s : State) (kind thing body : ℕ) (at
 -- with an entry's room
 pub record ReadyInner (l st : List ℕ) (s : State) (kind thing body : ℕ) (at : Context) : Type 0 where
   pub scoped : ReadyScoped l st s kind thing body at
-  pub cell : end s + 5 ≤ length l
+  pub cell : end s + cellSize ≤ length l
 
 pub record ReadyBinding (l st : List ℕ) (s : State) (id right body : ℕ) (at : Context) : Type 0 where
   pub binder : Sets
@@ -193,19 +194,19 @@ rewrittenRule self d ph e p v k x = do
 module _ (left : ℕ) (at : Context) (st st′ l l′ : List ℕ) (s : State) where
   pub record Expanded (i : ℕ) (r : Answer) : Type 0 where
     pub means : (x : Stx) (e : Env) → Rep l (s .top) i (stx x) → RepE l (s .top) (at .meanings) e
-        → Agrees objects 1 5 l l′ s (bindsOf st′) (expand left (at .phase) e (scopesOf (at .prunable)) x (stateOf s (bindsOf st))) (ended r)
+        → Agrees objects 1 cellSize l l′ s (bindsOf st′) (expand left (at .phase) e (scopesOf (at .prunable)) x (stateOf s (bindsOf st))) (ended r)
 
   pub record ExpandedEntry (i : ℕ) (r : Answer) : Type 0 where
     pub means : (x : Stx) (e : Env) → Rep l (s .top) i (stx x) → RepE l (s .top) (at .meanings) e
-        → Agrees objects 1 5 l l′ (unpaid s) (bindsOf st′) (expandEntry (entries left) left (at .phase) e (scopesOf (at .prunable)) x (stateOf s (bindsOf st))) (ended r)
+        → Agrees objects 1 cellSize l l′ (unpaid s) (bindsOf st′) (expandEntry (entries left) left (at .phase) e (scopesOf (at .prunable)) x (stateOf s (bindsOf st))) (ended r)
 
   pub record ExpandedList (i c : ℕ) (r : Answer) : Type 0 where
     pub means : (k : Sets) (ps : Stxs) (e : Env) → Rep l (s .top) i (stx (list k ps)) → RepP l (s .top) c (fromStxs ps) → RepE l (s .top) (at .meanings) e
-        → Agrees objects 1 5 l l′ (unpaid s) (bindsOf st′) (expandEntry (entries left) left (at .phase) e (scopesOf (at .prunable)) (list k ps) (stateOf s (bindsOf st))) (ended r)
+        → Agrees objects 1 cellSize l l′ (unpaid s) (bindsOf st′) (expandEntry (entries left) left (at .phase) e (scopesOf (at .prunable)) (list k ps) (stateOf s (bindsOf st))) (ended r)
 
   pub record ExpandedApplication (i c : ℕ) (r : Answer) : Type 0 where
     pub means : (k : Sets) (ps : Stxs) (e : Env) → Rep l (s .top) i (stx (list k ps)) → RepP l (s .top) c (fromStxs ps) → RepE l (s .top) (at .meanings) e
-        → Agrees objects 1 5 l l′ (unpaid s) (bindsOf st′) (expandApplication (entries left) (at .phase) e (scopesOf (at .prunable)) k ps (stateOf s (bindsOf st))) (ended r)
+        → Agrees objects 1 cellSize l l′ (unpaid s) (bindsOf st′) (expandApplication (entries left) (at .phase) e (scopesOf (at .prunable)) k ps (stateOf s (bindsOf st))) (ended r)
 
   pub record ExpandedParts (c : ℕ) (r : Answer) : Type 0 where
     pub means : (ps : Stxs) (e : Env) → RepP l (s .top) c (fromStxs ps) → RepE l (s .top) (at .meanings) e
@@ -215,54 +216,54 @@ module _ (left : ℕ) (at : Context) (st st′ l l′ : List ℕ) (s : State) wh
     pub means : (x : Stx) (ps : Stxs) (e : Env) → Rep l (s .top) i (stx x) → RepP l (s .top) c (fromStxs ps) → RepE l (s .top) (at .meanings) e
         → Agrees partsOf 0 0 l l′ s (bindsOf st′) (expandAll (entries left (at .phase) e (scopesOf (at .prunable))) (cons x ps) (stateOf s (bindsOf st))) (ended r)
 
-  -- the cell's 5 words are not paid for here
+  -- the cell's words are not paid for here
   pub record ExpandedRest (i c : ℕ) (r : Answer) : Type 0 where
     pub means : (x : Stx) (ps : Stxs) (e : Env) → Rep l (s .top) i (stx x) → RepP l (s .top) c (fromStxs ps) → RepE l (s .top) (at .meanings) e
-        → Agrees partsOf 1 11 l l′ (unpaid s) (bindsOf st′) (restRule (entries left (at .phase) e (scopesOf (at .prunable))) x ps (stateOf s (bindsOf st))) (ended r)
+        → Agrees partsOf 1 cellSpare l l′ (unpaid s) (bindsOf st′) (restRule (entries left (at .phase) e (scopesOf (at .prunable))) x ps (stateOf s (bindsOf st))) (ended r)
 
   pub record ExpandedLambda (i head tail : ℕ) (r : Answer) : Type 0 where
     pub means : (k : Sets) (h : Stx) (ps : Stxs) (e : Env) → Rep l (s .top) i (stx (list k (cons h ps))) → Rep l (s .top) head (stx h) → RepP l (s .top) tail (fromStxs ps) → RepE l (s .top) (at .meanings) e
-        → Agrees objects 1 5 l l′ (unpaid s) (bindsOf st′) (expandLambda (entries left) (at .phase) e (scopesOf (at .prunable)) k h ps (stateOf s (bindsOf st))) (ended r)
+        → Agrees objects 1 cellSize l l′ (unpaid s) (bindsOf st′) (expandLambda (entries left) (at .phase) e (scopesOf (at .prunable)) k h ps (stateOf s (bindsOf st))) (ended r)
 
   pub record ExpandedFunction (i head id body : ℕ) (r : Answer) : Type 0 where
     pub means : (k : Sets) (qs : Stxs) (h : Stx) (c : Sets) (x : ℕ) (y : Stx) (e : Env) → Rep l (s .top) i (stx (list k qs)) → Rep l (s .top) head (stx h) → Rep l (s .top) id (stx (atom c (symbol x))) → Rep l (s .top) body (stx y)
         → RepE l (s .top) (at .meanings) e
-        → Agrees objects 1 5 l l′ (unpaid s) (bindsOf st′) (expandFunction (entries left) (at .phase) e (scopesOf (at .prunable)) k h c x y (stateOf s (bindsOf st))) (ended r)
+        → Agrees objects 1 cellSize l l′ (unpaid s) (bindsOf st′) (expandFunction (entries left) (at .phase) e (scopesOf (at .prunable)) k h c x y (stateOf s (bindsOf st))) (ended r)
 
   pub record ExpandedAbstraction (i head n d binder body : ℕ) (r : Answer) : Type 0 where
     pub means : (k : Sets) (qs : Stxs) (h : Stx) (c : Sets) (x : ℕ) (y : Stx) (e : Env) → Rep l (s .top) i (stx (list k qs)) → Rep l (s .top) head (stx h) → Rep l (s .top) binder (stx (atom c (symbol x))) → Rep l (s .top) body (stx y)
         → RepE l (s .top) (at .meanings) e
-        → Agrees objects 2 17 l l′ (unpaid (unpaid s)) (bindsOf st′) (abstractionRule (entries left) (at .phase) e (scopesOf (at .prunable)) k h n d c x y (stateOf s (bindsOf st))) (ended r)
+        → Agrees objects 2 (nodeSpare + tripleSpare) l l′ (unpaid (unpaid s)) (bindsOf st′) (abstractionRule (entries left) (at .phase) e (scopesOf (at .prunable)) k h n d c x y (stateOf s (bindsOf st))) (ended r)
 
   pub record ExpandedScoped (n d kind thing body : ℕ) (r : Answer) : Type 0 where
     pub means : (w : Meaning) (y : Stx) (e : Env) → Meant l (s .top) kind thing w → Rep l (s .top) body (stx y) → RepE l (s .top) (at .meanings) e
-        → Agrees objects 2 8 l l′ s (bindsOf st′) (scopedRule (entries left) (at .phase) e (scopesOf (at .prunable)) n d w y (stateOf s (bindsOf st))) (ended r)
+        → Agrees objects 2 nodeSpare l l′ s (bindsOf st′) (scopedRule (entries left) (at .phase) e (scopesOf (at .prunable)) n d w y (stateOf s (bindsOf st))) (ended r)
 
-  -- the entry's 5 words are not paid for here
+  -- the entry's words are not paid for here
   pub record ExpandedInner (n d kind thing body : ℕ) (r : Answer) : Type 0 where
     pub means : (w : Meaning) (y : Stx) (e : Env) → Meant l (s .top) kind thing w → Rep l (s .top) body (stx y) → RepE l (s .top) (at .meanings) e
-        → Agrees objects 2 16 l l′ (unpaid s) (bindsOf st′) (expand left (at .phase) (extend n w e) (add d (scopesOf (at .prunable))) y (stateOf s (bindsOf st))) (ended r)
+        → Agrees objects 2 unitSize l l′ (unpaid s) (bindsOf st′) (expand left (at .phase) (extend n w e) (add d (scopesOf (at .prunable))) y (stateOf s (bindsOf st))) (ended r)
 
   pub record ExpandedLetSyntax (tail : ℕ) (r : Answer) : Type 0 where
     pub means : (ps : Stxs) (e : Env) → RepP l (s .top) tail (fromStxs ps) → RepE l (s .top) (at .meanings) e
-        → Agrees objects 1 5 l l′ (unpaid s) (bindsOf st′) (expandLetSyntax (entries left) left (at .phase) e (scopesOf (at .prunable)) ps (stateOf s (bindsOf st))) (ended r)
+        → Agrees objects 1 cellSize l l′ (unpaid s) (bindsOf st′) (expandLetSyntax (entries left) left (at .phase) e (scopesOf (at .prunable)) ps (stateOf s (bindsOf st))) (ended r)
 
   pub record ExpandedBinding (id right body : ℕ) (r : Answer) : Type 0 where
     pub means : (c : Sets) (x : ℕ) (u y : Stx) (e : Env) → Rep l (s .top) id (stx (atom c (symbol x))) → Rep l (s .top) right (stx u) → Rep l (s .top) body (stx y) → RepE l (s .top) (at .meanings) e
-        → Agrees objects 1 5 l l′ s (bindsOf st′) (expandBinding (entries left) left (at .phase) e (scopesOf (at .prunable)) c x u y (stateOf s (bindsOf st))) (ended r)
+        → Agrees objects 1 cellSize l l′ s (bindsOf st′) (expandBinding (entries left) left (at .phase) e (scopesOf (at .prunable)) c x u y (stateOf s (bindsOf st))) (ended r)
 
   pub record ExpandedRhs (n d right body : ℕ) (r : Answer) : Type 0 where
     pub means : (u y : Stx) (e : Env) → Rep l (s .top) right (stx u) → Rep l (s .top) body (stx y) → RepE l (s .top) (at .meanings) e
-        → Agrees objects 1 5 l l′ s (bindsOf st′) (rhsRule (entries left) left (at .phase) e (scopesOf (at .prunable)) n d u y (stateOf s (bindsOf st))) (ended r)
+        → Agrees objects 1 cellSize l l′ s (bindsOf st′) (rhsRule (entries left) left (at .phase) e (scopesOf (at .prunable)) n d u y (stateOf s (bindsOf st))) (ended r)
 
   pub record ExpandedDefined (n d right body : ℕ) (r : Answer) : Type 0 where
     pub means : (u y : Stx) (e : Env) → Rep l (s .top) right (stx u) → Rep l (s .top) body (stx y) → RepE l (s .top) (at .meanings) e
-        → Agrees objects 1 5 l l′ s (bindsOf st′) (definedRule (entries left) left (at .phase) e (scopesOf (at .prunable)) n d u y (stateOf s (bindsOf st))) (ended r)
+        → Agrees objects 1 cellSize l l′ s (bindsOf st′) (definedRule (entries left) left (at .phase) e (scopesOf (at .prunable)) n d u y (stateOf s (bindsOf st))) (ended r)
 
   pub record ExpandedMacro (i v : ℕ) (r : Answer) : Type 0 where
     pub means : (x : Stx) (t : Tree) (e : Env) → Rep l (s .top) i (stx x) → Rep l (s .top) v t → RepE l (s .top) (at .meanings) e
-        → Agrees objects 1 5 l l′ s (bindsOf st′) (expandMacro (entries left) left (at .phase) e (scopesOf (at .prunable)) t x (stateOf s (bindsOf st))) (ended r)
+        → Agrees objects 1 cellSize l l′ s (bindsOf st′) (expandMacro (entries left) left (at .phase) e (scopesOf (at .prunable)) t x (stateOf s (bindsOf st))) (ended r)
 
   pub record ExpandedRewritten (v form k : ℕ) (r : Answer) : Type 0 where
     pub means : (x : Stx) (t : Tree) (e : Env) → Rep l (s .top) v t → Rep l (s .top) form (stx x) → RepE l (s .top) (at .meanings) e
-        → Agrees objects 1 5 l l′ s (bindsOf st′) (rewrittenRule (entries left) left (at .phase) e (scopesOf (at .prunable)) t k x (stateOf s (bindsOf st))) (ended r)
+        → Agrees objects 1 cellSize l l′ s (bindsOf st′) (rewrittenRule (entries left) left (at .phase) e (scopesOf (at .prunable)) t k x (stateOf s (bindsOf st))) (ended r)

@@ -21,6 +21,7 @@ use Rattle.parse.specs.Parsing.{unpaid}
 use Rattle.environment.specs.Meanings.{RepE}
 use Rattle.scoping.specs.Changing.{objects}
 use Rattle.expand.specs.declared.Context.{Context}
+use Rattle.table.specs.Sizes.{cellSize, nodeSpare}
 
 -- ---- an identifier
 
@@ -45,7 +46,7 @@ nameRule ph e c x = do
 
 pub record ExpandedName (at : Context) (st l : List ℕ) (s : State) (i : ℕ) (r : Answer) : Type 0 where
   pub means : (c : Sets) (x : ℕ) (e : Env) → Rep l (s .top) i (stx (atom c (symbol x))) → RepE l (s .top) (at .meanings) e
-      → Agrees objects 1 5 l l (unpaid s) (bindsOf st) (nameRule (at .phase) e c x (stateOf s (bindsOf st))) (ended r)
+      → Agrees objects 1 cellSize l l (unpaid s) (bindsOf st) (nameRule (at .phase) e c x (stateOf s (bindsOf st))) (ended r)
 
 -- ---- quote and syntax: a list, and its parts after the head
 
@@ -57,7 +58,7 @@ pub record ReadyTail (l : List ℕ) (s : State) (i head tail : ℕ) : Type 0 whe
   pub shown-first : Rep l (s .top) head (stx first)
   pub chain : RepP l (s .top) tail (fromStxs others)
   pub room : Room l s
-  pub few : s .bindings ≤ 128
+  pub few : s .bindings ≤ 512
 
 unfoldable pub quoteRule : Stx → Stxs → Step Stx
 unfolding parts1
@@ -65,11 +66,11 @@ quoteRule x l = parts1 l (λ s. done x)
 
 pub record ExpandedQuote (l : List ℕ) (s : State) (i tail : ℕ) (r : Answer) : Type 0 where
   pub means : (b : Store) (x : Stx) (ps : Stxs) → Rep l (s .top) i (stx x) → RepP l (s .top) tail (fromStxs ps)
-      → Agrees objects 1 5 l l (unpaid s) b (quoteRule x ps (stateOf s b)) (ended r)
+      → Agrees objects 1 cellSize l l (unpaid s) b (quoteRule x ps (stateOf s b)) (ended r)
 
 pub record ExpandedSyntax (ph : ℕ) (p : Scopes) (l l′ : List ℕ) (s : State) (i head tail : ℕ) (r : Answer) : Type 0 where
   pub means : (b : Store) (k : Sets) (h : Stx) (ps : Stxs) → Rep l (s .top) i (stx (list k (cons h ps))) → Rep l (s .top) head (stx h) → RepP l (s .top) tail (fromStxs ps)
-      → Agrees objects 1 5 l l′ (unpaid s) b (expandSyntax ph p k h ps (stateOf s b)) (ended r)
+      → Agrees objects 1 cellSize l l′ (unpaid s) b (expandSyntax ph p k h ps (stateOf s b)) (ended r)
 
 pub record ReadyPruned (l : List ℕ) (s : State) (i head x : ℕ) : Type 0 where
   pub sets : Sets
@@ -80,7 +81,7 @@ pub record ReadyPruned (l : List ℕ) (s : State) (i head x : ℕ) : Type 0 wher
   pub shown-first : Rep l (s .top) head (stx first)
   pub shown-thing : Rep l (s .top) x (stx thing)
   pub room : Room l s
-  pub few : s .bindings ≤ 128
+  pub few : s .bindings ≤ 512
 
 unfoldable pub prunedRule : ℕ → Scopes → Sets → Stx → Stx → Step Stx
 unfolding pruneFrom
@@ -90,7 +91,7 @@ prunedRule ph p c h s = do
 
 pub record Pruned (ph : ℕ) (p : Scopes) (l l′ : List ℕ) (s : State) (i head x : ℕ) (r : Answer) : Type 0 where
   pub means : (b : Store) (k : Sets) (qs : Stxs) (h y : Stx) → Rep l (s .top) i (stx (list k qs)) → Rep l (s .top) head (stx h) → Rep l (s .top) x (stx y)
-      → Agrees objects 1 5 l l′ (unpaid s) b (prunedRule ph p k h y (stateOf s b)) (ended r)
+      → Agrees objects 1 cellSize l l′ (unpaid s) b (prunedRule ph p k h y (stateOf s b)) (ended r)
 
 -- ---- values
 
@@ -107,13 +108,13 @@ valueRule d ph x = do
   evaluate d t
 
 pub record Values (left ph : ℕ) (st l l′ : List ℕ) (s : State) (i : ℕ) (r : Answer) : Type 0 where
-  pub means : (x : Stx) → Rep l (s .top) i (stx x) → Agrees trees 1 5 l l′ s (bindsOf st) (valueRule left ph x (stateOf s (bindsOf st))) (ended r)
+  pub means : (x : Stx) → Rep l (s .top) i (stx x) → Agrees trees 1 cellSize l l′ s (bindsOf st) (valueRule left ph x (stateOf s (bindsOf st))) (ended r)
 
 pub record ReadyBack (l : List ℕ) (s : State) (i : ℕ) : Type 0 where
   pub thing : Tree
   pub shown : Rep l (s .top) i thing
   pub room : Room l s
-  pub few : s .bindings ≤ 128
+  pub few : s .bindings ≤ 512
 
 unfoldable pub backRule : ℕ → ℕ → Tree → Step Stx
 unfolding asStx orNoSyntax flipIn
@@ -122,7 +123,7 @@ backRule ph k r = do
   flipIn k ph s
 
 pub record Backs (ph k : ℕ) (l l′ : List ℕ) (s : State) (i : ℕ) (r : Answer) : Type 0 where
-  pub means : (b : Store) (t : Tree) → Rep l (s .top) i t → Agrees objects 1 8 l l′ s b (backRule ph k t (stateOf s b)) (ended r)
+  pub means : (b : Store) (t : Tree) → Rep l (s .top) i t → Agrees objects 1 nodeSpare l l′ s b (backRule ph k t (stateOf s b)) (ended r)
 
 pub record ReadyTranscribed (l : List ℕ) (s : State) (v form : ℕ) : Type 0 where
   pub value : Tree
@@ -130,7 +131,7 @@ pub record ReadyTranscribed (l : List ℕ) (s : State) (v form : ℕ) : Type 0 w
   pub shown : Rep l (s .top) v value
   pub shown-form : Rep l (s .top) form (stx thing)
   pub room : Room l s
-  pub few : s .bindings ≤ 128
+  pub few : s .bindings ≤ 512
 
 unfoldable pub transcribeRule : ℕ → ℕ → ℕ → Tree → Stx → Step Stx
 unfolding evaluate backRule
@@ -140,4 +141,4 @@ transcribeRule d ph k v x = do
 
 pub record Transcribes (left ph k : ℕ) (l l′ : List ℕ) (s : State) (v form : ℕ) (r : Answer) : Type 0 where
   pub means : (b : Store) (t : Tree) (x : Stx) → Rep l (s .top) v t → Rep l (s .top) form (stx x)
-      → Agrees objects 1 8 l l′ s b (transcribeRule left ph k t x (stateOf s b)) (ended r)
+      → Agrees objects 1 nodeSpare l l′ s b (transcribeRule left ph k t x (stateOf s b)) (ended r)

@@ -15,16 +15,17 @@ use Rattle.steps.specs.declared.State.{State}
 use Rattle.steps.specs.declared.Answer.{Answer}
 use Rattle.parse.specs.Parsing.{unpaid}
 use Rattle.scoping.specs.Changing.{objects}
+use Rattle.table.specs.Sizes.{nodeSize, nodeSpare, pairSize, pairSpare, tripleSize, tripleSpare}
 
 pub record Relistable (l : List ℕ) (top i : ℕ) : Type 0 where
   pub sets : Sets
   pub parts : Stxs
   pub shown : Rep l top i (stx (list sets parts))
-  pub room : Roomy l top 8
+  pub room : Roomy l top nodeSize
 
 pub record Relisted (l l′ : List ℕ) (top i c at top′ : ℕ) : Type 0 where
   pub kept : Same top l l′
-  pub grows : top′ ≡ top + 8
+  pub grows : top′ ≡ top + nodeSize
   pub means : (k : Sets) (qs ps : Stxs) → Rep l top i (stx (list k qs)) → RepP l top c (fromStxs ps) → Rep l′ top′ at (stx (list k ps))
 
 pub record Chainable (l : List ℕ) (top a b : ℕ) : Type 0 where
@@ -47,12 +48,12 @@ pub record ReadyList (l : List ℕ) (s : State) (i c : ℕ) : Type 0 where
   pub shown : Rep l (s .top) i (stx (list sets old))
   pub chain : RepP l (s .top) c (fromStxs parts)
   pub room : Room l s
-  pub free : end s + 8 ≤ length l
-  pub few : s .bindings ≤ 128
+  pub free : end s + nodeSize ≤ length l
+  pub few : s .bindings ≤ 512
 
 pub record Lists (l l′ : List ℕ) (s : State) (i c : ℕ) (r : Answer) : Type 0 where
   pub means : (b : Store) (k : Sets) (qs ps : Stxs) → Rep l (s .top) i (stx (list k qs)) → RepP l (s .top) c (fromStxs ps)
-      → Agrees objects 1 8 l l′ (unpaid s) b (made (list k ps) (stateOf s b)) (ended r)
+      → Agrees objects 1 nodeSpare l l′ (unpaid s) b (made (list k ps) (stateOf s b)) (ended r)
 
 pub record ReadyTwo (l : List ℕ) (s : State) (i a c : ℕ) : Type 0 where
   pub sets : Sets
@@ -63,12 +64,12 @@ pub record ReadyTwo (l : List ℕ) (s : State) (i a c : ℕ) : Type 0 where
   pub shown-first : Rep l (s .top) a (stx first)
   pub shown-second : Rep l (s .top) c (stx second)
   pub room : Room l s
-  pub free : end s + 18 ≤ length l
-  pub few : s .bindings ≤ 128
+  pub free : end s + pairSize ≤ length l
+  pub few : s .bindings ≤ 512
 
 pub record TwoLists (l l′ : List ℕ) (s : State) (i a c : ℕ) (r : Answer) : Type 0 where
   pub means : (b : Store) (k : Sets) (qs : Stxs) (x y : Stx) → Rep l (s .top) i (stx (list k qs)) → Rep l (s .top) a (stx x) → Rep l (s .top) c (stx y)
-      → Agrees objects 2 14 l l′ (unpaid (unpaid s)) b (ok (list k (cons x (cons y nil))) (stateOf s b)) (ended r)
+      → Agrees objects 2 pairSpare l l′ (unpaid (unpaid s)) b (ok (list k (cons x (cons y nil))) (stateOf s b)) (ended r)
 
 pub record ReadyThree (l : List ℕ) (s : State) (i a c d : ℕ) : Type 0 where
   pub sets : Sets
@@ -81,9 +82,9 @@ pub record ReadyThree (l : List ℕ) (s : State) (i a c d : ℕ) : Type 0 where
   pub shown-second : Rep l (s .top) c (stx second)
   pub shown-third : Rep l (s .top) d (stx third)
   pub room : Room l s
-  pub free : end s + 23 ≤ length l
-  pub few : s .bindings ≤ 128
+  pub free : end s + tripleSize ≤ length l
+  pub few : s .bindings ≤ 512
 
 pub record ThreeLists (l l′ : List ℕ) (s : State) (i a c d : ℕ) (r : Answer) : Type 0 where
   pub means : (b : Store) (k : Sets) (qs : Stxs) (x y z : Stx) → Rep l (s .top) i (stx (list k qs)) → Rep l (s .top) a (stx x) → Rep l (s .top) c (stx y) → Rep l (s .top) d (stx z)
-      → Agrees objects 2 9 l l′ (unpaid (unpaid s)) b (made (list k (cons x (cons y (cons z nil)))) (stateOf s b)) (ended r)
+      → Agrees objects 2 tripleSpare l l′ (unpaid (unpaid s)) b (made (list k (cons x (cons y (cons z nil)))) (stateOf s b)) (ended r)

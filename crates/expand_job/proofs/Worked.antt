@@ -21,14 +21,15 @@ use Rattle.endings.specs.declared.Ending.{Ending}
 use Rattle.endings.specs.declared.Ending.the-variants.{Refused}
 use Rattle.endings.specs.Ends.{EndsAs, refuses, SyntaxDone, EndsSyntax}
 use Rattle.expand_job.specs.Loading.{syntaxEnding}
+use Rattle.store.specs.Sizes.{storeSize}
 
 -- the work q came to the object at o, in the table l, with its bindings in the store
 pub record Came (l store : List ℕ) (names units : ℕ) (q : m.Out Stx) (o : Out) : Type 0 where
   pub value : Stx
   pub is : q ≡ ok value (stateOf (o .state) (bindsOf store))
   pub rep : Rep l (o .state .top) (o .at) (stx value)
-  pub few : o .state .bindings ≤ 128
-  pub wide : 384 ≤ length store
+  pub few : o .state .bindings ≤ 512
+  pub wide : storeSize ≤ length store
   pub room : Room l (o .state)
   pub names-from : names ≤ o .state .names
   pub within : o .state .units ≤ units

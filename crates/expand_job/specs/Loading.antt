@@ -19,6 +19,7 @@ use Rattle.judged.specs.Judging.{SyntaxGood}
 use Rattle.loading.specs.Loading.{Loaded}
 use Rattle.endings.specs.declared.Ending.{Ending}
 use Rattle.endings.specs.Ends.{EndsAs}
+use Rattle.store.specs.Sizes.{storeSize}
 
 -- how a job that gives an object ends, with the words of the image that was read, and an output of `room` bytes
 abbrev pub syntaxEnding : List (List ℕ) → ℕ → ℕ → m.Out Stx → j.Ending
@@ -33,10 +34,10 @@ unfoldable pub imageEnding : ℕ → ℕ → ℕ → List ℕ → j.Ending
 unfolding work
 imageEnding ph budget room image = withImage (readImage readSyntax image) (work ph budget room)
 
--- a table lent for the budget, and words for 128 bindings
+-- a table lent for the budget, and a whole store
 pub record Held (store l : List ℕ) (budget : ℕ) : Type 0 where
   pub lent : Lent l budget
-  pub wide : 384 ≤ length store
+  pub wide : storeSize ≤ length store
 
 -- the image is judged, and its bindings are in the store
 pub record Good (image : List ℕ) (j : Judgement) (store l : List ℕ) (budget : ℕ) : Type 0 where

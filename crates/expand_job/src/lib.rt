@@ -95,7 +95,7 @@ fn expand_image(
     }
 }
 
-// How the job ends, with a table of 16 words per unit of budget.
+// How the job ends, with a table as the budget wants it.
 pub fn expand_work(
     out: &mut [u8],
     image: &[u8],

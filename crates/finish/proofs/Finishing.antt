@@ -28,6 +28,7 @@ use Rattle.writer.proofs.Putting.{run}
 use Rattle.finish.specs.declared.Finished.{Finished}
 use Rattle.finish.specs.declared.Finished.the-variants.{Written, TooLong}
 use Rattle.finish.specs.Endings.{Ends, wrote, too-long, TreeReady, TreeFits, PutsTree, FinishesTree, FrontReady, FrontLength, SyntaxReady, SyntaxFits, PutsSyntax, FinishesSyntax}
+use Rattle.store.specs.Sizes.{bindingSize}
 
 -- from the start of the output, nothing else is touched
 from-start : {b out out′ : List ℕ} {r : ℕ} → Wrote b out out′ 0 r → length b ≤ length out → out′ ≡ b ++ drop (length b) out
@@ -160,7 +161,7 @@ module _ {s : List ℕ} {h : Head} {end : ℕ} {store : List ℕ} {count : ℕ} 
   pub head-fits-syntax : Fitting s h end 1 names scopes out
   head-fits-syntax = let a = whole in record { headed = R .front .headed; more = R .front .more; one-byte = omega arith; fits = omega arith }
 
-  pub held : count * 3 ≤ length store
+  pub held : count * bindingSize ≤ length store
   held = R .front .held
 
   module _ {behind : ℕ} {out₁ : List ℕ} (p : PutsHead s h end 1 names scopes out out₁ behind) (same₁ : length out₁ ≡ length out) where
@@ -205,7 +206,7 @@ module _ {s : List ℕ} {h : Head} {end : ℕ} {store : List ℕ} {count names :
     pub front-sum : {a : ℕ} → a ≡ length (numBytes count) → Fits w64 (k + a)
     front-sum e = omega (arith, head-small, num-short count)
 
-    pub front-whole : {a b : ℕ} → a ≡ length (numBytes count) → b ≤ 9600 → Fits w64 (k + a + b)
+    pub front-whole : {a b : ℕ} → a ≡ length (numBytes count) → b ≤ 203264 → Fits w64 (k + a + b)
     front-whole e f = omega (arith, head-small, num-short count)
 
 pub front-length-is : (s : List ℕ) (h : Head) (end : ℕ) (store : List ℕ) (count names scopes : ℕ) {k a b : ℕ} → HeadLength s h end names scopes k

@@ -14,6 +14,8 @@ use Rattle.head.specs.declared.Head.{Head}
 use Rattle.heading.specs.Headings.{headWith, Headed}
 use Rattle.finish.specs.declared.Finished.{Finished}
 use Rattle.finish.specs.declared.Finished.the-variants.{Written, TooLong}
+use Rattle.table.specs.Sizes.{tableSize}
+use Rattle.store.specs.Sizes.{bindingSize}
 
 -- the image b is written from the start of the output, or it is too long and the output untouched
 pub data Ends (b out out′ : List ℕ) : Finished → Type 0 where
@@ -30,7 +32,7 @@ pub record TreeReady (s : List ℕ) (h : Head) (end : ℕ) (l : List ℕ) (i nam
   pub thing : Tree
   pub shown : Rep l top i thing
   pub inside : top ≤ length l
-  pub small : length l ≤ 65536
+  pub small : length l ≤ tableSize
 
 pub record TreeFits (s : List ℕ) (h : Head) (end : ℕ) (l : List ℕ) (i names scopes : ℕ) (out : List ℕ) : Type 0 where
   pub ready : TreeReady s h end l i names
@@ -49,8 +51,8 @@ pub record FinishesTree (s : List ℕ) (h : Head) (end : ℕ) (l : List ℕ) (i 
 pub record FrontReady (s : List ℕ) (h : Head) (end : ℕ) (store : List ℕ) (count names : ℕ) : Type 0 where
   pub headed : Headed s h end
   pub more : h .names ≤ names
-  pub held : count * 3 ≤ length store
-  pub few : count ≤ 128
+  pub held : count * bindingSize ≤ length store
+  pub few : count ≤ 512
 
 pub record FrontLength (s : List ℕ) (h : Head) (end : ℕ) (store : List ℕ) (count names scopes r : ℕ) : Type 0 where
   pub means : (g : Headed s h end) → r ≡ length (headBytes 1 (headWith (g .words) names scopes)) + length (numBytes count) + length (bindsBytes (bindsOf store count))
@@ -61,7 +63,7 @@ pub record SyntaxReady (s : List ℕ) (h : Head) (end : ℕ) (store : List ℕ) 
   pub thing : Stx
   pub shown : Rep l top i (stx thing)
   pub inside : top ≤ length l
-  pub small : length l ≤ 65536
+  pub small : length l ≤ tableSize
 
 pub record SyntaxFits (s : List ℕ) (h : Head) (end : ℕ) (store : List ℕ) (count : ℕ) (l : List ℕ) (i names scopes : ℕ) (out : List ℕ) : Type 0 where
   pub ready : SyntaxReady s h end store count l i names

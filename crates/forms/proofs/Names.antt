@@ -64,16 +64,16 @@ module _ {l : List ℕ} (st : List ℕ) (n ph : ℕ) {i : ℕ} {o : Node} (e : o
       by (is-atom {a = rung k} a q y) = refl
       by (is-list a q y r) = refl
 
-  module _ (h : o .tag ≡ 0) {c : Sets} (f : c ≡ getSets l i) {z : ScopeSet} (g : scopesOf z ≡ setAt ph (setsOf c)) (w : Found)
-      (k : foundOf w ≡ resolve (o .content) (scopesOf z) (bindsOf st n)) where
+  module _ (h : o .tag ≡ 0) {c : Sets} (f : c ≡ getSets l i) {z : ℕ} (g : z ≡ setAt ph (setsOf c)) (w : Found)
+      (k : foundOf w ≡ resolve (o .content) z (bindsOf st n)) where
     found-is : (top : ℕ) (x : Stx) → Rep l top i (stx x) → nameFound ph (bindsOf st n) x ≡ some (foundOf w)
     unfolding nameFound tagOf contentOf
     found-is top x r = by r
       where
         by : {x : Stx} → Rep l top i (stx x) → nameFound ph (bindsOf st n) x ≡ some (foundOf w)
         by (is-atom {s = s} {a = symbol j} a q y) =
-            let set : scopesOf z ≡ setAt ph s = g ∙ ap (λ (d : Sets). setAt ph (setsOf d)) f ∙ ap (setAt ph) y in
-            let same : resolve (o .content) (scopesOf z) (bindsOf st n) ≡ resolve j (setAt ph s) (bindsOf st n) =
+            let set : z ≡ setAt ph s = g ∙ ap (λ (d : Sets). setAt ph (setsOf d)) f ∙ ap (setAt ph) y in
+            let same : resolve (o .content) z (bindsOf st n) ≡ resolve j (setAt ph s) (bindsOf st n) =
             ap₂ (λ (u : ℕ) (v : ℕ). resolve u v (bindsOf st n)) (content-is e q) set in
             ap some (sym (k ∙ same))
         by (is-atom {a = number j} a q y) = absurd (omega (arith, tag-is e q, h))

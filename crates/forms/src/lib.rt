@@ -16,6 +16,7 @@ ghost use Rattle.things.specs.Rep.{setsOf};
 ghost use Rattle.things.specs.Measuring.{Seen, SeenP};
 ghost use Rattle.forms.specs.Shapes.{Single, Double, Triple, Identifies};
 ghost use Rattle.forms.specs.Names.{Names, formed};
+ghost use Rattle.store.specs.Sizes.{bindingSize};
 
 // ---- a chain of exactly so many parts, or not
 
@@ -108,7 +109,7 @@ pub enum Naming {
 
 // The name at a phase, by the first count bindings of the store.
 pub fn name_of(table: &[u32], store: &[u64], count: u32, i: u32, phase: u32) -> Naming
-    requires { ⌜ Seen (now table) i × (count * 3 ≤ length (now store)) ⌝ }
+    requires { ⌜ Seen (now table) i × (count * bindingSize ≤ length (now store)) ⌝ }
     ensures { λ r. ⌜ Names phase (now (store .entry)) count (now (table .entry)) i r ⌝ }
 {
     let n = table::get_node(table, i);

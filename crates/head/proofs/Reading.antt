@@ -134,16 +134,16 @@ at-most c m k u v e = go (num u) e
 -- ---- the counts
 
 module _ (s : List ℕ) (at words : ℕ) (inside : at ≤ length s) {q : Number}
-    (h : q ≡ numberAt (at + length (take (length s - at) (drop at s))) (numUpTo overLimit (508 - words) (take (length s - at) (drop at s)))) where
+    (h : q ≡ numberAt (at + length (take (length s - at) (drop at s))) (numUpTo overLimit (1020 - words) (take (length s - at) (drop at s)))) where
   pub made-stops : {f : Refusal} → q ≡ number.Fault f → CountsRead s at words (hd.Fault f)
   unfolding readCounts mostNames coreNames
   made-stops {f} e =
-      let g = here-fault s at inside (numUpTo overLimit (508 - words)) h e in
+      let g = here-fault s at inside (numUpTo overLimit (1020 - words)) h e in
       record { means = λ ws n. rw g (ap hd.Fault (sym (case-back f))) }
 
   module _ {made : ℕ} {past : Cursor} (e : q ≡ number.Read made past) where
-    H : Here s at (numUpTo overLimit (508 - words)) made (past .at)
-    H = here s at inside (numUpTo overLimit (508 - words)) h e (up-to-tail overLimit (508 - words) (drop at s))
+    H : Here s at (numUpTo overLimit (1020 - words)) made (past .at)
+    H = here s at inside (numUpTo overLimit (1020 - words)) h e (up-to-tail overLimit (1020 - words) (drop at s))
 
     pub made-within : past .at ≤ length s
     made-within = H .within
@@ -151,20 +151,20 @@ module _ (s : List ℕ) (at words : ℕ) (inside : at ≤ length s) {q : Number}
     pub made-fits : length s ≤ 65536 → past .at + length (take (length s - past .at) (drop (past .at) s)) ≤ 65536
     made-fits l = rw (whole s (past .at), length-drop) (omega (arith, made-within))
 
-    pub made-few : words ≤ 508 → Fits w32 (4 + words + made)
-    made-few l = omega (arith, at-most overLimit (508 - words) made (drop at s) (drop (past .at) s) (H .reads))
+    pub made-few : words ≤ 1020 → Fits w32 (4 + words + made)
+    made-few l = omega (arith, at-most overLimit (1020 - words) made (drop at s) (drop (past .at) s) (H .reads))
 
-    module _ {p : Number} (h₂ : p ≡ numberAt (past .at + length (take (length s - past .at) (drop (past .at) s))) (numUpTo overLimit 64 (take (length s - past .at) (drop (past .at) s)))) where
+    module _ {p : Number} (h₂ : p ≡ numberAt (past .at + length (take (length s - past .at) (drop (past .at) s))) (numUpTo overLimit 256 (take (length s - past .at) (drop (past .at) s)))) where
       pub scopes-stop : {f : Refusal} → p ≡ number.Fault f → CountsRead s at words (hd.Fault f)
       unfolding readCounts mostNames coreNames mostScopes
       scopes-stop {f} e₂ =
-          let g = here-fault s (past .at) made-within (numUpTo overLimit 64) h₂ e₂ in
+          let g = here-fault s (past .at) made-within (numUpTo overLimit 256) h₂ e₂ in
           record { means = λ ws n. rw (H .reads, g) (ap hd.Fault (sym (case-back f))) }
 
       pub counts-read : {scopes : ℕ} {end : Cursor} → p ≡ number.Read scopes end → CountsRead s at words (hd.Read (record { words = words; names = 4 + words + made; scopes = scopes }) end)
       unfolding readCounts mostNames coreNames mostScopes
       counts-read {scopes} {end} e₂ =
-          let G = here s (past .at) made-within (numUpTo overLimit 64) h₂ e₂ (up-to-tail overLimit 64 (drop (past .at) s)) in
+          let G = here s (past .at) made-within (numUpTo overLimit 256) h₂ e₂ (up-to-tail overLimit 256 (drop (past .at) s)) in
           record {
             means = λ ws n.
                 rw (H .reads, G .reads, n, end-here s end (G .within)) refl;
@@ -243,19 +243,19 @@ module _ (s : List ℕ) (start n : ℕ) (inside : start ≤ length s) {p : Place
 -- ---- behind the kind
 
 module _ (s : List ℕ) (at : ℕ) (inside : at ≤ length s) {q : Number}
-    (h : q ≡ numberAt (at + length (take (length s - at) (drop at s))) (numUpTo overLimit 508 (take (length s - at) (drop at s)))) where
+    (h : q ≡ numberAt (at + length (take (length s - at) (drop at s))) (numUpTo overLimit 1020 (take (length s - at) (drop at s)))) where
   pub count-stops : {f : Refusal} → q ≡ number.Fault f → hd.Fault f ≡ headAt (length s) (readAfterKind (drop at s))
   unfolding readAfterKind mostNames coreNames
   count-stops {f} e =
-      let g = here-fault s at inside (numUpTo overLimit 508) h e in
+      let g = here-fault s at inside (numUpTo overLimit 1020) h e in
       rw g (ap hd.Fault (sym (case-back f)))
 
   module _ {n : ℕ} {past : Cursor} (e : q ≡ number.Read n past) where
-    N : Here s at (numUpTo overLimit 508) n (past .at)
-    N = here s at inside (numUpTo overLimit 508) h e (up-to-tail overLimit 508 (drop at s))
+    N : Here s at (numUpTo overLimit 1020) n (past .at)
+    N = here s at inside (numUpTo overLimit 1020) h e (up-to-tail overLimit 1020 (drop at s))
 
-    few : n ≤ 508
-    few = at-most overLimit 508 n (drop at s) (drop (past .at) s) (N .reads)
+    few : n ≤ 1020
+    few = at-most overLimit 1020 n (drop at s) (drop (past .at) s) (N .reads)
 
     pub words-begin : length s ≤ 65536 → Midway s (past .at) (past .at) 0 n
     words-begin l = record { small = l; begins = N .within; within = N .within; most = omega (arith, few) }
@@ -274,7 +274,7 @@ module _ (s : List ℕ) (at : ℕ) (inside : at ≤ length s) {q : Number}
         pub words-within : c .at ≤ length s
         words-within = those .within
 
-        pub words-few : n ≤ 508
+        pub words-few : n ≤ 1020
         words-few = few
 
         pub counts-go : {x : HeadRead} → CountsRead s (c .at) n x → x ≡ headAt (length s) (readAfterKind (drop at s))

@@ -39,9 +39,9 @@ impl Head {
     pub const CORE_NAMES: u32 = 4;
 
     // Names that are no core names.
-    const MOST_NAMES: u32 = 508;
+    const MOST_NAMES: u32 = 1020;
 
-    const MOST_SCOPES: u32 = 64;
+    const MOST_SCOPES: u32 = 256;
 }
 
 // The kind: 1 or 2, and the job's.
@@ -69,7 +69,7 @@ fn read_kind(s: &[u8], kind: u32) -> Place
 
 // The counts of made names and scopes, behind so many words.
 fn read_counts(s: &[u8], c: Cursor, words: u32) -> HeadRead
-    requires { ⌜ (length (now s) ≤ 65536) × (c .at ≤ length (now s)) × (words ≤ 508) ⌝ }
+    requires { ⌜ (length (now s) ≤ 65536) × (c .at ≤ length (now s)) × (words ≤ 1020) ⌝ }
     ensures { λ r. ⌜ CountsRead (now (s .entry)) (c .at) words r ⌝ }
 {
     let at = c.at;

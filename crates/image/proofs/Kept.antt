@@ -61,12 +61,12 @@ none-there zero j = refl
 none-there (suc k) zero = refl
 none-there (suc k) (suc j) = none-there k j
 
-pub around-none : {n : ℕ} → n ≤ 512 → Around n noneAround []
+pub around-none : {n : ℕ} → n ≤ 1024 → Around n noneAround []
 unfolding noneAround isAmong
 around-none {n} h =
     record {
-      long = let e : length (replicate {A = ℕ} 512 0) ≡ 512 = length-replicate {A = ℕ} 512 0 in omega arith;
-      has = λ j k. ap (λ (x : ℕ). not (eqb x 0)) (none-there 512 j);
+      long = let e : length (replicate {A = ℕ} 1024 0) ≡ 1024 = length-replicate {A = ℕ} 1024 0 in omega arith;
+      has = λ j k. ap (λ (x : ℕ). not (eqb x 0)) (none-there 1024 j);
     }
 
 -- ---- extents
@@ -231,6 +231,6 @@ pub syntax-root-is : (h : m.Head) (s : List ℕ) → kept size (thenEnd (readStx
 unfolding wholeSyntax thenEnd
 syntax-root-is h s = then-end size (readStx 64 h s) (stx-is h 64 s)
 
-pub tree-root-is : (h : m.Head) (s : List ℕ) → h .names ≤ 512 → kept (extentOf []) (thenEnd (readTree 64 h 0) s) ≡ wholeTree (countsOf h) s
+pub tree-root-is : (h : m.Head) (s : List ℕ) → h .names ≤ 1024 → kept (extentOf []) (thenEnd (readTree 64 h 0) s) ≡ wholeTree (countsOf h) s
 unfolding wholeTree thenEnd
 tree-root-is h s l = then-end (extentOf []) (readTree 64 h 0 s) (tree-is h 64 0 noneAround [] (around-none l) s)

@@ -51,7 +51,7 @@ module _ (h : m.Head) (at : ℕ) (s : List ℕ) {r : Number} (a : r ≡ numberAt
 
 -- ---- kind 2: the tree, of which the charge for loading and the test for code 3 are kept
 
-module _ (h : m.Head) (few : h .names ≤ 512) (at : ℕ) (s : List ℕ) {r : TreeRead} (a : r ≡ treeAt (at + length s) (wholeTree (countsOf h) s)) where
+module _ (h : m.Head) (few : h .names ≤ 1024) (at : ℕ) (s : List ℕ) {r : TreeRead} (a : r ≡ treeAt (at + length s) (wholeTree (countsOf h) s)) where
   pub tree-refused : {f : Refusal} → r ≡ Fault f → thenEnd (readTree 64 h 0) s ≡ fault (refusalOf f)
   tree-refused {f} e =
       kept-fault (extentOf []) (thenEnd (readTree 64 h 0) s) (refusalOf f) (tree-root-is h s few ∙ refused tree-shape (at + length s) (wholeTree (countsOf h) s) a e)

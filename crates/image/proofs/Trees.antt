@@ -396,7 +396,7 @@ module _ (at : ℕ) (k : Counts) (s : List ℕ) {r : Number} (h : r ≡ numberAt
     unfolding wholeSyntax
     syntax-more z = root-more number-shape at (measureStx (k .symbols) (k .scopes) 64) s (object-tail (k .symbols) (k .scopes) 64 s) h e i z
 
-pub none-is : replicate 512 0 ≡ noneAround
+pub none-is : replicate 1024 0 ≡ noneAround
 unfolding noneAround
 none-is = refl
 

@@ -113,7 +113,7 @@ wholeSyntax k = thenEnd (measureStx (k .symbols) (k .scopes) 64)
 
 -- around the root there is no function
 unfoldable pub noneAround : List ℕ
-noneAround = replicate 512 0
+noneAround = replicate 1024 0
 
 unfoldable pub wholeTree : Counts → Reader Extent
 wholeTree k = thenEnd (measureTree k 64 0 noneAround)

@@ -74,7 +74,7 @@ fn measure_atom(c: Cursor, s: &[u8], symbols: u32) -> TreeRead
 
 // A syntax value counts as its object's size.
 fn measure_syntax(c: Cursor, s: &[u8], symbols: u32, scopes: u32, levels: u32) -> TreeRead
-    requires { ⌜ (c .at + length (now s) ≤ 65536) × (scopes ≤ 64) ⌝ }
+    requires { ⌜ (c .at + length (now s) ≤ 65536) × (scopes ≤ 256) ⌝ }
     ensures { λ r. ⌜ r ≡ treeAt (c .at + length (now (s .entry))) (measureObject symbols scopes levels (now (s .entry))) ⌝ }
 {
     match objects::measure_object(c, s, symbols, scopes, levels) {
@@ -93,7 +93,7 @@ fn measure_tree(
     levels: u32,
     low: u32,
 ) -> TreeRead
-    requires { ⌜ (c .at + length (now s) ≤ 65536) × (counts .scopes ≤ 64) × (counts .names ≤ length (now around)) ⌝ }
+    requires { ⌜ (c .at + length (now s) ≤ 65536) × (counts .scopes ≤ 256) × (counts .names ≤ length (now around)) ⌝ }
     ensures { λ r. ⌜ r ≡ treeAt (c .at + length (now (s .entry))) (measureTree counts levels low (now (around .entry)) (now (s .entry))) ⌝ }
     ensures { λ _. ⌜ now (around .exit) ≡ now (around .entry) ⌝ }
 {
@@ -120,7 +120,7 @@ fn measure_body(
     levels: u32,
     tag: u32,
 ) -> TreeRead
-    requires { ⌜ (c .at + length (now s) ≤ 65536) × (counts .scopes ≤ 64) × (counts .names ≤ length (now around)) × (1 ≤ levels) ⌝ }
+    requires { ⌜ (c .at + length (now s) ≤ 65536) × (counts .scopes ≤ 256) × (counts .names ≤ length (now around)) × (1 ≤ levels) ⌝ }
     ensures { λ r. ⌜ r ≡ treeAt (c .at + length (now (s .entry))) (measureBody counts levels (now (around .entry)) tag (now (s .entry))) ⌝ }
     ensures { λ _. ⌜ now (around .exit) ≡ now (around .entry) ⌝ }
 {
@@ -155,7 +155,7 @@ fn measure_several(
     low: u32,
     least: u32,
 ) -> TreeRead
-    requires { ⌜ (c .at + length (now s) ≤ 65536) × (counts .scopes ≤ 64) × (counts .names ≤ length (now around)) ⌝ }
+    requires { ⌜ (c .at + length (now s) ≤ 65536) × (counts .scopes ≤ 256) × (counts .names ≤ length (now around)) ⌝ }
     ensures { λ r. ⌜ r ≡ treeAt (c .at + length (now (s .entry))) (measureSeveral least (measureTree counts levels low (now (around .entry))) (now (s .entry))) ⌝ }
     ensures { λ _. ⌜ now (around .exit) ≡ now (around .entry) ⌝ }
 {
@@ -188,7 +188,7 @@ fn measure_all(
     low: u32,
     count: u32,
 ) -> TreeRead
-    requires { ⌜ (c .at + length (now s) ≤ 65536) × (counts .scopes ≤ 64) × (counts .names ≤ length (now around)) ⌝ }
+    requires { ⌜ (c .at + length (now s) ≤ 65536) × (counts .scopes ≤ 256) × (counts .names ≤ length (now around)) ⌝ }
     ensures { λ r. ⌜ r ≡ treeAt (c .at + length (now (s .entry))) (measureAll count nothing (measureTree counts levels low (now (around .entry))) (now (s .entry))) ⌝ }
     ensures { λ _. ⌜ now (around .exit) ≡ now (around .entry) ⌝ }
 {
@@ -212,7 +212,7 @@ fn measure_all(
 
 // A function's name is one around its body.
 fn measure_function(c: Cursor, s: &[u8], around: &mut [u8], counts: Counts, levels: u32) -> TreeRead
-    requires { ⌜ (c .at + length (now s) ≤ 65536) × (counts .scopes ≤ 64) × (counts .names ≤ length (now around)) ⌝ }
+    requires { ⌜ (c .at + length (now s) ≤ 65536) × (counts .scopes ≤ 256) × (counts .names ≤ length (now around)) ⌝ }
     ensures { λ r. ⌜ r ≡ treeAt (c .at + length (now (s .entry))) (measureFunction counts levels (now (around .entry)) (now (s .entry))) ⌝ }
     ensures { λ _. ⌜ now (around .exit) ≡ now (around .entry) ⌝ }
 {
@@ -240,7 +240,7 @@ fn measure_function(c: Cursor, s: &[u8], around: &mut [u8], counts: Counts, leve
 
 // The root of an image of kind 1, behind which the image ends: its size.
 pub fn measure_syntax_root(c: Cursor, s: &[u8], counts: Counts) -> Number
-    requires { ⌜ (c .at + length (now s) ≤ 65536) × (counts .scopes ≤ 64) ⌝ }
+    requires { ⌜ (c .at + length (now s) ≤ 65536) × (counts .scopes ≤ 256) ⌝ }
     ensures { λ r. ⌜ r ≡ numberAt (c .at + length (now (s .entry))) (wholeSyntax counts (now (s .entry))) ⌝ }
 {
     match objects::measure_object(c, s, counts.symbols, counts.scopes, 64) {
@@ -257,10 +257,10 @@ pub fn measure_syntax_root(c: Cursor, s: &[u8], counts: Counts) -> Number
 
 // The root of an image of kind 2, behind which the image ends.
 pub fn measure_tree_root(c: Cursor, s: &[u8], counts: Counts) -> TreeRead
-    requires { ⌜ (c .at + length (now s) ≤ 65536) × (counts .scopes ≤ 64) × (counts .names ≤ 512) ⌝ }
+    requires { ⌜ (c .at + length (now s) ≤ 65536) × (counts .scopes ≤ 256) × (counts .names ≤ 1024) ⌝ }
     ensures { λ r. ⌜ r ≡ treeAt (c .at + length (now (s .entry))) (wholeTree counts (now (s .entry))) ⌝ }
 {
-    let mut around = [0u8; 512];
+    let mut around = [0u8; 1024];
     match measure_tree(c, s, &mut around, counts, 64, 0) {
         TreeRead::Read(e, past) => {
             let rest = c.after(s, past);

@@ -85,7 +85,7 @@ module _ (n : Counts) (at : ℕ) (s l : List ℕ) where
           let T : Took (past .at) u (wholeSyntax n u) z (end .at) = took number-shape k d (last-tail n u) in
           subst (λ (v : List ℕ). measureStx (n .symbols) (n .scopes) 64 v ≡ got z []) i (last-whole n u z (drop (end .at - past .at) u) (T .is))
 
-  pub rest-good : (count : ℕ) {q : Place} → record { value = bindsOf l count; end = q } ≡ seenAt [] (at + length s) (readAll n s) → count ≤ 128
+  pub rest-good : (count : ℕ) {q : Place} → record { value = bindsOf l count; end = q } ≡ seenAt [] (at + length s) (readAll n s) → count ≤ 512
       → {past : Cursor} → q ≡ place.At past → {u : List ℕ} → u ≡ drop (past .at - at) s
       → {r : Number} → r ≡ numberAt (past .at + length u) (wholeSyntax n u) → {z : ℕ} {end : Cursor} → r ≡ number.Read z end
       → BehindHead n at s l (rest.Good (record { root = past .at; size = z; bindings = count }))

@@ -100,11 +100,11 @@ module _ {kind : ℕ} {s : List ℕ} {h : Head} {end : ℕ} (H : HeadHere kind s
   unfolding symbols coreNames
   names-from = omega (arith, word-count, name-count, H .fits .names-from)
 
-  pub names-to : h .names ≤ 512
+  pub names-to : h .names ≤ 1024
   unfolding mostNames
   names-to = omega (arith, name-count, H .fits .names-to)
 
-  pub scopes-to : h .scopes ≤ 64
+  pub scopes-to : h .scopes ≤ 256
   unfolding mostScopes
   scopes-to = omega (arith, scope-count, H .fits .scopes-to)
 
@@ -133,10 +133,10 @@ module _ (kind : ℕ) (s : List ℕ) (known : (i : ℕ) → Fits w8 (getD s i 0)
   H₀ : HeadHere kind s h (c .at)
   H₀ = head-here kind s (bytes-of s known) a e
 
-  pub few-scopes : h .scopes ≤ 64
+  pub few-scopes : h .scopes ≤ 256
   few-scopes = scopes-to H₀
 
-  pub few-names : h .names ≤ 512
+  pub few-names : h .names ≤ 1024
   few-names = names-to H₀
 
   pub symbols-fit : Fits w32 (h .words + 4)

@@ -84,7 +84,7 @@ module _ (s : List ℕ) (known : (i : ℕ) → Fits w8 (getD s i 0)) (short : le
     H : HeadHere 2 s h (c .at)
     H = head-here 2 s (bytes-of s known) a e
 
-    few : H .head .names ≤ 512
+    few : H .head .names ≤ 1024
     few = omega (arith, name-count H, names-to H)
 
     from-head : readTreeImage s ≡ kept (imageOf (H .head)) (thenEnd (readTree 64 (H .head) 0) (drop (c .at) s))

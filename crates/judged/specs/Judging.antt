@@ -35,7 +35,7 @@ measureRest n = do
 -- the bindings of s, which begins at the place `at`, are in the store l, and the root behind them ends the image
 pub record RestGood (n : Counts) (at : ℕ) (s l : List ℕ) (j : Rest) : Type 0 where
   pub binds-read : readAll n s ≡ got (bindsOf l (j .bindings)) (drop (j .root - at) s)
-  pub few-binds : j .bindings ≤ 128
+  pub few-binds : j .bindings ≤ 512
   pub behind : at ≤ j .root
   pub within : j .root ≤ at + length s
   pub root-measured : measureStx (n .symbols) (n .scopes) 64 (drop (j .root - at) s) ≡ got (j .size) []
@@ -58,11 +58,11 @@ pub record SyntaxGood (s l : List ℕ) (j : Judgement) : Type 0 where
   pub headed : Headed s (j .head) (j .end)
   pub same-words : headed .words ≡ image .head .words
   pub names-from : 4 + j .head .words ≤ j .head .names
-  pub names-to : j .head .names ≤ 512
-  pub scopes-to : j .head .scopes ≤ 64
+  pub names-to : j .head .names ≤ 1024
+  pub scopes-to : j .head .scopes ≤ 256
   -- the bindings
   pub binds-are : bindsOf l (j .bindings) ≡ image .binds
-  pub few-binds : j .bindings ≤ 128
+  pub few-binds : j .bindings ≤ 512
   -- the root
   pub root-within : j .root ≤ length s
   pub root-reads : readStx mostNesting (image .head) (drop (j .root) s) ≡ got (image .root) []

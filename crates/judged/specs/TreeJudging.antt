@@ -28,8 +28,8 @@ pub record TreeImageGood (s : List ℕ) (j : TreeJudgement) : Type 0 where
   pub headed : Headed s (j .head) (j .end)
   pub same-words : headed .words ≡ image .head .words
   pub names-from : 4 + j .head .words ≤ j .head .names
-  pub names-to : j .head .names ≤ 512
-  pub scopes-to : j .head .scopes ≤ 64
+  pub names-to : j .head .names ≤ 1024
+  pub scopes-to : j .head .scopes ≤ 256
   pub no-binds : image .binds ≡ []
   -- the root
   pub root-within : j .end ≤ length s

@@ -13,6 +13,7 @@ use scopes::Name;
 ghost use Prim.Native.Nat.{_+_, _≤_};
 ghost use lib.ListN.{length};
 ghost use Rattle.judged.specs.Judging.{BehindHead, SyntaxJudged};
+ghost use Rattle.store.specs.Sizes.{storeSize};
 
 // What the jobs know of an image without fault.
 pub struct Judgement {
@@ -46,8 +47,8 @@ enum RestJudged {
 
 // The bindings, into the store from its start, and the root.
 fn judge_rest(c: Cursor, s: &[u8], counts: Counts, store: &mut [u64]) -> RestJudged
-    requires image { ⌜ (c .at + length (now s) ≤ 65536) × (counts .scopes ≤ 64) ⌝ }
-    requires held { ⌜ 384 ≤ length (now store) ⌝ }
+    requires image { ⌜ (c .at + length (now s) ≤ 65536) × (counts .scopes ≤ 256) ⌝ }
+    requires held { ⌜ storeSize ≤ length (now store) ⌝ }
     ensures { λ r. ⌜ BehindHead counts (c .at) (now (s .entry)) (now (store .exit)) r ⌝ }
 {
     let read = loading::read_bindings(c, s, counts, store);
@@ -70,7 +71,7 @@ fn judge_rest(c: Cursor, s: &[u8], counts: Counts, store: &mut [u64]) -> RestJud
 
 // The syntax image, whose bindings are in the store afterwards.
 pub fn judge_syntax(image: &[u8], store: &mut [u64]) -> Judged
-    requires { ⌜ 384 ≤ length (now store) ⌝ }
+    requires { ⌜ storeSize ≤ length (now store) ⌝ }
     ensures { λ r. ⌜ SyntaxJudged (now (image .entry)) (now (store .exit)) r ⌝ }
 {
     if 65536 < image.len() {

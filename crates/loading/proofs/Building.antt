@@ -20,7 +20,7 @@ use Rattle.loading.specs.Loading.{Loaded}
 
 module _ {R : List ℕ → Tree → List ℕ → Type 0} {h : Head} {bindings size : ℕ} {s : State} {budget : ℕ} {l : List ℕ} (c : Loaded h bindings size s budget) (lent : Lent l budget)
     {image : List ℕ} {root : ℕ} (t : Tree) (read : R (drop root image) t []) (sized : size ≡ loadSize t) where
-  pub loaded-judged : Within image root → h .scopes ≤ 64 → Judged R l (s .top) image root (h .scopes)
+  pub loaded-judged : Within image root → h .scopes ≤ 256 → Judged R l (s .top) image root (h .scopes)
   loaded-judged place few = record {
     thing = t;
     rest = [];

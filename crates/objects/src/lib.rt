@@ -34,7 +34,7 @@ pub fn read_content(c: Cursor, s: &[u8], symbols: u32, tag: u32) -> Number
 
 // An object's tag, with the place past its three sets.
 pub fn read_top(c: Cursor, s: &[u8], scopes: u32) -> Number
-    requires { ⌜ (c .at + length (now s) ≤ 65536) × (scopes ≤ 64) ⌝ }
+    requires { ⌜ (c .at + length (now s) ≤ 65536) × (scopes ≤ 256) ⌝ }
     ensures { λ r. ⌜ r ≡ numberAt (c .at + length (now (s .entry))) (readTop scopes (now (s .entry))) ⌝ }
 {
     match c.number_up_to(s, Refusal::Layout, 5) {
@@ -51,7 +51,7 @@ pub fn read_top(c: Cursor, s: &[u8], scopes: u32) -> Number
 // The size of the object at a cursor, where `s` is the image from there on and `levels` levels are left. The part at level 65 is
 // refused before its tag.
 pub fn measure_object(c: Cursor, s: &[u8], symbols: u32, scopes: u32, levels: u32) -> Number
-    requires { ⌜ (c .at + length (now s) ≤ 65536) × (scopes ≤ 64) ⌝ }
+    requires { ⌜ (c .at + length (now s) ≤ 65536) × (scopes ≤ 256) ⌝ }
     ensures { λ r. ⌜ r ≡ numberAt (c .at + length (now (s .entry))) (measureStx symbols scopes levels (now (s .entry))) ⌝ }
 {
     if levels == 0 {
@@ -74,7 +74,7 @@ pub fn measure_object(c: Cursor, s: &[u8], symbols: u32, scopes: u32, levels: u3
 
 // A list: its count, and its parts where `levels` levels are left for them.
 fn measure_list(c: Cursor, s: &[u8], symbols: u32, scopes: u32, levels: u32) -> Number
-    requires { ⌜ (c .at + length (now s) ≤ 65536) × (scopes ≤ 64) ⌝ }
+    requires { ⌜ (c .at + length (now s) ≤ 65536) × (scopes ≤ 256) ⌝ }
     ensures { λ r. ⌜ r ≡ numberAt (c .at + length (now (s .entry))) (measureList symbols scopes levels (now (s .entry))) ⌝ }
 {
     match c.number(s) {
@@ -94,7 +94,7 @@ fn measure_list(c: Cursor, s: &[u8], symbols: u32, scopes: u32, levels: u32) -> 
 }
 
 fn measure_parts(c: Cursor, s: &[u8], symbols: u32, scopes: u32, levels: u32, count: u32) -> Number
-    requires { ⌜ (c .at + length (now s) ≤ 65536) × (scopes ≤ 64) ⌝ }
+    requires { ⌜ (c .at + length (now s) ≤ 65536) × (scopes ≤ 256) ⌝ }
     ensures { λ r. ⌜ r ≡ numberAt (c .at + length (now (s .entry))) (measureParts count 0 (measureStx symbols scopes levels) (now (s .entry))) ⌝ }
 {
     let mut here = c;

@@ -55,6 +55,8 @@ use Rattle.syntax.specs.Copying.{Copyable, Copied}
 use Rattle.parse.specs.Shown.{Held, ShownTree, ShownChain, trees, chains}
 use Rattle.parse.specs.Parsing.{unpaid, Ready, ReadyParts, ReadyForm, ReadyPair, ReadyRest, ReadyChain, ReadyData, nameRule, functionRule, lambdaRule, dataRule, quoteRule, syntaxRule, restRule, applicationRule, Parsed, ParsedEntry, ParsedName, ParsedList, ParsedForm, ParsedLambda, ParsedFunction, ParsedQuote, ParsedData, ParsedSyntax, ParsedApplication, ParsedParts, ParsedPair, ParsedRest}
 use Rattle.parse.proofs.Rules.{parse-entry, entry-atom, entry-symbol, entry-empty, list-named, list-unclear, list-unnamed, form-lambda, form-let-syntax, form-quote, form-syntax, form-other, application-is, application-no}
+use Rattle.table.specs.Sizes.{cellSize, cellSpare, nodeSize, unitSize}
+use Rattle.store.specs.Sizes.{bindingSize}
 
 stx-is : {a b : Stx} → stx a ≡ stx b → a ≡ b
 stx-is e = cc
@@ -71,18 +73,18 @@ top-is : {s u : State} → Went 1 s u → u .top ≡ s .top
 top-is w = ap (λ (y : State). y .top) (w .is)
 
 -- what an entry makes of one node
-node-later : {l l1 : List ℕ} {top1 : ℕ} (s : State) → Same (s .top) l l1 → top1 ≡ s .top + 8 → Later 1 5 l l1 (unpaid s) (raisedTo top1 s)
+node-later : {l l1 : List ℕ} {top1 : ℕ} (s : State) → Same (s .top) l l1 → top1 ≡ s .top + nodeSize → Later 1 cellSize l l1 (unpaid s) (raisedTo top1 s)
 unfolding unpaid
 node-later s k g = record { kept = k; grows = omega (arith, g); fits = omega (arith, g); spent = omega arith }
 
 -- after at least a later state
-later-unpaid : {n v : ℕ} {l l1 : List ℕ} {s s1 : State} → Later n v l l1 s s1 → Later (n + 1) (v + 16) l l1 (unpaid s) s1
+later-unpaid : {n v : ℕ} {l l1 : List ℕ} {s s1 : State} → Later n v l l1 s s1 → Later (n + 1) (v + unitSize) l l1 (unpaid s) s1
 unfolding unpaid
 later-unpaid p = record { kept = p .kept; grows = p .grows; fits = omega (arith, p .fits); spent = omega (arith, p .spent) }
 
 -- ---- what is read
 
-pub node-inside : {l st : List ℕ} (s : State) {i : ℕ} → Ready l st (unpaid s) i → i + 8 ≤ length l
+pub node-inside : {l st : List ℕ} (s : State) {i : ℕ} → Ready l st (unpaid s) i → i + nodeSize ≤ length l
 unfolding unpaid
 node-inside s r = omega (arith, below (r .shown), r .room .fits)
 
@@ -90,11 +92,11 @@ pub node-seen : {l st : List ℕ} (s : State) {i : ℕ} → Ready l st (unpaid s
 unfolding unpaid
 node-seen s r = record { top = s .top; thing = stx (r .thing); shown = r .shown; inside = omega (arith, r .room .fits); small = r .room .small }
 
-pub node-held : {l st : List ℕ} (s : State) {i : ℕ} → Ready l st (unpaid s) i → s .bindings * 3 ≤ length st
+pub node-held : {l st : List ℕ} (s : State) {i : ℕ} → Ready l st (unpaid s) i → s .bindings * bindingSize ≤ length st
 unfolding unpaid
 node-held s r = omega (arith, r .held .few, r .held .wide)
 
-pub node-roomy : {l st : List ℕ} (s : State) {i : ℕ} → Ready l st (unpaid s) i → Roomy l (s .top) 8
+pub node-roomy : {l st : List ℕ} (s : State) {i : ℕ} → Ready l st (unpaid s) i → Roomy l (s .top) nodeSize
 unfolding unpaid
 node-roomy s r = record { fits = omega (arith, r .room .fits); small = r .room .small; low = r .room .low }
 
@@ -116,7 +118,7 @@ module _ (left : ℕ) (s : State) {u : State} {x : Charged} (h : x ≡ enterOf l
       record {
         means = λ y q.
             let a = f .means y (rw (top-is w) q) in
-            let d : Agrees trees 1 5 l l1 s (bindsOf st) (parseEntry (λ z. parse (left - 1) ph z) ph y (stateOf u (bindsOf st))) (ended r) = rw (unpaid-is w) at a in
+            let d : Agrees trees 1 cellSize l l1 s (bindsOf st) (parseEntry (λ z. parse (left - 1) ph z) ph y (stateOf u (bindsOf st))) (ended r) = rw (unpaid-is w) at a in
             rw (entry-goes (parse-entry ph y) left s (bindsOf st) h e) d;
       }
 
@@ -209,7 +211,7 @@ pub list-empty : {left ph : ℕ} {st l : List ℕ} {s : State} {c : ℕ} → c �
 list-empty {left} {ph} {st} {l} {s} h =
     record { means = λ k ps w. rw (nil-at ps w h) (stops _ (entry-empty (λ y. parse left ph y) ph (stateOf s (bindsOf st)) k)) }
 
-pub list-inside : {l st : List ℕ} (s : State) {c : ℕ} → ReadyParts l st (unpaid s) c → ¬ (c ≡ 0) → c + 5 ≤ length l
+pub list-inside : {l st : List ℕ} (s : State) {c : ℕ} → ReadyParts l st (unpaid s) c → ¬ (c ≡ 0) → c + cellSize ≤ length l
 unfolding unpaid
 list-inside s r h = omega (arith, first-at (r .thing) (r .shown) h refl .cell .inside, r .room .fits)
 
@@ -297,7 +299,7 @@ pub lambda-seen : {l st : List ℕ} (s : State) {c : ℕ} → ReadyParts l st (u
 unfolding unpaid
 lambda-seen s r = record { top = s .top; thing = fromStxs (r .thing); shown = r .shown; inside = omega (arith, r .room .fits); small = r .room .small }
 
-pub parts-held : {l st : List ℕ} (s : State) {c : ℕ} → ReadyParts l st (unpaid s) c → s .bindings * 3 ≤ length st
+pub parts-held : {l st : List ℕ} (s : State) {c : ℕ} → ReadyParts l st (unpaid s) c → s .bindings * bindingSize ≤ length st
 unfolding unpaid
 parts-held s r = omega (arith, r .held .few, r .held .wide)
 
@@ -358,7 +360,7 @@ module _ {left ph : ℕ} {st l l1 : List ℕ} (s : State) {body : ℕ} {a : Answ
   function-refused e = record { means = λ x w. stops _ (then-no _ (on-refused (v .means x w) (ap ended e))) }
 
   module _ {o : Out} (e : a ≡ Done o) where
-    function-gave : (x : Stx) → Rep l (s .top) body (stx x) → Gave trees 1 5 l l1 s (bindsOf st) (parse left ph x (stateOf s (bindsOf st))) o
+    function-gave : (x : Stx) → Rep l (s .top) body (stx x) → Gave trees 1 cellSize l l1 s (bindsOf st) (parse left ph x (stateOf s (bindsOf st))) o
     function-gave x w = on-done (v .means x w) (ap ended e)
 
     pub function-ready : Ready l st (unpaid s) body → length l1 ≡ length l → Closable l1 (o .state .top) (o .at)
@@ -494,7 +496,7 @@ module _ {left ph : ℕ} {st l l1 : List ℕ} (s : State) {c : ℕ} {a : Answer}
       record { means = λ h ps w. stops _ (application-no (λ y. parse left ph y) h ps (stateOf s (bindsOf st)) (on-refused (v .means (cons h ps) w) (ap ended e))) }
 
   module _ {o : Out} (e : a ≡ Done o) where
-    pub application-roomy : ReadyParts l st (unpaid s) c → length l1 ≡ length l → Roomy l1 (o .state .top) 8
+    pub application-roomy : ReadyParts l st (unpaid s) c → length l1 ≡ length l → Roomy l1 (o .state .top) nodeSize
     unfolding unpaid
     application-roomy r len =
         let g = on-done (v .means (r .thing) (r .shown)) (ap ended e) in
@@ -529,7 +531,7 @@ unfolding parseAll
 parts-none {left} {ph} {st} {l} {s} r h =
     record { means = λ ps w. rw (nil-at ps w h) (gives _ (record { value = tnil; is = refl; shown = record { rep = is-none; few = r .held .few }; later = later-refl l s })) }
 
-pub parts-inside : {l st : List ℕ} {s : State} {c : ℕ} → ReadyParts l st s c → ¬ (c ≡ 0) → c + 5 ≤ length l
+pub parts-inside : {l st : List ℕ} {s : State} {c : ℕ} → ReadyParts l st s c → ¬ (c ≡ 0) → c + cellSize ≤ length l
 parts-inside r h = omega (arith, first-at (r .thing) (r .shown) h refl .cell .inside, r .room .fits)
 
 module _ {st l : List ℕ} {s : State} {c : ℕ} {x : Cell} (h : ¬ (c ≡ 0)) (e : x ≡ getCell l c) where
@@ -544,7 +546,7 @@ module _ {st l : List ℕ} {s : State} {c : ℕ} {x : Cell} (h : ¬ (c ≡ 0)) (
 -- ---- pair
 
 -- the part before has left the cell's room
-since-cell : {l l1 l2 : List ℕ} {s s1 : State} {b : Store} {q q′ : m.Out Trees} {x : Ended Out} → Later 1 5 l l1 s s1 → q ≡ q′ → Agrees chains 1 11 l1 l2 (unpaid s1) b q′ x → Agrees chains 0 0 l l2 s b q x
+since-cell : {l l1 l2 : List ℕ} {s s1 : State} {b : Store} {q q′ : m.Out Trees} {x : Ended Out} → Later 1 cellSize l l1 s s1 → q ≡ q′ → Agrees chains 1 cellSpare l1 l2 (unpaid s1) b q′ x → Agrees chains 0 0 l l2 s b q x
 unfolding unpaid
 since-cell {l} {l1} {l2} {s} {s1} p e (gives o a) =
     gives o (record {
@@ -569,7 +571,7 @@ module _ {left ph : ℕ} {st l l1 : List ℕ} {s : State} {i : ℕ} {a : Answer}
   pair-first-refused k = record { means = λ x ps w y. stops _ (then-no _ (on-refused (v .means x w) (ap ended k))) }
 
   module _ {o : Out} (k : a ≡ Done o) where
-    first-gave : (x : Stx) → Rep l (s .top) i (stx x) → Gave trees 1 5 l l1 s (bindsOf st) (parse left ph x (stateOf s (bindsOf st))) o
+    first-gave : (x : Stx) → Rep l (s .top) i (stx x) → Gave trees 1 cellSize l l1 s (bindsOf st) (parse left ph x (stateOf s (bindsOf st))) o
     first-gave x w = on-done (v .means x w) (ap ended k)
 
     pub pair-rest-ready : {c : ℕ} → ReadyPair l st s i c → length l1 ≡ length l → ReadyRest l1 st (o .state) (o .at) c

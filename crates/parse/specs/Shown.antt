@@ -7,19 +7,20 @@ use Rattle.steps.specs.Agreement.{Shape}
 use Rattle.steps.specs.declared.State.{State}
 use Rattle.steps.specs.declared.Out.{Out}
 use Rattle.things.specs.Rep.{Rep, RepP}
+use Rattle.store.specs.Sizes.{storeSize}
 
--- the store has the words of 128 bindings
+-- the store is whole, and holds no more than it has room for
 pub record Held (st : List ℕ) (s : State) : Type 0 where
-  pub few : s .bindings ≤ 128
-  pub wide : 384 ≤ length st
+  pub few : s .bindings ≤ 512
+  pub wide : storeSize ≤ length st
 
 pub record ShownTree (l : List ℕ) (o : Out) (t : Tree) : Type 0 where
   pub rep : Rep l (o .state .top) (o .at) t
-  pub few : o .state .bindings ≤ 128
+  pub few : o .state .bindings ≤ 512
 
 pub record ShownChain (l : List ℕ) (o : Out) (ts : Trees) : Type 0 where
   pub rep : RepP l (o .state .top) (o .at) ts
-  pub few : o .state .bindings ≤ 128
+  pub few : o .state .bindings ≤ 512
 
 abbrev pub trees : Shape Tree Out
 trees = record { shows = λ l o t. ShownTree l o t; state = λ o. o .state }

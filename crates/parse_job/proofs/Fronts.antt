@@ -35,6 +35,7 @@ use Rattle.endings.specs.Ends.{EndsAs, refuses}
 use Rattle.endings.proofs.Worked.{stop-ends}
 use Rattle.parse_job.specs.Judging.{work, Known, KnownEnds}
 use Rattle.parse_job.specs.Loading.{Loading, LoadedEnds}
+use Rattle.store.specs.Sizes.{storeSize}
 
 -- ---- a judged image
 
@@ -87,10 +88,10 @@ module _ {image store : List ℕ} {q : Judged} (e : SyntaxJudged image store q) 
   unfolding withImage
   image-fault {f} budget out i = refuses (parse-read image budget (length out) (e .bad f i)) refl
 
-  unfoldable pub image-known : {j : Judgement} {l : List ℕ} {budget : ℕ} → Lent l budget → 384 ≤ length store → q ≡ judged.Good j → Known image j store l budget
+  unfoldable pub image-known : {j : Judgement} {l : List ℕ} {budget : ℕ} → Lent l budget → storeSize ≤ length store → q ≡ judged.Good j → Known image j store l budget
   image-known {j} n w i = record { lent = n; good = e .good j i; wide = w }
 
-  pub image-ends : {j : Judgement} {l : List ℕ} {budget : ℕ} {out out′ : List ℕ} {r : Ending} → Lent l budget → 384 ≤ length store → q ≡ judged.Good j
+  pub image-ends : {j : Judgement} {l : List ℕ} {budget : ℕ} {out out′ : List ℕ} {r : Ending} → Lent l budget → storeSize ≤ length store → q ≡ judged.Good j
       → KnownEnds image j store l budget out out′ r → EndsAs (parseEnding image budget (length out)) out out′ r
   unfolding withImage image-known
   image-ends {j} {budget = budget} {out = out} {out′ = out′} {r = r} n w i y =

@@ -12,6 +12,7 @@ use Rattle.judged.specs.declared.Judgement.{Judgement}
 use Rattle.judged.specs.Judging.{SyntaxGood}
 use Rattle.endings.specs.declared.Ending.{Ending}
 use Rattle.endings.specs.Ends.{EndsAs}
+use Rattle.store.specs.Sizes.{storeSize}
 
 -- the work of the job on an image that was read, with an output of `room` bytes
 unfoldable pub work : ℕ → ℕ → Image Stx → jobs.Ending
@@ -20,7 +21,7 @@ work budget room i = worked budget (parseRoot (i .root) (start budget i)) (λ r 
 pub record Known (image : List ℕ) (j : Judgement) (store l : List ℕ) (budget : ℕ) : Type 0 where
   pub lent : Lent l budget
   pub good : SyntaxGood image store j
-  pub wide : 384 ≤ length store
+  pub wide : storeSize ≤ length store
 
 pub record KnownEnds (image : List ℕ) (j : Judgement) (store l : List ℕ) (budget : ℕ) (out out′ : List ℕ) (r : Ending) : Type 0 where
   pub means : (d : Known image j store l budget) → EndsAs (work budget (length out) (d .good .image)) out out′ r

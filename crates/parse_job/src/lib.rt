@@ -5,6 +5,7 @@ use judged::Judgement;
 use steps::Answer;
 use steps::Charged;
 use steps::State;
+use store::resolving::Resolving;
 ghost use lib.ListN.{length};
 ghost use Rattle.model.specs.Jobs.{parseEnding};
 ghost use Rattle.table.specs.Lending.{Lent};
@@ -66,12 +67,12 @@ fn parse_judged(
     }
 }
 
-// How the job ends, with a table of 16 words per unit of budget.
+// How the job ends, with a table as the budget wants it.
 pub fn parse_work(out: &mut [u8], image: &[u8], table: &mut [u32], budget: u32) -> Ending
     requires { ⌜ Lent (now table) budget ⌝ }
     ensures { λ r. ⌜ EndsAs (parseEnding (now (image .entry)) budget (length (now (out .entry)))) (now (out .entry)) (now (out .exit)) r ⌝ }
 {
-    let mut store = [0u64; 384];
+    let mut store = [0u64; Resolving::STORE];
     match judged::judge_syntax(image, &mut store) {
         Judged::Good(j) => parse_judged(out, image, j, &store, table, budget),
         Judged::Fault(f) => Ending::Refused(f, 0),

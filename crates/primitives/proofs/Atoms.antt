@@ -22,7 +22,7 @@ use Rattle.things.proofs.ByTag.{tag-is, datum-at}
 use Rattle.things.proofs.Making.{made-datum}
 use Rattle.primitives.specs.Working.{wrong, Does2, Does3, same, pick, agreed}
 use Rattle.primitives.specs.declared.Part.the-variants.{Wrong, Piece}
-use Rattle.primitives.proofs.Common.{room-8, read-inside, found, added, given-none}
+use Rattle.primitives.proofs.Common.{node-room, read-inside, found, added, given-none}
 
 -- ---- agree
 
@@ -134,4 +134,4 @@ module _ {l : List ℕ} {top x y z : ℕ} {p : Node} (e : p ≡ getNode l x) whe
   pub pick-other : p .tag ≡ numberValueTag → ¬ (p .content ≡ 0) → Does3 pick l l top x y z (Piece (record { at = y; top = top }))
   pick-other h k = record { means = λ t u v a b c. found y u (ap (λ (w : Tree). pick w u v) (number-at a e h) ∙ pick-first (p .content) u v k) b }
 
-pub ruleset laws = (room-8, read-inside, agree-kind, agree-content, agree-both, same-wrong, same-wrong-2, same-is, pick-wrong, pick-zero, pick-other)
+pub ruleset laws = (node-room, read-inside, agree-kind, agree-content, agree-both, same-wrong, same-wrong-2, same-is, pick-wrong, pick-zero, pick-other)

@@ -15,11 +15,12 @@ use Rattle.things.specs.declared.Made.{Made}
 use Rattle.things.proofs.Frame.{below}
 use Rattle.primitives.specs.Working.{Ready, Pieced, piece}
 use Rattle.primitives.specs.declared.Part.the-variants.{Piece}
+use Rattle.table.specs.Sizes.{nodeSize}
 
-pub room-8 : {l : List ℕ} {top x : ℕ} → Ready l top x → Roomy l top 8
-room-8 r = record { fits = omega (arith, r .room .fits); small = r .room .small; low = r .room .low }
+pub node-room : {l : List ℕ} {top x : ℕ} → Ready l top x → Roomy l top nodeSize
+node-room r = record { fits = omega (arith, r .room .fits); small = r .room .small; low = r .room .low }
 
-pub read-inside : {l : List ℕ} {top x : ℕ} → Ready l top x → x + 8 ≤ length l
+pub read-inside : {l : List ℕ} {top x : ℕ} → Ready l top x → x + nodeSize ≤ length l
 read-inside r = omega (arith, below (r .shown), r .room .fits)
 
 -- a value that is there already

@@ -27,7 +27,8 @@ use Rattle.things.proofs.Making.{made-lst, made-datum, made-atom, made-list}
 use Rattle.things.proofs.Measuring.{cell-inside}
 use Rattle.primitives.specs.Working.{Ready, wrong, Does1, Does2, stxE, mkStx, Opened, all, other, AllSyntax}
 use Rattle.primitives.specs.declared.Part.the-variants.{Wrong, Piece}
-use Rattle.primitives.proofs.Common.{room-8, read-inside, added, renamed}
+use Rattle.primitives.proofs.Common.{node-room, read-inside, added, renamed}
+use Rattle.table.specs.Sizes.{cellSize, nodeSize}
 
 not-syntax : {l : List ℕ} {top i : ℕ} {p : Node} {t : Tree} → Rep l top i t → p ≡ getNode l i → listTag < p .tag → asStx t ≡ none
 unfolding asStx
@@ -97,11 +98,11 @@ module _ {l : List ℕ} {c at : ℕ} (s : Scanned l c at) where
   scan-end h = s .back true (record { means = λ top ts r. rw (none-at r h) (all m.nil refl refl) })
 
   module _ (h : ¬ (at ≡ 0)) where
-    pub scan-inside : at + 5 ≤ length l
+    pub scan-inside : at + cellSize ≤ length l
     scan-inside = cell-inside (s .seen) h
 
     module _ {x : Cell} (e : x ≡ getCell l at) where
-      pub scan-head : x .head + 8 ≤ length l
+      pub scan-head : x .head + nodeSize ≤ length l
       scan-head = omega (arith, below (part-at (s .seen .shown) h e .cell .shown), s .seen .inside)
 
       pub scan-less : x .tail < at
@@ -219,4 +220,4 @@ module _ {l : List ℕ} {top x y : ℕ} {p : Node} (k : p ≡ getNode l x) where
               (made-atom (w .value) (ap setsOf g ∙ i .sets) o2) (o .stored);
         }
 
-pub ruleset laws = (room-8, read-inside, open-wrong, open-atom, open-list, scan-start, scan-end, scan-inside, scan-head, scan-less, scan-wrong, scan-next, close-wrong, close-seen, close-value, close-parts, close-list, close-atom)
+pub ruleset laws = (node-room, read-inside, open-wrong, open-atom, open-list, scan-start, scan-end, scan-inside, scan-head, scan-less, scan-wrong, scan-next, close-wrong, close-seen, close-value, close-parts, close-list, close-atom)

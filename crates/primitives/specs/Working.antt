@@ -16,6 +16,7 @@ use Rattle.things.specs.Making.{Roomy}
 use Rattle.things.specs.declared.Made.{Made}
 use Rattle.primitives.specs.declared.Part.{Part}
 use Rattle.primitives.specs.declared.Part.the-variants.{Wrong, Piece}
+use Rattle.table.specs.Sizes.{unitSize}
 
 -- ---- each of the rules' primitives, of as many values as it takes
 
@@ -53,7 +54,7 @@ pick a b c = primitive 6 a b c
 pub record Ready (l : List ℕ) (top x : ℕ) : Type 0 where
   pub thing : Tree
   pub shown : Rep l top x thing
-  pub room : Roomy l top 16
+  pub room : Roomy l top unitSize
 
 -- at most three values; an index past the last may be anything
 pub data Given (l : List ℕ) (top : ℕ) : ℕ → ℕ → ℕ → Trees → Type 0 where
@@ -64,14 +65,14 @@ pub record ReadyAll (l : List ℕ) (top p x y z : ℕ) : Type 0 where
   pub thing : Trees
   pub given : Given l top x y z thing
   pub able : tcount thing ≡ arity p
-  pub room : Roomy l top 16
+  pub room : Roomy l top unitSize
 
 -- ---- what is given
 
--- the value q, made of at most 16 words, or none
+-- the value q, made of at most the words of a unit, or none
 pub data Pieced (l l′ : List ℕ) (top : ℕ) (q : Option Tree) : Part → Type 0 where
   wrong : q ≡ none → Pieced l l′ top q Wrong
-  piece : (m : Made) (v : Tree) → q ≡ some v → Rep l′ (m .top) (m .at) v → Same top l l′ → top ≤ m .top → m .top ≤ top + 16 → Pieced l l′ top q (Piece m)
+  piece : (m : Made) (v : Tree) → q ≡ some v → Rep l′ (m .top) (m .at) v → Same top l l′ → top ≤ m .top → m .top ≤ top + unitSize → Pieced l l′ top q (Piece m)
 
 pub record Does1 (f : Tree → Option Tree) (l l′ : List ℕ) (top x : ℕ) (r : Part) : Type 0 where
   pub means : (t : Tree) → Rep l top x t → Pieced l l′ top (f t) r

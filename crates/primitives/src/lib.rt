@@ -1,5 +1,5 @@
-// The primitives of document 01, 'Parsing and evaluating', on values in the table. Each makes at most 13 words, of the 16 that its charge of
-// one unit pays for.
+// The primitives of document 01, 'Parsing and evaluating', on values in the table. Each makes at most a node and
+// a cell, which its charge of one unit pays for.
 use table::Node;
 use things::Made;
 ghost use mathlib.Core.Path.{_≡_};

@@ -56,24 +56,26 @@ use Rattle.scoping.specs.declared.Mark.{Mark}
 use Rattle.scoping.specs.declared.Marking.{Marking}
 use Rattle.scoping.specs.declared.Marking.the-variants as marking
 use Rattle.scoping.proofs.Steps.{after-after}
+use Rattle.table.specs.Sizes.{nodeSpare, unitSize}
+use Rattle.store.specs.Sizes.{bindingSize, storeSize}
 
 -- ---- the next name and scope
 
-name-ok : (y : ms.State) → y .names < 512 → freshName y ≡ ok (y .names) (record { left = y .left; names = y .names + 1; scopes = y .scopes; binds = y .binds })
+name-ok : (y : ms.State) → y .names < 1024 → freshName y ≡ ok (y .names) (record { left = y .left; names = y .names + 1; scopes = y .scopes; binds = y .binds })
 unfolding freshName mostNames
-name-ok y h = rw (lt-ltb (y .names) 512 h) refl
+name-ok y h = rw (lt-ltb (y .names) 1024 h) refl
 
-name-no : (y : ms.State) → 512 ≤ y .names → freshName y ≡ no ref.noNameLeft (y .left)
+name-no : (y : ms.State) → 1024 ≤ y .names → freshName y ≡ no ref.noNameLeft (y .left)
 unfolding freshName mostNames
-name-no y h = rw (le-ltb (y .names) 512 h) refl
+name-no y h = rw (le-ltb (y .names) 1024 h) refl
 
-pub scope-ok : (y : ms.State) → y .scopes < 64 → freshScope y ≡ ok (y .scopes + 1) (record { left = y .left; names = y .names; scopes = y .scopes + 1; binds = y .binds })
+pub scope-ok : (y : ms.State) → y .scopes < 256 → freshScope y ≡ ok (y .scopes + 1) (record { left = y .left; names = y .names; scopes = y .scopes + 1; binds = y .binds })
 unfolding freshScope mostScopes
-scope-ok y h = rw (lt-ltb (y .scopes) 64 h) refl
+scope-ok y h = rw (lt-ltb (y .scopes) 256 h) refl
 
-pub scope-no : (y : ms.State) → 64 ≤ y .scopes → freshScope y ≡ no ref.noScopeLeft (y .left)
+pub scope-no : (y : ms.State) → 256 ≤ y .scopes → freshScope y ≡ no ref.noScopeLeft (y .left)
 unfolding freshScope mostScopes
-scope-no y h = rw (le-ltb (y .scopes) 64 h) refl
+scope-no y h = rw (le-ltb (y .scopes) 256 h) refl
 
 abbrev takes : State → State
 takes s = record { top = s .top; units = s .units; names = s .names + 1; scopes = s .scopes + 1; bindings = s .bindings }
@@ -82,16 +84,16 @@ after-name : State → Store → ms.State
 after-name s b = record { left = s .units; names = s .names + 1; scopes = s .scopes; binds = b (s .bindings) }
 
 module _ (s : State) where
-  pub take-no-name : 512 ≤ s .names → Takes s (charged.Refused (record { refusal = NoNameLeft; units = s .units }))
+  pub take-no-name : 1024 ≤ s .names → Takes s (charged.Refused (record { refusal = NoNameLeft; units = s .units }))
   unfolding takeRule
   take-no-name h = record { means = λ l b. stops _ (then-no _ (name-no (stateOf s b) h)) }
 
-  module _ (h : s .names < 512) where
-    pub take-no-scope : 64 ≤ s .scopes → Takes s (charged.Refused (record { refusal = NoScopeLeft; units = s .units }))
+  module _ (h : s .names < 1024) where
+    pub take-no-scope : 256 ≤ s .scopes → Takes s (charged.Refused (record { refusal = NoScopeLeft; units = s .units }))
     unfolding takeRule after-name
     take-no-scope k = record { means = λ l b. stops _ (then-ok _ (name-ok (stateOf s b) h) ∙ then-no _ (scope-no (after-name s b) k)) }
 
-    pub take-by : s .scopes < 64 → s .bindings ≤ 128 → (y : Charged) → y ≡ chargeOf 1 (takes s) → Takes s y
+    pub take-by : s .scopes < 256 → s .bindings ≤ 512 → (y : Charged) → y ≡ chargeOf 1 (takes s) → Takes s y
     unfolding takeRule after-name
     take-by k few (charged.Paid u) f =
         let q = charge-went 1 (takes s) f refl in
@@ -143,18 +145,18 @@ unfolding bindsOf
 binds-length st n = from-length st 0 n
 
 module _ (st : List ℕ) (s : State) (b : Binding) where
-  pub put-full : 128 ≤ s .bindings → Puts st st s b (charged.Refused (record { refusal = NoBindingLeft; units = s .units }))
+  pub put-full : 512 ≤ s .bindings → Puts st st s b (charged.Refused (record { refusal = NoBindingLeft; units = s .units }))
   unfolding bind mostBindings
-  put-full h = record { means = λ l. stops (record { refusal = NoBindingLeft; units = s .units }) (rw (le-ltb (length (bindsOf st (s .bindings))) 128 (omega (arith, binds-length st (s .bindings)))) refl) }
+  put-full h = record { means = λ l. stops (record { refusal = NoBindingLeft; units = s .units }) (rw (le-ltb (length (bindsOf st (s .bindings))) 512 (omega (arith, binds-length st (s .bindings)))) refl) }
 
-  module _ (h : s .bindings < 128) where
-    room-yet : ltb (length (bindsOf st (s .bindings))) 128 ≡ true
-    room-yet = lt-ltb (length (bindsOf st (s .bindings))) 128 (omega (arith, binds-length st (s .bindings)))
+  module _ (h : s .bindings < 512) where
+    room-yet : ltb (length (bindsOf st (s .bindings))) 512 ≡ true
+    room-yet = lt-ltb (length (bindsOf st (s .bindings))) 512 (omega (arith, binds-length st (s .bindings)))
 
-    pub put-holds : 384 ≤ length st → s .bindings * 3 ≤ length st
+    pub put-holds : storeSize ≤ length st → s .bindings * bindingSize ≤ length st
     put-holds w = omega arith
 
-    pub put-fits : 384 ≤ length st → s .bindings * 3 + 3 ≤ length st
+    pub put-fits : storeSize ≤ length st → s .bindings * bindingSize + bindingSize ≤ length st
     put-fits w = omega arith
 
     module _ {z : Bool} (e : z ≡ bound (bindOf b) (bindsOf st (s .bindings))) where
@@ -187,10 +189,10 @@ module _ {l st : List ℕ} (s : State) {i : ℕ} (r : ReadyBinder l st (unpaid s
   unfolding unpaid size
   bind-copy-ready = record { thing = atom (r .sets) (symbol (r .symb)); shown = r .shown; charged = omega arith; room = omega (arith, r .room .fits); small = r .room .small; low = r .room .low }
 
-  pub bind-wide : 384 ≤ length st
+  pub bind-wide : storeSize ≤ length st
   bind-wide = r .held .wide
 
-  pub bind-few : {t : State} {n : ℕ} → t ≡ raisedTo n s → t .bindings ≤ 128
+  pub bind-few : {t : State} {n : ℕ} → t ≡ raisedTo n s → t .bindings ≤ 512
   unfolding unpaid
   bind-few e = rw e (r .held .few)
 
@@ -220,7 +222,7 @@ module _ {l st : List ℕ} (s : State) {i : ℕ} (r : ReadyBinder l st (unpaid s
           rw (k .means (m .top) (changeAt (add (d .0)) ph c) x (copied c x w)) at a
 
       as-bound : Declared d → (c : Sets) (x : ℕ) → Rep l (s .top) i (stx (atom c (symbol x))) → {q : Ended Binder} → Agrees (putsBinder n d (m .at)) 0 0 l1 l1 (raisedTo (m .top) s) (bindsOf st1) (bind (key-of c x) (stateOf s (bindsOf st))) q
-          → Agrees (binders x) 1 8 l l1 (unpaid s) (bindsOf st1) (bindRule (n .0) (d .0) ph c x (stateOf s (bindsOf st))) q
+          → Agrees (binders x) 1 nodeSpare l l1 (unpaid s) (bindsOf st1) (bindRule (n .0) (d .0) ph c x (stateOf s (bindsOf st))) q
       unfolding bindRule unpaid size key-of
       as-bound known c x w (gives o g) =
           let q = v .means (atom c (symbol x)) w in
@@ -270,7 +272,7 @@ module _ {s : State} {y : Charged} (p : Takes s y) where
       record { means = λ c x w. stops _ (bind-split ph c x (stateOf s (bindsOf st)) ∙ then-no _ (on-refused (p .means l (bindsOf st)) (ap paidOf z))) }
 
   module _ {t : State} (z : y ≡ charged.Paid t) where
-    took : (l : List ℕ) (b : Store) → Gave (taken (s .names)) 1 16 l l s b (takeRule (stateOf s b)) t
+    took : (l : List ℕ) (b : Store) → Gave (taken (s .names)) 1 unitSize l l s b (takeRule (stateOf s b)) t
     took l b = on-done (p .means l b) (ap paidOf z)
 
     later-took : (l : List ℕ) (b : Store) → Later 0 0 l l s (unpaid t)
@@ -301,7 +303,7 @@ module _ {s : State} {y : Charged} (p : Takes s y) where
               let g = took l (bindsOf st) in
               let named : bindRule (g .value .name) (g .value .scope) ph c x (stateOf t (bindsOf st)) ≡ bindRule (s .names) (t .scopes) ph c x (stateOf t (bindsOf st)) =
               rw (g .shown .name, sym (g .shown .scope)) refl in
-              since 1 8 (later-took l (bindsOf st)) (omega arith) (omega arith)
+              since 1 nodeSpare (later-took l (bindsOf st)) (omega arith) (omega arith)
               (bind-split ph c x (stateOf s (bindsOf st)) ∙ then-ok _ (g .is) ∙ named)
               (a .means c x (up w (g .later .grows)));
         }
@@ -309,11 +311,11 @@ module _ {s : State} {y : Charged} (p : Takes s y) where
 -- ---- marks
 
 record ScopeWent (s t : State) : Type 0 where
-  some : s .scopes < 64
+  some : s .scopes < 256
   is : t ≡ record { top = s .top; units = s .units; names = s .names; scopes = s .scopes + 1; bindings = s .bindings }
 
 record ScopeFailed (s : State) (f : Stop) : Type 0 where
-  none : 64 ≤ s .scopes
+  none : 256 ≤ s .scopes
   is : f ≡ stopOf NoScopeLeft s
 
 on-test : {A : Type 0} (c : Bool) (x y : A) (P : A → Type 0) → (c ≡ true → P x) → (c ≡ false → P y) → P (if c then x else y)
@@ -323,28 +325,28 @@ on-test false x y P f g = g refl
 scope-went : (s : State) {x : Charged} {t : State} → x ≡ freshScopeOf s → x ≡ charged.Paid t → ScopeWent s t
 unfolding freshScopeOf
 scope-went s {x} {t} h e =
-    on-test (leb 64 (s .scopes)) (charged.Refused (stopOf NoScopeLeft s)) (charged.Paid (record { top = s .top; units = s .units; names = s .names; scopes = s .scopes + 1; bindings = s .bindings }))
+    on-test (leb 256 (s .scopes)) (charged.Refused (stopOf NoScopeLeft s)) (charged.Paid (record { top = s .top; units = s .units; names = s .names; scopes = s .scopes + 1; bindings = s .bindings }))
     (λ (y : Charged). y ≡ charged.Paid t → ScopeWent s t)
     (λ b h′. let z : _≡_ {A = ℕ} 0 1 = cc in absurd (omega arith))
-    (λ b h′. let z : t ≡ record { top = s .top; units = s .units; names = s .names; scopes = s .scopes + 1; bindings = s .bindings } = cc in record { some = leb-false 64 (s .scopes) b; is = z })
+    (λ b h′. let z : t ≡ record { top = s .top; units = s .units; names = s .names; scopes = s .scopes + 1; bindings = s .bindings } = cc in record { some = leb-false 256 (s .scopes) b; is = z })
     (sym h ∙ e)
 
 scope-failed : (s : State) {x : Charged} {f : Stop} → x ≡ freshScopeOf s → x ≡ charged.Refused f → ScopeFailed s f
 unfolding freshScopeOf
 scope-failed s {x} {f} h e =
-    on-test (leb 64 (s .scopes)) (charged.Refused (stopOf NoScopeLeft s)) (charged.Paid (record { top = s .top; units = s .units; names = s .names; scopes = s .scopes + 1; bindings = s .bindings }))
+    on-test (leb 256 (s .scopes)) (charged.Refused (stopOf NoScopeLeft s)) (charged.Paid (record { top = s .top; units = s .units; names = s .names; scopes = s .scopes + 1; bindings = s .bindings }))
     (λ (y : Charged). y ≡ charged.Refused f → ScopeFailed s f)
-    (λ b h′. let z : f ≡ stopOf NoScopeLeft s = cc in record { none = leb-true 64 (s .scopes) b; is = z })
+    (λ b h′. let z : f ≡ stopOf NoScopeLeft s = cc in record { none = leb-true 256 (s .scopes) b; is = z })
     (λ b h′. let z : _≡_ {A = ℕ} 0 1 = cc in absurd (omega arith))
     (sym h ∙ e)
 
-pub scope-none : (s : State) → 64 ≤ s .scopes → charged.Refused (record { refusal = NoScopeLeft; units = s .units }) ≡ freshScopeOf s
+pub scope-none : (s : State) → 256 ≤ s .scopes → charged.Refused (record { refusal = NoScopeLeft; units = s .units }) ≡ freshScopeOf s
 unfolding freshScopeOf
-scope-none s h = rw (le-leb 64 (s .scopes) h) refl
+scope-none s h = rw (le-leb 256 (s .scopes) h) refl
 
-pub scope-some : (s : State) → s .scopes < 64 → charged.Paid (record { top = s .top; units = s .units; names = s .names; scopes = s .scopes + 1; bindings = s .bindings }) ≡ freshScopeOf s
+pub scope-some : (s : State) → s .scopes < 256 → charged.Paid (record { top = s .top; units = s .units; names = s .names; scopes = s .scopes + 1; bindings = s .bindings }) ≡ freshScopeOf s
 unfolding freshScopeOf
-scope-some s h = rw (lt-leb 64 (s .scopes) h) refl
+scope-some s h = rw (lt-leb 256 (s .scopes) h) refl
 
 module _ (ph u k : ℕ) {l l1 : List ℕ} {s : State} {i : ℕ} {a : Answer} (v : Changes (addScope u ph) l l1 s i a) where
   pub mark-use-refused : {f : Stop} → a ≡ Refused f → Marks ph u k l l1 s i (marking.Refused f)
@@ -352,7 +354,7 @@ module _ (ph u k : ℕ) {l l1 : List ℕ} {s : State} {i : ℕ} {a : Answer} (v 
   mark-use-refused e = record { means = λ b x w. stops _ (then-no _ (on-refused (v .means b x w) (ap ended e))) }
 
   module _ {o : Out} (e : a ≡ Done o) where
-    used : (b : Store) (x : Stx) → Rep l (s .top) i (stx x) → Gave objects 1 8 l l1 s b (changeRule (addScope u ph) x (stateOf s b)) o
+    used : (b : Store) (x : Stx) → Rep l (s .top) i (stx x) → Gave objects 1 nodeSpare l l1 s b (changeRule (addScope u ph) x (stateOf s b)) o
     used b x w = on-done (v .means b x w) (ap ended e)
 
     pub mark-ready : ReadyObject l s i → length l1 ≡ length l → ReadyObject l1 (o .state) (o .at)
@@ -377,7 +379,7 @@ module _ (ph u k : ℕ) {l l1 : List ℕ} {s : State} {i : ℕ} {a : Answer} (v 
                   value = record { object = h .value; intro = k };
                   is = then-ok _ (g .is) ∙ then-ok _ (h .is);
                   shown = record { rep = h .shown .rep; intro = same; declared = known; few = h .shown .few };
-                  later = later-trans 1 8 (g .later) (h .later) (omega arith) (omega arith);
+                  later = later-trans 1 nodeSpare (g .later) (h .later) (omega arith) (omega arith);
                 });
           }
 
@@ -437,7 +439,7 @@ module _ (s : State) {x : Charged} (h : x ≡ freshScopeOf s) where
                 then-ok _ (scope-ok (stateOf s b) (first .some))
                 ∙ then-ok _ (scope-ok (record { left = s .units; names = s .names; scopes = s .scopes + 1; binds = b (s .bindings) }) (omega (arith, second .some, ts)))
                 ∙ named in
-                since 1 8 (later-marks l) (omega arith) (omega arith) goes d;
+                since 1 nodeSpare (later-marks l) (omega arith) (omega arith) goes d;
           }
 
 pub ruleset laws = (

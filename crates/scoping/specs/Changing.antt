@@ -10,10 +10,11 @@ use Rattle.steps.specs.declared.State.{State}
 use Rattle.steps.specs.declared.Out.{Out}
 use Rattle.steps.specs.declared.Answer.{Answer}
 use Rattle.things.specs.Rep.{Rep}
+use Rattle.table.specs.Sizes.{nodeSpare}
 
 pub record ShownObject (l : List ℕ) (o : Out) (x : Stx) : Type 0 where
   pub rep : Rep l (o .state .top) (o .at) (stx x)
-  pub few : o .state .bindings ≤ 128
+  pub few : o .state .bindings ≤ 512
 
 abbrev pub objects : Shape Stx Out
 objects = record { shows = λ l o x. ShownObject l o x; state = λ o. o .state }
@@ -22,7 +23,7 @@ pub record ReadyObject (l : List ℕ) (s : State) (i : ℕ) : Type 0 where
   pub thing : Stx
   pub shown : Rep l (s .top) i (stx thing)
   pub room : Room l s
-  pub few : s .bindings ≤ 128
+  pub few : s .bindings ≤ 512
 
 unfoldable pub changeRule : (Stx → Stx) → Stx → Step Stx
 unfolding charge size
@@ -32,4 +33,4 @@ changeRule g x = do
 
 -- a unit pays for a node and the cell in its whole, and leaves 3 words; the whole object has no cell
 pub record Changes (g : Stx → Stx) (l l′ : List ℕ) (s : State) (i : ℕ) (r : Answer) : Type 0 where
-  pub means : (b : Store) (x : Stx) → Rep l (s .top) i (stx x) → Agrees objects 1 8 l l′ s b (changeRule g x (stateOf s b)) (ended r)
+  pub means : (b : Store) (x : Stx) → Rep l (s .top) i (stx x) → Agrees objects 1 nodeSpare l l′ s b (changeRule g x (stateOf s b)) (ended r)

@@ -35,6 +35,7 @@ use Rattle.scoping.specs.declared.Bound.the-variants as bound
 use Rattle.scoping.specs.declared.Mark.{Mark}
 use Rattle.scoping.specs.declared.Marking.{Marking}
 use Rattle.scoping.specs.declared.Marking.the-variants as marking
+use Rattle.table.specs.Sizes.{nodeSpare, unitSize}
 
 -- an answer that is a state alone
 abbrev pub paidOf : Charged → Ended State
@@ -59,14 +60,14 @@ pub record ShownTaken (o : State) (k : Taken) (next : ℕ) : Type 0 where
   pub name : k .name ≡ next
   pub scope : o .scopes ≡ k .scope
   pub from-one : 1 ≤ o .scopes
-  pub most : o .scopes ≤ 64
-  pub few : o .bindings ≤ 128
+  pub most : o .scopes ≤ 256
+  pub few : o .bindings ≤ 512
 
 abbrev pub taken : ℕ → Shape Taken State
 taken next = record { shows = λ l o k. ShownTaken o k next; state = λ o. o }
 
 pub record Takes (s : State) (r : Charged) : Type 0 where
-  pub means : (l : List ℕ) (b : Store) → Agrees (taken (s .names)) 1 16 l l s b (takeRule (stateOf s b)) (paidOf r)
+  pub means : (l : List ℕ) (b : Store) → Agrees (taken (s .names)) 1 unitSize l l s b (takeRule (stateOf s b)) (paidOf r)
 
 -- ---- a binding put into the store
 
@@ -74,7 +75,7 @@ pub record Keys (l : List ℕ) (i name ph : ℕ) (r : Binding) : Type 0 where
   pub means : (top : ℕ) (c : Sets) (x : ℕ) → Rep l top i (stx (atom c (symbol x))) → bindOf r ≡ record { symb = x; target = name; set = setAt ph c }
 
 pub record Few (o : State) : Type 0 where
-  pub few : o .bindings ≤ 128
+  pub few : o .bindings ≤ 512
 
 abbrev pub puts : Shape (Unit {0}) State
 puts = record { shows = λ l o k. Few o; state = λ o. o }
@@ -87,7 +88,7 @@ pub record ShownPut (n : Name) (k : Scope) (at : ℕ) (o : Binder) : Type 0 wher
   pub name : o .name ≡ n
   pub scope : o .scope ≡ k
   pub place : o .at ≡ at
-  pub few : o .state .bindings ≤ 128
+  pub few : o .state .bindings ≤ 512
 
 abbrev pub putsBinder : Name → Scope → ℕ → Shape (Unit {0}) Binder
 putsBinder n k at = record { shows = λ l o w. ShownPut n k at o; state = λ o. o .state }
@@ -114,7 +115,7 @@ pub record ShownBinder (x : ℕ) (l : List ℕ) (o : Binder) (k : m.Binder) : Ty
   pub scope : o .scope .0 ≡ k .scope
   pub declared : Declared (o .scope)
   pub rep : Rep l (o .state .top) (o .at) (stx (atom (k .sets) (symbol x)))
-  pub few : o .state .bindings ≤ 128
+  pub few : o .state .bindings ≤ 512
 
 abbrev pub binders : ℕ → Shape m.Binder Binder
 binders x = record { shows = λ l o k. ShownBinder x l o k; state = λ o. o .state }
@@ -132,17 +133,17 @@ pub record Added (ph k : ℕ) (l l′ : List ℕ) (top i at top′ : ℕ) : Type
 -- the unit charged before pays for the binder
 pub record Binds (ph : ℕ) (st st′ l l′ : List ℕ) (s : State) (name scope i : ℕ) (r : Bound) : Type 0 where
   pub means : (c : Sets) (x : ℕ) → Rep l (s .top) i (stx (atom c (symbol x)))
-      → Agrees (binders x) 1 8 l l′ (unpaid s) (bindsOf st′) (bindRule name scope ph c x (stateOf s (bindsOf st))) (boundOf r)
+      → Agrees (binders x) 1 nodeSpare l l′ (unpaid s) (bindsOf st′) (bindRule name scope ph c x (stateOf s (bindsOf st))) (boundOf r)
 
 pub record BindsFresh (ph : ℕ) (st st′ l l′ : List ℕ) (s : State) (i : ℕ) (r : Bound) : Type 0 where
   pub means : (c : Sets) (x : ℕ) → Rep l (s .top) i (stx (atom c (symbol x)))
-      → Agrees (binders x) 1 8 l l′ s (bindsOf st′) (bindFresh ph c x (stateOf s (bindsOf st))) (boundOf r)
+      → Agrees (binders x) 1 nodeSpare l l′ s (bindsOf st′) (bindFresh ph c x (stateOf s (bindsOf st))) (boundOf r)
 
 -- ---- the marks of a macro's use
 
 unfoldable pub freshScopeOf : State → Charged
 freshScopeOf s =
-    if leb 64 (s .scopes)
+    if leb 256 (s .scopes)
     then charged.Refused (stopOf NoScopeLeft s)
     else charged.Paid (record { top = s .top; units = s .units; names = s .names; scopes = s .scopes + 1; bindings = s .bindings })
 
@@ -168,7 +169,7 @@ pub record ShownMark (l : List ℕ) (o : Mark) (k : Marked) : Type 0 where
   pub rep : Rep l (o .state .top) (o .at) (stx (k .object))
   pub intro : o .intro .0 ≡ k .intro
   pub declared : Declared (o .intro)
-  pub few : o .state .bindings ≤ 128
+  pub few : o .state .bindings ≤ 512
 
 abbrev pub marks : Shape Marked Mark
 marks = record { shows = λ l o k. ShownMark l o k; state = λ o. o .state }
@@ -178,7 +179,7 @@ markingOf (marking.Done o) = ends o
 markingOf (marking.Refused f) = refused f
 
 pub record Marks (ph u k : ℕ) (l l′ : List ℕ) (s : State) (i : ℕ) (r : Marking) : Type 0 where
-  pub means : (b : Store) (x : Stx) → Rep l (s .top) i (stx x) → Agrees marks 1 8 l l′ s b (marksRule ph u k x (stateOf s b)) (markingOf r)
+  pub means : (b : Store) (x : Stx) → Rep l (s .top) i (stx x) → Agrees marks 1 nodeSpare l l′ s b (marksRule ph u k x (stateOf s b)) (markingOf r)
 
 pub record MarksFresh (ph : ℕ) (l l′ : List ℕ) (s : State) (i : ℕ) (r : Marking) : Type 0 where
-  pub means : (b : Store) (x : Stx) → Rep l (s .top) i (stx x) → Agrees marks 1 8 l l′ s b (markRule ph x (stateOf s b)) (markingOf r)
+  pub means : (b : Store) (x : Stx) → Rep l (s .top) i (stx x) → Agrees marks 1 nodeSpare l l′ s b (markRule ph x (stateOf s b)) (markingOf r)

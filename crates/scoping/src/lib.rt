@@ -23,6 +23,7 @@ ghost use Rattle.things.specs.Measuring.{Seen};
 ghost use Rattle.scoping.specs.Changing.{ReadyObject, Changes};
 ghost use Rattle.syntax.specs.Copying.{Copyable};
 ghost use Rattle.scoping.specs.Fresh.{freshScopeOf, Takes, Puts, PutsBinder, Keys, Added, ReadyBinder, Binds, BindsFresh, Marks, MarksFresh};
+ghost use Rattle.store.specs.Sizes.{storeSize};
 
 // ---- changes of scopes, charged the object's size
 
@@ -88,7 +89,7 @@ pub enum Bound {
 
 // The next name and the next scope, and the charge for the binder: the state's last name and scope are then those.
 fn take(s: State) -> Charged
-    requires { ⌜ s .bindings ≤ 128 ⌝ }
+    requires { ⌜ s .bindings ≤ 512 ⌝ }
     ensures { λ r. ⌜ Takes s r ⌝ }
 {
     let n = s.names;
@@ -128,11 +129,11 @@ fn key(table: &[u32], i: u32, name: Name, phase: u32) -> Binding
 }
 
 fn put(store: &mut [u64], s: State, b: Binding) -> Charged
-    requires { ⌜ (s .bindings ≤ 128) × (384 ≤ length (now store)) ⌝ }
+    requires { ⌜ (s .bindings ≤ 512) × (storeSize ≤ length (now store)) ⌝ }
     ensures { λ r. ⌜ Puts (now (store .entry)) (now (store .exit)) s b r ⌝ }
 {
     let n = s.bindings;
-    if 128 <= n {
+    if 512 <= n {
         return Charged::Refused(Stop {
             refusal: Refusal::NoBindingLeft,
             units: s.units,
@@ -153,7 +154,7 @@ fn put(store: &mut [u64], s: State, b: Binding) -> Charged
 
 // The same with the binder, which lies at the index.
 fn put_binder(store: &mut [u64], s: State, b: Binding, name: Name, scope: Scope, at: u32) -> Bound
-    requires { ⌜ (s .bindings ≤ 128) × (384 ≤ length (now store)) ⌝ }
+    requires { ⌜ (s .bindings ≤ 512) × (storeSize ≤ length (now store)) ⌝ }
     ensures { λ r. ⌜ PutsBinder name scope at (now (store .entry)) (now (store .exit)) s b r ⌝ }
 {
     match put(store, s, b) {

@@ -20,6 +20,7 @@ use Rattle.steps.specs.declared.Charged.{Charged}
 use Rattle.steps.specs.declared.Charged.the-variants.{Paid, Refused}
 use Rattle.steps.specs.States.{Store, stateOf, stopOf, paid, chargeOf, enterOf, Room}
 use Rattle.steps.specs.Agreement.{Later, Ready, Shape, Ended, done, refused, Gave, Agrees, gives, stops}
+use Rattle.table.specs.Sizes.{unitSize}
 
 -- ---- the code's charge
 
@@ -134,8 +135,8 @@ later-trans {n} {k} {v} {w} {l} {l1} {l2} {s} {s1} {s2} j u p q h z =
       spent = omega (arith, p .spent, q .spent);
     }
 
--- a charge pays 16 words a unit
-pub later-paid : {n : ℕ} (l : List ℕ) {s u : State} → Went n s u → Later n (16 * n) l l s u
+-- what a charge pays for
+pub later-paid : {n : ℕ} (l : List ℕ) {s u : State} → Went n s u → Later n (unitSize * n) l l s u
 later-paid {n} l {s} {u} w =
     rw (w .is) (record { kept = same-refl (s .top) l; grows = omega arith; fits = omega (arith, w .enough); spent = omega (arith, w .enough) })
 

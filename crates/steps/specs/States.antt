@@ -12,6 +12,7 @@ use Rattle.steps.specs.declared.State.{State}
 use Rattle.steps.specs.declared.Stop.{Stop}
 use Rattle.steps.specs.declared.Charged.{Charged}
 use Rattle.steps.specs.declared.Charged.the-variants.{Paid, Refused}
+use Rattle.table.specs.Sizes.{tableSize, unitSize}
 
 -- what the first n places of the store stand for. Evaluate and parse take any; expand takes what its store's contents are.
 abbrev pub Store : Type 0
@@ -37,11 +38,11 @@ unfoldable pub enterOf : ℕ → State → Charged
 unfolding chargeOf
 enterOf left s = if eqb left 0 then Refused (stopOf TooManyEntries s) else chargeOf 1 s
 
--- the words that the state may still come to use end here: what is left pays 16 words a unit
+-- the words that the state may still come to use end here: what is left of the budget pays for them
 abbrev pub end : State → ℕ
-end s = s .top + 16 * s .units
+end s = s .top + unitSize * s .units
 
 pub record Room (l : List ℕ) (s : State) : Type 0 where
   pub fits : end s ≤ length l
-  pub small : length l ≤ 65536
+  pub small : length l ≤ tableSize
   pub low : 1 ≤ s .top

@@ -7,28 +7,52 @@ use Prim.Native.Nat.{ℕ, zero, suc, _+_, _-_, _*_, _%_, _≤_, _<_}
 use native.Mathlib.Nat.{mod-eq-of-lt, eq-or-lt-of-le}
 use native.Mathlib.Omega.{arith}
 use lib.ListN.{length, getD, set, length-set}
-use lib.Seq.{getD-set-same, getD-set-other}
+use lib.Seq.{sets, length-sets, getD-set-same, getD-set-other}
+use Rattle.model.specs.Limits.{mostBindings}
 use Rattle.model.specs.Choice.{if_then_else_}
 use Rattle.model.specs.Scopes.{Scopes}
 use Rattle.model.specs.Resolving.{Bind, bindBefore, sameKey, bound, insert}
-use Rattle.store.specs.Words.{bindAt, bindsFrom, bindsOf, written, Placed, Shifted}
+use Rattle.scopes.specs.Sets.{wordsFrom, setWords}
+use Rattle.scopes.proofs.Stores.{stores-before, stores-after, stores-at}
+use Rattle.scopes.proofs.Words.{words-same}
+use Rattle.store.specs.declared.bindings.Binding.{Binding}
+use Rattle.store.specs.Words.{bindAt, bindsFrom, bindsOf, bindOf, Put, Placed, Shifted}
+use Rattle.store.specs.Sizes.{bindingSize, storeSize}
+
+-- the store has room for as many bindings as the model allows
+pub store-is : storeSize ≡ mostBindings * bindingSize
+unfolding mostBindings
+store-is = refl
 
 -- ---- one binding
+
+-- a set whose words are those of the store, from the third of a binding on
+pub words-there : (l : List ℕ) (a : ℕ) → wordsFrom 64 setWords (getD l (a + 2) 0 ∷ getD l (a + 3) 0 ∷ getD l (a + 4) 0 ∷ getD l (a + 5) 0 ∷ []) 0 ≡ wordsFrom 64 setWords l (a + 2)
+words-there l a = words-same 64 setWords _ l 0 (a + 2) go
+  where
+    go : (k : ℕ) → k < setWords → getD (getD l (a + 2) 0 ∷ getD l (a + 3) 0 ∷ getD l (a + 4) 0 ∷ getD l (a + 5) 0 ∷ []) (0 + k) 0 ≡ getD l (a + 2 + k) 0
+    go zero g = ap (λ (n : ℕ). getD l n 0) (let e : a + 2 ≡ a + 2 + 0 = omega arith in e)
+    go (suc zero) g = ap (λ (n : ℕ). getD l n 0) (let e : a + 3 ≡ a + 2 + 1 = omega arith in e)
+    go (suc (suc zero)) g = ap (λ (n : ℕ). getD l n 0) (let e : a + 4 ≡ a + 2 + 2 = omega arith in e)
+    go (suc (suc (suc zero))) g = ap (λ (n : ℕ). getD l n 0) (let e : a + 5 ≡ a + 2 + 3 = omega arith in e)
+    go (suc (suc (suc (suc k)))) g = absurd (omega arith)
 
 pub bind-eq : {x y t u : ℕ} {s r : Scopes} → x ≡ y → t ≡ u → s ≡ r
     → _≡_ {A = Bind} (record { symb = x; target = t; set = s }) (record { symb = y; target = u; set = r })
 bind-eq p q e = cc
 
--- the same three words
-pub same-bind : (l m : List ℕ) (i j : ℕ) → ((k : ℕ) → k < 3 → getD l (i * 3 + k) 0 ≡ getD m (j * 3 + k) 0) → bindAt l i ≡ bindAt m j
+-- the same words
+pub same-bind : (l m : List ℕ) (i j : ℕ) → ((k : ℕ) → k < bindingSize → getD l (i * bindingSize + k) 0 ≡ getD m (j * bindingSize + k) 0) → bindAt l i ≡ bindAt m j
 unfolding bindAt
 same-bind l m i j h =
     bind-eq
     (ap (λ (w : ℕ). w % 4294967296)
-    (ap (λ (k : ℕ). getD l k 0) (let e : i * 3 ≡ i * 3 + 0 = omega arith in e) ∙ h 0 (omega arith)
-    ∙ ap (λ (k : ℕ). getD m k 0) (let e : j * 3 + 0 ≡ j * 3 = omega arith in e)))
+    (ap (λ (k : ℕ). getD l k 0) (let e : i * bindingSize ≡ i * bindingSize + 0 = omega arith in e) ∙ h 0 (omega arith)
+    ∙ ap (λ (k : ℕ). getD m k 0) (let e : j * bindingSize + 0 ≡ j * bindingSize = omega arith in e)))
     (ap (λ (w : ℕ). w % 4294967296) (h 1 (omega arith)))
-    (h 2 (omega arith))
+    (words-same 64 setWords l m (i * bindingSize + 2) (j * bindingSize + 2)
+    (λ k p. ap (λ (n : ℕ). getD l n 0) (let e : i * bindingSize + 2 + k ≡ i * bindingSize + (2 + k) = omega arith in e) ∙ h (2 + k) (omega arith)
+    ∙ ap (λ (n : ℕ). getD m n 0) (let e : j * bindingSize + (2 + k) ≡ j * bindingSize + 2 + k = omega arith in e)))
 
 -- ---- runs
 
@@ -135,52 +159,43 @@ module _ {b : Bind} {l : List ℕ} {n i : ℕ} (w : Passed b l n i) where
       last : bindsFrom l 0 i ++ bindsFrom l (0 + i) 1 ≡ bindsFrom l 0 i ++ bindAt l i ∷ []
       last = ap (λ (k : ℕ). bindsFrom l 0 i ++ bindsFrom l k 1) (let e : 0 + i ≡ i = omega arith in e)
 
--- ---- a binding written between others that were moved
+-- ---- a binding put between others that were moved
 
-pub written-other : (l : List ℕ) (i : ℕ) (b : Bind) (k : ℕ) → (k ≡ i * 3 → ⊥) → (k ≡ i * 3 + 1 → ⊥) → (k ≡ i * 3 + 2 → ⊥)
-    → getD (written l i b) k 0 ≡ getD l k 0
-written-other l i b k p q r =
-    getD-set-other (set (set l (i * 3) (b .symb)) (i * 3 + 1) (b .target)) (i * 3 + 2) k (b .set) 0 r
-    ∙ getD-set-other (set l (i * 3) (b .symb)) (i * 3 + 1) k (b .target) 0 q
-    ∙ getD-set-other l (i * 3) k (b .symb) 0 p
+abbrev pub bindWords : Binding → List ℕ
+bindWords b =
+    b .symbol .0 ∷ b .target .0 ∷ getD (b .set .words) 0 0 ∷ getD (b .set .words) 1 0 ∷ getD (b .set .words) 2 0 ∷ getD (b .set .words) 3 0 ∷ []
 
-pub written-same : (l : List ℕ) (i : ℕ) (b : Bind) → i * 3 + 3 ≤ length l → b .symb < 4294967296 → b .target < 4294967296
-    → bindAt (written l i b) i ≡ b
+pub put-words : (l : List ℕ) (i : ℕ) (b : Binding) → i * bindingSize + bindingSize ≤ length l → b .symbol .0 < 4294967296 → b .target .0 < 4294967296
+    → Put (bindOf b) l (sets l (i * bindingSize) (bindWords b)) i
 unfolding bindAt
-written-same l i b h p q =
-    bind-eq (ap (λ (w : ℕ). w % 4294967296) first ∙ mod-eq-of-lt p) (ap (λ (w : ℕ). w % 4294967296) second ∙ mod-eq-of-lt q) third
+put-words l i b h p q = record {
+  long = length-sets l (i * bindingSize) (bindWords b);
+  before = λ k g. stores-before (bindWords b) l (i * bindingSize) k g;
+  after = λ k g. stores-after (bindWords b) l (i * bindingSize) k g;
+  there =
+      bind-eq
+      (ap (λ (w : ℕ). w % 4294967296) (ap (λ (k : ℕ). getD now k 0) (let e : i * bindingSize ≡ i * bindingSize + 0 = omega arith in e) ∙ at 0 (omega arith)) ∙ mod-eq-of-lt p)
+      (ap (λ (w : ℕ). w % 4294967296) (at 1 (omega arith)) ∙ mod-eq-of-lt q)
+      (words-same 64 setWords now (b .set .words) (i * bindingSize + 2) 0 word);
+}
   where
-    one : List ℕ
-    one = set l (i * 3) (b .symb)
+    now : List ℕ
+    now = sets l (i * bindingSize) (bindWords b)
 
-    two : List ℕ
-    two = set one (i * 3 + 1) (b .target)
+    at : (k : ℕ) → k < bindingSize → getD now (i * bindingSize + k) 0 ≡ getD (bindWords b) k 0
+    at k g = stores-at (bindWords b) l (i * bindingSize) k h g
 
-    long-one : length one ≡ length l
-    long-one = length-set l (i * 3) (b .symb)
+    word : (k : ℕ) → k < setWords → getD now (i * bindingSize + 2 + k) 0 ≡ getD (b .set .words) (0 + k) 0
+    word zero g = ap (λ (n : ℕ). getD now n 0) (let e : i * bindingSize + 2 + 0 ≡ i * bindingSize + 2 = omega arith in e) ∙ at 2 (omega arith)
+    word (suc zero) g = ap (λ (n : ℕ). getD now n 0) (let e : i * bindingSize + 2 + 1 ≡ i * bindingSize + 3 = omega arith in e) ∙ at 3 (omega arith)
+    word (suc (suc zero)) g = ap (λ (n : ℕ). getD now n 0) (let e : i * bindingSize + 2 + 2 ≡ i * bindingSize + 4 = omega arith in e) ∙ at 4 (omega arith)
+    word (suc (suc (suc zero))) g = ap (λ (n : ℕ). getD now n 0) (let e : i * bindingSize + 2 + 3 ≡ i * bindingSize + 5 = omega arith in e) ∙ at 5 (omega arith)
+    word (suc (suc (suc (suc k)))) g = absurd (omega arith)
 
-    long-two : length two ≡ length l
-    long-two = length-set one (i * 3 + 1) (b .target) ∙ long-one
-
-    first : getD (written l i b) (i * 3) 0 ≡ b .symb
-    first =
-        getD-set-other two (i * 3 + 2) (i * 3) (b .set) 0 (λ e. omega arith)
-        ∙ getD-set-other one (i * 3 + 1) (i * 3) (b .target) 0 (λ e. omega arith)
-        ∙ getD-set-same l (i * 3) (b .symb) 0 (omega arith)
-
-    second : getD (written l i b) (i * 3 + 1) 0 ≡ b .target
-    second =
-        getD-set-other two (i * 3 + 2) (i * 3 + 1) (b .set) 0 (λ e. omega arith)
-        ∙ getD-set-same one (i * 3 + 1) (b .target) 0 (omega (arith, long-one))
-
-    third : getD (written l i b) (i * 3 + 2) 0 ≡ b .set
-    third = getD-set-same two (i * 3 + 2) (b .set) 0 (omega (arith, long-two))
-
-pub inserted : (b : Bind) (was moved now : List ℕ) (n i : ℕ) → n * 3 + 3 ≤ length moved → b .symb < 4294967296
-    → b .target < 4294967296
-    → Placed b was n i → Shifted (i * 3) (n * 3) was moved → now ≡ written moved i b → bindsOf now (n + 1) ≡ insert b (bindsOf was n)
+pub inserted : (b : Bind) (was moved now : List ℕ) (n i : ℕ) → n * bindingSize + bindingSize ≤ length moved
+    → Placed b was n i → Shifted (i * bindingSize) (n * bindingSize) was moved → Put b moved now i → bindsOf now (n + 1) ≡ insert b (bindsOf was n)
 unfolding bindsOf bindsFrom
-inserted b was moved now n i h p q w s e =
+inserted b was moved now n i h w s e =
     ap (bindsFrom now 0) (let k : n + 1 ≡ i + suc (n - i) = omega (arith, w .inside) in k)
     ∙ split-run now 0 i (suc (n - i))
     ∙ ap₂ _++_ (same-run now was 0 0 i kept) parts
@@ -189,34 +204,35 @@ inserted b was moved now n i h p q w s e =
     inside : i ≤ n
     inside = w .inside
 
-    word : (k : ℕ) → (k ≡ i * 3 → ⊥) → (k ≡ i * 3 + 1 → ⊥) → (k ≡ i * 3 + 2 → ⊥) → getD now k 0 ≡ getD moved k 0
-    word k x y z = ap (λ (l : List ℕ). getD l k 0) e ∙ written-other moved i b k x y z
-
     kept : (k : ℕ) → k < i → bindAt now (0 + k) ≡ bindAt was (0 + k)
     kept k c =
         same-bind now was (0 + k) (0 + k)
-        (λ j t. word ((0 + k) * 3 + j) (λ x. omega arith) (λ x. omega arith) (λ x. omega arith) ∙ s .kept ((0 + k) * 3 + j) (omega arith))
+        (λ j t. e .before ((0 + k) * bindingSize + j) (omega arith) ∙ s .kept ((0 + k) * bindingSize + j) (omega arith))
 
     after : (k : ℕ) → k < n - i → bindAt now (suc i + k) ≡ bindAt was (i + k)
     after k c =
         same-bind now was (suc i + k) (i + k)
-        (λ j t. word ((suc i + k) * 3 + j) (λ x. omega arith) (λ x. omega arith) (λ x. omega arith)
-        ∙ ap (λ (m : ℕ). getD moved m 0) (let x : (suc i + k) * 3 + j ≡ (i + k) * 3 + j + 3 = omega arith in x)
-        ∙ s .moved ((i + k) * 3 + j) (omega arith) (omega (arith, inside)))
+        (λ j t. e .after ((suc i + k) * bindingSize + j) (omega arith)
+        ∙ ap (λ (m : ℕ). getD moved m 0) (let x : (suc i + k) * bindingSize + j ≡ (i + k) * bindingSize + j + bindingSize = omega arith in x)
+        ∙ s .moved ((i + k) * bindingSize + j) (omega arith) (omega (arith, inside)))
 
     parts : bindsFrom now (0 + i) (suc (n - i)) ≡ b ∷ bindsFrom was i (n - i)
     parts =
         ap₂ (λ (c : Bind) (r : List Bind). c ∷ r)
-        (ap₂ bindAt e (let x : 0 + i ≡ i = omega arith in x) ∙ written-same moved i b (omega (arith, inside)) p q)
+        (ap (bindAt now) (let x : 0 + i ≡ i = omega arith in x) ∙ e .there)
         (ap (λ (k : ℕ). bindsFrom now k (n - i)) (let x : suc (0 + i) ≡ suc i = omega arith in x) ∙ same-run now was (suc i) i (n - i) after)
+
+pub put-is : (l : List ℕ) (i : ℕ) (b : Binding) {l′ : List ℕ} → i * bindingSize + bindingSize ≤ length l → b .symbol .0 < 4294967296 → b .target .0 < 4294967296
+    → l′ ≡ sets l (i * bindingSize) (bindWords b) → Put (bindOf b) l l′ i
+put-is l i b h p q e = subst (λ (z : List ℕ). Put (bindOf b) l z i) (sym e) (put-words l i b h p q)
 
 -- ---- moving words up, the last first: those from k on have been moved
 
 pub record Moving (k hi : ℕ) (was now : List ℕ) : Type 0 where
   pub below : k ≤ hi
   pub long : length now ≡ length was
-  pub kept : (j : ℕ) → j < k + 3 → getD now j 0 ≡ getD was j 0
-  pub moved : (j : ℕ) → k ≤ j → j < hi → getD now (j + 3) 0 ≡ getD was j 0
+  pub kept : (j : ℕ) → j < k + bindingSize → getD now j 0 ≡ getD was j 0
+  pub moved : (j : ℕ) → k ≤ j → j < hi → getD now (j + bindingSize) 0 ≡ getD was j 0
 
 pub moving-start : (hi : ℕ) (l : List ℕ) → Moving hi hi l l
 moving-start hi l = record {
@@ -227,27 +243,27 @@ moving-start hi l = record {
 }
 
 -- the word below k is moved too
-pub moving-on : {k hi : ℕ} {was now : List ℕ} → Moving k hi was now → 0 < k → hi + 3 ≤ length was
-    → Moving (k - 1) hi was (set now (k - 1 + 3) (getD now (k - 1) 0))
+pub moving-on : {k hi : ℕ} {was now : List ℕ} → Moving k hi was now → 0 < k → hi + bindingSize ≤ length was
+    → Moving (k - 1) hi was (set now (k - 1 + bindingSize) (getD now (k - 1) 0))
 moving-on {k} {hi} {was} {now} w h room = record {
   below = omega (arith, w .below);
-  long = length-set now (k - 1 + 3) (getD now (k - 1) 0) ∙ w .long;
-  kept = λ j p. getD-set-other now (k - 1 + 3) j (getD now (k - 1) 0) 0 (λ e. omega arith) ∙ w .kept j (omega arith);
+  long = length-set now (k - 1 + bindingSize) (getD now (k - 1) 0) ∙ w .long;
+  kept = λ j p. getD-set-other now (k - 1 + bindingSize) j (getD now (k - 1) 0) 0 (λ e. omega arith) ∙ w .kept j (omega arith);
   moved = λ j p q. ⊎-elim (λ e. here j (sym e)) (λ f. above j (omega arith) q) (eq-or-lt-of-le p);
 }
   where
-    there : k - 1 + 3 < length now
+    there : k - 1 + bindingSize < length now
     there = omega (arith, w .below, w .long)
 
-    here : (j : ℕ) → j ≡ k - 1 → getD (set now (k - 1 + 3) (getD now (k - 1) 0)) (j + 3) 0 ≡ getD was j 0
+    here : (j : ℕ) → j ≡ k - 1 → getD (set now (k - 1 + bindingSize) (getD now (k - 1) 0)) (j + bindingSize) 0 ≡ getD was j 0
     here j e =
-        ap (λ (m : ℕ). getD (set now (k - 1 + 3) (getD now (k - 1) 0)) (m + 3) 0) e
-        ∙ getD-set-same now (k - 1 + 3) (getD now (k - 1) 0) 0 there
+        ap (λ (m : ℕ). getD (set now (k - 1 + bindingSize) (getD now (k - 1) 0)) (m + bindingSize) 0) e
+        ∙ getD-set-same now (k - 1 + bindingSize) (getD now (k - 1) 0) 0 there
         ∙ w .kept (k - 1) (omega arith)
         ∙ ap (λ (m : ℕ). getD was m 0) (sym e)
 
-    above : (j : ℕ) → k ≤ j → j < hi → getD (set now (k - 1 + 3) (getD now (k - 1) 0)) (j + 3) 0 ≡ getD was j 0
-    above j p q = getD-set-other now (k - 1 + 3) (j + 3) (getD now (k - 1) 0) 0 (λ e. omega arith) ∙ w .moved j p q
+    above : (j : ℕ) → k ≤ j → j < hi → getD (set now (k - 1 + bindingSize) (getD now (k - 1) 0)) (j + bindingSize) 0 ≡ getD was j 0
+    above j p q = getD-set-other now (k - 1 + bindingSize) (j + bindingSize) (getD now (k - 1) 0) 0 (λ e. omega arith) ∙ w .moved j p q
 
 pub moving-end : {lo k hi : ℕ} {was now : List ℕ} → Moving k hi was now → k ≡ lo → Shifted lo hi was now
 moving-end w e = record { kept = λ j h. w .kept j (omega arith); moved = λ j h p. w .moved j (omega arith) p }

@@ -2,10 +2,11 @@
 use mathlib.Core.Path.{_≡_}
 use mathlib.Core.List.{List, [], _∷_, _++_}
 use Prim.Native.Nat.{ℕ, zero, suc, _+_, _-_, _*_, _%_, _≤_, _<_}
-use lib.ListN.{getD, set}
+use lib.ListN.{getD, length}
 use Rattle.model.specs.Resolving.{Bind, insert}
-use Rattle.scopes.specs.Sets.{scopesOf}
+use Rattle.scopes.specs.Sets.{scopesOf, wordsFrom, setWords}
 use Rattle.store.specs.declared.bindings.Binding.{Binding}
+use Rattle.store.specs.Sizes.{bindingSize}
 
 abbrev pub bindOf : Binding → Bind
 bindOf b = record { symb = b .symbol .0; target = b .target .0; set = scopesOf (b .set) }
@@ -13,9 +14,9 @@ bindOf b = record { symb = b .symbol .0; target = b .target .0; set = scopesOf (
 -- the binding at place i: symbol and target are numbers of 32 bits
 unfoldable pub bindAt : List ℕ → ℕ → Bind
 bindAt l i = record {
-  symb = getD l (i * 3) 0 % 4294967296;
-  target = getD l (i * 3 + 1) 0 % 4294967296;
-  set = getD l (i * 3 + 2) 0;
+  symb = getD l (i * bindingSize) 0 % 4294967296;
+  target = getD l (i * bindingSize + 1) 0 % 4294967296;
+  set = wordsFrom 64 setWords l (i * bindingSize + 2);
 }
 
 -- n bindings from place i on
@@ -29,16 +30,19 @@ unfoldable pub bindsOf : List ℕ → ℕ → List Bind
 unfolding bindsFrom
 bindsOf l n = bindsFrom l 0 n
 
--- the store l with b at place i
-abbrev pub written : List ℕ → ℕ → Bind → List ℕ
-written l i b = set (set (set l (i * 3) (b .symb)) (i * 3 + 1) (b .target)) (i * 3 + 2) (b .set)
+-- b is put at place i, and the other words stay
+pub record Put (b : Bind) (was now : List ℕ) (i : ℕ) : Type 0 where
+  pub long : length now ≡ length was
+  pub before : (k : ℕ) → k < i * bindingSize → getD now k 0 ≡ getD was k 0
+  pub after : (k : ℕ) → i * bindingSize + bindingSize ≤ k → getD now k 0 ≡ getD was k 0
+  pub there : bindAt now i ≡ b
 
 -- place i is that of b among the first n
 pub record Placed (b : Bind) (l : List ℕ) (n i : ℕ) : Type 0 where
   pub inside : i ≤ n
   pub there : insert b (bindsOf l n) ≡ bindsFrom l 0 i ++ b ∷ bindsFrom l i (n - i)
 
--- the words from lo to hi stand three further on, the ones before are as they were
+-- the words from lo to hi stand one binding further on, the ones before are as they were
 pub record Shifted (lo hi : ℕ) (was now : List ℕ) : Type 0 where
   pub kept : (k : ℕ) → k < lo → getD now k 0 ≡ getD was k 0
-  pub moved : (k : ℕ) → lo ≤ k → k < hi → getD now (k + 3) 0 ≡ getD was k 0
+  pub moved : (k : ℕ) → lo ≤ k → k < hi → getD now (k + bindingSize) 0 ≡ getD was k 0

@@ -1,4 +1,4 @@
-// A binding is three words of the store: symbol, target, set. How many there are is the caller's to keep.
+// A binding is some words of the store: symbol, target, and the words of the set. How many there are is the caller's to keep.
 use scopes::Name;
 use scopes::ScopeSet;
 use scopes::Symbol;
@@ -6,7 +6,8 @@ ghost use mathlib.Core.Path.{_≡_};
 ghost use Prim.Native.Nat.{_+_, _*_, _%_, _≤_, _<_};
 ghost use lib.ListN.{length};
 ghost use Rattle.model.specs.Resolving as model;
-ghost use Rattle.store.specs.Words.{bindOf, bindAt, bindsOf, written, Placed, Shifted};
+ghost use Rattle.store.specs.Words.{bindOf, bindAt, bindsOf, Put, Placed, Shifted};
+ghost use Rattle.store.specs.Sizes.{bindingSize};
 
 pub struct Binding {
     pub symbol: Symbol,
@@ -16,7 +17,7 @@ pub struct Binding {
 
 impl Binding {
     // Of the store.
-    pub const WORDS: usize = 3;
+    pub const WORDS: usize = 2 + ScopeSet::WORDS;
 
     // Ascending by symbol and then set.
     pub fn before(self, other: Binding) -> bool
@@ -52,14 +53,14 @@ fn half(word: u64) -> u32
 
 // The binding at place i.
 pub fn get(store: &[u64], i: usize) -> Binding
-    requires { ⌜ i * 3 + 3 ≤ length (now store) ⌝ }
+    requires { ⌜ i * bindingSize + bindingSize ≤ length (now store) ⌝ }
     ensures { λ r. ⌜ bindOf r ≡ bindAt (now (store .entry)) i ⌝ }
 {
     let at = i * Binding::WORDS;
     let symbol = Symbol(half(store[at]));
     let target = Name(half(store[at + 1]));
     let set = ScopeSet {
-        bits: store[at + 2],
+        words: [store[at + 2], store[at + 3], store[at + 4], store[at + 5]],
     };
     Binding {
         symbol,
@@ -70,19 +71,22 @@ pub fn get(store: &[u64], i: usize) -> Binding
 
 // b written at place i.
 pub fn put(store: &mut [u64], i: usize, b: Binding)
-    requires { ⌜ i * 3 + 3 ≤ length (now store) ⌝ }
-    ensures words { λ _. ⌜ now (store .exit) ≡ written (now (store .entry)) i (bindOf b) ⌝ }
-    ensures there { λ _. ⌜ bindAt (now (store .exit)) i ≡ bindOf b ⌝ }
+    requires { ⌜ i * bindingSize + bindingSize ≤ length (now store) ⌝ }
+    ensures { λ _. ⌜ Put (bindOf b) (now (store .entry)) (now (store .exit)) i ⌝ }
 {
+    let set = b.set;
     let at = i * Binding::WORDS;
     store[at] = b.symbol.0 as u64;
     store[at + 1] = b.target.0 as u64;
-    store[at + 2] = b.set.bits;
+    store[at + 2] = set.words[0];
+    store[at + 3] = set.words[1];
+    store[at + 4] = set.words[2];
+    store[at + 5] = set.words[3];
 }
 
 // Whether the symbol and set of b are bound already by one of the first count.
 pub fn bound(store: &[u64], count: usize, b: Binding) -> bool
-    requires { ⌜ count * 3 ≤ length (now store) ⌝ }
+    requires { ⌜ count * bindingSize ≤ length (now store) ⌝ }
     ensures { λ r. ⌜ r ≡ model.bound (bindOf b) (bindsOf (now (store .entry)) count) ⌝ }
 {
     let mut i = 0;
@@ -97,7 +101,7 @@ pub fn bound(store: &[u64], count: usize, b: Binding) -> bool
 
 // The place of b among the first count: that of the first binding that it comes before.
 fn place(store: &[u64], count: usize, b: Binding) -> usize
-    requires { ⌜ count * 3 ≤ length (now store) ⌝ }
+    requires { ⌜ count * bindingSize ≤ length (now store) ⌝ }
     ensures { λ r. ⌜ Placed (bindOf b) (now (store .entry)) count r ⌝ }
 {
     let mut i = 0;
@@ -112,7 +116,7 @@ fn place(store: &[u64], count: usize, b: Binding) -> usize
 
 // The words from lo to hi moved up by one binding's words, the last first.
 fn shift(store: &mut [u64], lo: usize, hi: usize)
-    requires { ⌜ (lo ≤ hi) × (hi + 3 ≤ length (now store)) ⌝ }
+    requires { ⌜ (lo ≤ hi) × (hi + bindingSize ≤ length (now store)) ⌝ }
     ensures { λ r. ⌜ Shifted lo hi (now (store .entry)) (now (store .exit)) ⌝ }
 {
     let mut k = hi;
@@ -125,7 +129,7 @@ fn shift(store: &mut [u64], lo: usize, hi: usize)
 // b put in its place among the first count, which are one more then. That there is room for it and that its symbol and set
 // are not bound yet is for the caller to judge.
 pub fn insert(store: &mut [u64], count: usize, b: Binding)
-    requires { ⌜ count * 3 + 3 ≤ length (now store) ⌝ }
+    requires { ⌜ count * bindingSize + bindingSize ≤ length (now store) ⌝ }
     ensures { λ r. ⌜ bindsOf (now (store .exit)) (count + 1) ≡ model.insert (bindOf b) (bindsOf (now (store .entry)) count) ⌝ }
 {
     let i = place(store, count, b);

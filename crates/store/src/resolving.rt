@@ -11,6 +11,7 @@ ghost use Rattle.model.specs.Resolving as model;
 ghost use Rattle.scopes.specs.Sets.{scopesOf};
 ghost use Rattle.store.specs.Words.{bindOf, bindsOf};
 ghost use Rattle.store.specs.Pass.{seenOf, noneSeen, alone, joined, beyondAll, taking, seeing, meaning, foundOf};
+ghost use Rattle.store.specs.Sizes.{bindingSize};
 
 // A name, or several candidates none of which contains every other.
 pub enum Found {
@@ -37,9 +38,9 @@ pub struct Resolving {
 
 impl Resolving {
     // Bindings of a job, and the words that it lends for them.
-    pub const MOST: usize = 128;
+    pub const MOST: usize = 512;
 
-    pub const STORE: usize = 384;
+    pub const STORE: usize = Resolving::MOST * Binding::WORDS;
 
     // No candidate is seen.
     fn start() -> Self
@@ -131,7 +132,7 @@ impl Resolving {
 
 // The name of the identifier with symbol x and set s, by the first count bindings of the store.
 pub fn resolve(store: &[u64], count: usize, x: Symbol, s: ScopeSet) -> Found
-    requires { ⌜ count * 3 ≤ length (now store) ⌝ }
+    requires { ⌜ count * bindingSize ≤ length (now store) ⌝ }
     ensures { λ r. ⌜ foundOf r ≡ model.resolve (x .0) (scopesOf s) (bindsOf (now (store .entry)) count) ⌝ }
 {
     let mut seen = Resolving::start();

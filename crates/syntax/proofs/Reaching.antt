@@ -21,6 +21,7 @@ use Rattle.syntax.specs.Reaching.{Reached, ReachedP, Copying, CopiedBy, 
 use Rattle.syntax.specs.Rows.{Laid, laid-none, laid-one, CopiedEach, Row, Chained}
 use Rattle.syntax.proofs.Sizes.{nesting-pos, size-atom, size-list, nesting-list, sizes-cons, nestings-cons}
 use Rattle.syntax.proofs.Rows.{laid-grows, laid-room, laid-flat, laid-stays}
+use Rattle.table.specs.Sizes.{cellSize, nodeSize}
 
 -- ---- what stands at an object's index
 
@@ -61,7 +62,7 @@ atom-is {o = o} {c = c} r e d h =
 -- ---- an object
 
 module _ {lv : ℕ} {l : List ℕ} {top i : ℕ} (r : Reached lv l top i) where
-  pub object-inside : i + 8 ≤ length l
+  pub object-inside : i + nodeSize ≤ length l
   object-inside = omega (arith, r .object .room, size-some (r .object .thing), below (r .object .shown))
 
   pub levels-left : 1 ≤ lv
@@ -186,7 +187,7 @@ all-passed d h =
     }
 
 module _ {lv : ℕ} {w : Copying} {l l1 : List ℕ} {top c end part : ℕ} (r : ReachedP lv l top c) (d : Passing w l l1 top c end part) (h : ¬ (part ≡ 0)) where
-  pub cell-inside : part + 5 ≤ length l1
+  pub cell-inside : part + cellSize ≤ length l1
   cell-inside =
       let k = d .means (r .thing) (r .shown) (r .charged) in
       let p = part-is {x = getCell l1 part} (k .rest) (k .shown) h refl in

@@ -19,6 +19,7 @@ use Rattle.things.proofs.Frame.{up, stays}
 use Rattle.syntax.specs.Reaching.{Copying, changing, stripping, copyOf, copiesOf}
 use Rattle.syntax.specs.Rows.{Laid, laid-none, laid-one, Sized, Row, Chained}
 use Rattle.syntax.proofs.Sizes.{sizes-nil, sizes-cons, nestings-cons, size-onSets, size-strip, weight-strip}
+use Rattle.table.specs.Sizes.{cellSize, nodeSize, partSize}
 
 -- ---- what is copied, by the first part
 
@@ -63,7 +64,7 @@ laid-grows laid-none = omega arith
 laid-grows (laid-one {x = x} d p q r) = omega (arith, laid-grows d, size-some x)
 
 -- what the rest would want still fits
-pub laid-room : {w : Copying} {l : List ℕ} {from end : ℕ} {ps rest : Stxs} → Laid w l from ps end rest → end + 13 * sizes rest ≤ from + 13 * sizes ps
+pub laid-room : {w : Copying} {l : List ℕ} {from end : ℕ} {ps rest : Stxs} → Laid w l from ps end rest → end + partSize * sizes rest ≤ from + partSize * sizes ps
 laid-room laid-none = omega arith
 laid-room (laid-one {x = x} {rest = rest} d p q r) = omega (arith, laid-room d, sizes-cons x rest)
 
@@ -81,18 +82,18 @@ record LastOf (w : Copying) (l : List ℕ) (from : ℕ) (ps : Stxs) (end : ℕ) 
   begin : ℕ
   thing : Stx
   before : Laid w l from ps begin (cons thing rest)
-  span : end + 5 ≡ begin + 13 * size thing
-  high : from + 8 ≤ end
-  shown : Rep l end (end - 8) (copyOf w thing)
+  span : end + cellSize ≡ begin + partSize * size thing
+  high : from + nodeSize ≤ end
+  shown : Rep l end (end - nodeSize) (copyOf w thing)
 
 last-of : {w : Copying} {l : List ℕ} {from end : ℕ} {ps rest : Stxs} → Laid w l from ps end rest → ¬ (end ≡ from) → LastOf w l from ps end rest
 last-of laid-none h = absurd (h refl)
 last-of {w} {l} {from} (laid-one {b = b} {at = at} {end = end} {x = x} d p q r) h =
-    let e : end - 8 ≡ at = omega arith in
+    let e : end - nodeSize ≡ at = omega arith in
     record { begin = b; thing = x; before = d; span = q; high = omega (arith, laid-grows d, size-some x); shown = rw e r }
 
 -- what was copied there has the size that is found
-last-size : {w : Copying} {l : List ℕ} {from end n : ℕ} {ps rest : Stxs} → Sized l (end - 8) n → (z : LastOf w l from ps end rest) → sizes ps ≤ 4096 → n ≡ size (z .thing)
+last-size : {w : Copying} {l : List ℕ} {from end n : ℕ} {ps rest : Stxs} → Sized l (end - nodeSize) n → (z : LastOf w l from ps end rest) → sizes ps ≤ 4096 → n ≡ size (z .thing)
 last-size {w} {end = end} {rest = rest} s z few =
     let h : size (z .thing) ≤ 4096 = omega (arith, laid-room (z .before), laid-grows (z .before), sizes-cons (z .thing) rest) in
     s .means w end (z .thing) (z .shown) h
@@ -107,7 +108,7 @@ pub record Tied (w : Copying) (l : List ℕ) (from : ℕ) (ps : Stxs) (at top la
   pub rest : Stxs
   pub laid : Laid w l from ps last rest
   pub shown : RepP l top at (copiesOf w rest)
-  pub room : top ≡ last + 13 * sizes rest
+  pub room : top ≡ last + partSize * sizes rest
 
 pub record Tying (l l′ : List ℕ) (from end at top last : ℕ) : Type 0 where
   pub long : length l′ ≡ length l
@@ -126,16 +127,16 @@ none-tied {l} {from} {end} =
 
 module _ {l l1 : List ℕ} {from end at top last : ℕ} (r : Row l from end) (d : Tying l l1 from end at top last) where
   module _ (h : ¬ (last ≡ from)) where
-    pub last-node : 8 ≤ last
+    pub last-node : nodeSize ≤ last
     last-node = let k = d .means (r .by) (r .thing) (r .laid) (r .charged) in let z = last-of (k .laid) h in omega (arith, z .high)
 
-    pub last-seen : Seen l1 (last - 8)
+    pub last-seen : Seen l1 (last - nodeSize)
     last-seen =
         let k = d .means (r .by) (r .thing) (r .laid) (r .charged) in
         let z = last-of (k .laid) h in
         record { top = last; thing = copyOf (r .by) (z .thing); shown = z .shown; inside = omega (arith, d .long, laid-room (k .laid), r .room); small = omega (arith, d .long, r .small) }
 
-    pub last-linkable : Linkable l1 top (last - 8) at
+    pub last-linkable : Linkable l1 top (last - nodeSize) at
     last-linkable =
         let k = d .means (r .by) (r .thing) (r .laid) (r .charged) in
         let z = last-of (k .laid) h in
@@ -151,29 +152,29 @@ module _ {l l1 : List ℕ} {from end at top last : ℕ} (r : Row l from end) (d 
           };
         }
 
-    module _ {n : ℕ} (s : Sized l1 (last - 8) n) where
-      pub last-fits : last + 5 < 2 ^ 32
+    module _ {n : ℕ} (s : Sized l1 (last - nodeSize) n) where
+      pub last-fits : last + cellSize < 2 ^ 32
       last-fits = let k = d .means (r .by) (r .thing) (r .laid) (r .charged) in omega (arith, laid-room (k .laid), r .room, r .small)
 
-      pub size-fits : 13 * n < 2 ^ 32
+      pub size-fits : partSize * n < 2 ^ 32
       size-fits =
           let k = d .means (r .by) (r .thing) (r .laid) (r .charged) in
           let z = last-of (k .laid) h in
           omega (arith, last-size s z (r .charged), z .span, laid-room (k .laid), r .room, r .small)
 
-      pub last-begins : 13 * n ≤ last + 5
+      pub last-begins : partSize * n ≤ last + cellSize
       last-begins =
           let k = d .means (r .by) (r .thing) (r .laid) (r .charged) in
           let z = last-of (k .laid) h in
           omega (arith, last-size s z (r .charged), z .span)
 
-      pub last-falls : last + 5 - 13 * n < last
+      pub last-falls : last + cellSize - partSize * n < last
       last-falls =
           let k = d .means (r .by) (r .thing) (r .laid) (r .charged) in
           let z = last-of (k .laid) h in
           omega (arith, last-size s z (r .charged), z .span, size-some (z .thing))
 
-      pub last-tied : {l2 : List ℕ} {at2 top2 : ℕ} → Linked l1 l2 top (last - 8) at at2 top2 → length l2 ≡ length l1 → Tying l l2 from end at2 top2 (last + 5 - 13 * n)
+      pub last-tied : {l2 : List ℕ} {at2 top2 : ℕ} → Linked l1 l2 top (last - nodeSize) at at2 top2 → length l2 ≡ length l1 → Tying l l2 from end at2 top2 (last + cellSize - partSize * n)
       last-tied {l2} {at2} {top2} m len =
           record {
             long = len ∙ d .long;
@@ -182,7 +183,7 @@ module _ {l l1 : List ℕ} {from end at top last : ℕ} (r : Row l from end) (d 
             means = λ w ps u few.
                 let k = d .means w ps u few in
                 let z = last-of (k .laid) h in
-                let e : last + 5 - 13 * n ≡ z .begin = omega (arith, last-size s z few, z .span) in
+                let e : last + cellSize - partSize * n ≡ z .begin = omega (arith, last-size s z few, z .span) in
                 let low : z .begin ≤ top = omega (arith, z .span, size-some (z .thing), k .room) in
                 let high : last ≤ top = omega (arith, k .room) in
                 rw e (record {

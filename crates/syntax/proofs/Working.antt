@@ -23,6 +23,7 @@ use Rattle.syntax.specs.Working.{Sound, sound-add, sound-flip, strips, s
 use Rattle.syntax.specs.declared.Act.{Act}
 use Rattle.syntax.specs.declared.Act.the-variants.{Add, Flip, Prune, Strip}
 use Rattle.syntax.specs.declared.Work.{Work}
+use Rattle.table.specs.Sizes.{nodeSize}
 
 -- ---- one set
 
@@ -80,24 +81,24 @@ at-last f zero c a b = absurd (a refl)
 at-last f (suc zero) c a b = absurd (b refl)
 at-last f (suc (suc n)) c a b = refl
 
-module _ (w : Work) (s : Sets) {r : ScopeSet} where
-  pub sets-changed0 : w .phase ≡ 0 → scopesOf r ≡ setChange w (scopesOf (s .at0))
-      → setsOf (record { at0 = r; at1 = s .at1; at2 = s .at2 }) ≡ setsChange w (setsOf s)
+module _ (w : Work) (s : Sets) {r : Scopes} where
+  pub sets-changed0 : w .phase ≡ 0 → r ≡ setChange w (scopesOf (s .at0))
+      → _≡_ {A = m.Sets} (record { at0 = r; at1 = scopesOf (s .at1); at2 = scopesOf (s .at2) }) (setsChange w (setsOf s))
   unfolding changeAt
   sets-changed0 h e = rw h (λ j. record { at0 = e j; at1 = scopesOf (s .at1); at2 = scopesOf (s .at2) })
 
-  pub sets-changed1 : w .phase ≡ 1 → scopesOf r ≡ setChange w (scopesOf (s .at1))
-      → setsOf (record { at0 = s .at0; at1 = r; at2 = s .at2 }) ≡ setsChange w (setsOf s)
+  pub sets-changed1 : w .phase ≡ 1 → r ≡ setChange w (scopesOf (s .at1))
+      → _≡_ {A = m.Sets} (record { at0 = scopesOf (s .at0); at1 = r; at2 = scopesOf (s .at2) }) (setsChange w (setsOf s))
   unfolding changeAt
   sets-changed1 h e = rw h (λ j. record { at0 = scopesOf (s .at0); at1 = e j; at2 = scopesOf (s .at2) })
 
-  pub sets-changed2 : ¬ (w .phase ≡ 0) → ¬ (w .phase ≡ 1) → scopesOf r ≡ setChange w (scopesOf (s .at2))
-      → setsOf (record { at0 = s .at0; at1 = s .at1; at2 = r }) ≡ setsChange w (setsOf s)
+  pub sets-changed2 : ¬ (w .phase ≡ 0) → ¬ (w .phase ≡ 1) → r ≡ setChange w (scopesOf (s .at2))
+      → _≡_ {A = m.Sets} (record { at0 = scopesOf (s .at0); at1 = scopesOf (s .at1); at2 = r }) (setsChange w (setsOf s))
   sets-changed2 a b e = (λ j. record { at0 = scopesOf (s .at0); at1 = scopesOf (s .at1); at2 = e j }) ∙ sym (at-last (setChange w) (w .phase) (setsOf s) a b)
 
 -- ---- the node of a copy
 
-pub put-roomy : {l : List ℕ} {top : ℕ} {n : Node} → Puttable l top n → Roomy l top 8
+pub put-roomy : {l : List ℕ} {top : ℕ} {n : Node} → Puttable l top n → Roomy l top nodeSize
 put-roomy r = r .room
 
 pub tag-fits : {l : List ℕ} {top : ℕ} {n : Node} → Puttable l top n → atomValueTag + n .tag < 2 ^ 32

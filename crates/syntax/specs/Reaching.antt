@@ -13,6 +13,7 @@ use Rattle.table.specs.declared.Sets.{Sets}
 use Rattle.things.specs.Rep.{Rep, RepP, setsOf}
 use Rattle.things.specs.Making.{Roomy}
 use Rattle.syntax.specs.Copying.{Copyable}
+use Rattle.table.specs.Sizes.{cellSize, nodeSize, partSize, tableSize}
 
 -- ---- what is asked
 
@@ -25,8 +26,8 @@ pub record ReachedP (levels : ℕ) (l : List ℕ) (top c : ℕ) : Type 0 where
   pub thing : Stxs
   pub shown : RepP l top c (fromStxs thing)
   pub charged : sizes thing ≤ 4096
-  pub room : top + 13 * sizes thing ≤ length l
-  pub small : length l ≤ 65536
+  pub room : top + partSize * sizes thing ≤ length l
+  pub small : length l ≤ tableSize
   pub low : 1 ≤ top
   pub flat : nestings thing ≤ levels
 
@@ -46,24 +47,24 @@ copiesOf stripping ps = stripAll ps
 
 pub record CopyBy (w : Copying) (l′ : List ℕ) (top at top′ : ℕ) (x : Stx) : Type 0 where
   pub shown : Rep l′ top′ at (copyOf w x)
-  pub room : top′ + 5 ≡ top + 13 * size x
+  pub room : top′ + cellSize ≡ top + partSize * size x
 
 pub record CopiedBy (w : Copying) (l l′ : List ℕ) (top i at top′ : ℕ) : Type 0 where
   pub kept : Same top l l′
   pub grows : top ≤ top′
-  pub last : at + 8 ≡ top′
+  pub last : at + nodeSize ≡ top′
   pub means : (x : Stx) → Rep l top i (stx x) → size x ≤ 4096 → CopyBy w l′ top at top′ x
 
 -- ---- the node of a copy, where the parts are copied already
 
 pub record Puttable (l : List ℕ) (top : ℕ) (n : Node) : Type 0 where
-  pub room : Roomy l top 8
+  pub room : Roomy l top nodeSize
   pub kind : n .tag ≤ listTag
 
 pub record Put (w : Copying) (l l′ : List ℕ) (top : ℕ) (n : Node) (c : Sets) (at top′ : ℕ) : Type 0 where
   pub kept : Same top l l′
   pub place : at ≡ top
-  pub grows : top′ ≡ top + 8
+  pub grows : top′ ≡ top + nodeSize
   pub is-atom : (a : Atom) → n ≡ record { tag = tagOf a; content = contentOf a } → Rep l′ top′ at (copyOf w (atom (setsOf c) a))
   pub is-list : (ps : Stxs) → n .tag ≡ listTag → RepP l top (n .content) (copiesOf w ps) → Rep l′ top′ at (copyOf w (list (setsOf c) ps))
 

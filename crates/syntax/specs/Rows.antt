@@ -8,11 +8,12 @@ use Rattle.model.specs.Trees.{fromStxs}
 use Rattle.table.specs.Words.{Same}
 use Rattle.things.specs.Rep.{Rep, RepP}
 use Rattle.syntax.specs.Reaching.{Copying, copyOf, copiesOf}
+use Rattle.table.specs.Sizes.{cellSize, nodeSize, partSize, tableSize}
 
 -- The copies of the parts ps, but not yet of those of rest, lie from the word `from` to the word `end`, each with its node last.
 pub data Laid (w : Copying) (l : List ℕ) (from : ℕ) (ps : Stxs) : ℕ → Stxs → Type 0 where
   laid-none : Laid w l from ps from ps
-  laid-one : {b at end : ℕ} {x : Stx} {rest : Stxs} → Laid w l from ps b (cons x rest) → at + 8 ≡ end → end + 5 ≡ b + 13 * size x → Rep l end at (copyOf w x)
+  laid-one : {b at end : ℕ} {x : Stx} {rest : Stxs} → Laid w l from ps b (cons x rest) → at + nodeSize ≡ end → end + cellSize ≡ b + partSize * size x → Rep l end at (copyOf w x)
       → Laid w l from ps end rest
 
 pub record CopiedEach (w : Copying) (l l′ : List ℕ) (top c end : ℕ) : Type 0 where
@@ -30,13 +31,13 @@ pub record Row (l : List ℕ) (from end : ℕ) : Type 0 where
   pub thing : Stxs
   pub laid : Laid by l from thing end nil
   pub charged : sizes thing ≤ 4096
-  pub room : from + 13 * sizes thing + 8 ≤ length l
-  pub small : length l ≤ 65536
+  pub room : from + partSize * sizes thing + nodeSize ≤ length l
+  pub small : length l ≤ tableSize
   pub low : 1 ≤ from
 
 pub record Chain (w : Copying) (l′ : List ℕ) (from at top′ : ℕ) (ps : Stxs) : Type 0 where
   pub shown : RepP l′ top′ at (copiesOf w ps)
-  pub room : top′ ≡ from + 13 * sizes ps
+  pub room : top′ ≡ from + partSize * sizes ps
 
 pub record Chained (l l′ : List ℕ) (from end at top′ : ℕ) : Type 0 where
   pub kept : Same end l l′

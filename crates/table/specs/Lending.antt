@@ -2,8 +2,9 @@
 use Prim.Native.Nat.{ℕ, _*_, _≤_}
 use mathlib.Core.List.{List}
 use lib.ListN.{length}
+use Rattle.table.specs.Sizes.{tableSize, unitSize}
 
--- 16 words per unit, and at most 65,536
+-- what each unit pays for, and at most a whole table
 pub record Lent (l : List ℕ) (budget : ℕ) : Type 0 where
-  pub room : 16 * budget ≤ length l
-  pub small : length l ≤ 65536
+  pub room : unitSize * budget ≤ length l
+  pub small : length l ≤ tableSize

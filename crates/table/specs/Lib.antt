@@ -1,3 +1,4 @@
+pub mod Sizes
 pub mod Tags
 pub mod Words
 pub mod Lending

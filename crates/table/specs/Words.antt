@@ -4,7 +4,10 @@ use mathlib.Core.List.{List, [], _∷_}
 use Prim.Native.Nat.{ℕ, _+_, _*_, _/_, _%_, _<_}
 use lib.ListN.{getD}
 use lib.Seq.{sets}
+use Rattle.model.specs.Objects as m
+use Rattle.scopes.specs.Sets.{scopesOf}
 use Rattle.scopes.specs.declared.ScopeSet.{ScopeSet}
+use Rattle.table.specs.Sizes.{placeOf1, placeOf2}
 use Rattle.table.specs.Tags.{functionTag}
 use Rattle.table.specs.declared.Node.{Node}
 use Rattle.table.specs.declared.Sets.{Sets}
@@ -12,21 +15,32 @@ use Rattle.table.specs.declared.Object.{Object}
 use Rattle.table.specs.declared.Body.{Body}
 use Rattle.table.specs.declared.Cell.{Cell}
 
--- ---- a scope set: its low word, then its high word
+-- ---- a word of 64 bits: its low half, then its high half
 
 unfoldable pub join : ℕ → ℕ → ℕ
 join low high = high * 4294967296 + low
 
-unfoldable pub getSet : List ℕ → ℕ → ScopeSet
+unfoldable pub getWord : List ℕ → ℕ → ℕ
 unfolding join
-getSet l i = record { bits = join (getD l i 0) (getD l (i + 1) 0) }
+getWord l i = join (getD l i 0) (getD l (i + 1) 0)
 
-unfoldable pub setWords : ScopeSet → List ℕ
-setWords s = s .bits % 4294967296 ∷ s .bits / 4294967296 ∷ []
+unfoldable pub halves : ℕ → List ℕ
+halves w = w % 4294967296 ∷ w / 4294967296 ∷ []
+
+unfoldable pub putWord : List ℕ → ℕ → ℕ → List ℕ
+unfolding halves
+putWord l i w = sets l i (halves w)
+
+-- ---- a scope set: its four words, the low one first
+
+unfoldable pub getSet : List ℕ → ℕ → ScopeSet
+unfolding getWord
+getSet l i = record { words = getWord l i ∷ getWord l (i + 2) ∷ getWord l (i + 4) ∷ getWord l (i + 6) ∷ [] }
 
 unfoldable pub putSet : List ℕ → ℕ → ScopeSet → List ℕ
-unfolding setWords
-putSet l i s = sets l i (setWords s)
+unfolding putWord
+putSet l i s =
+    putWord (putWord (putWord (putWord l i (getD (s .words) 0 0)) (i + 2) (getD (s .words) 1 0)) (i + 4) (getD (s .words) 2 0)) (i + 6) (getD (s .words) 3 0)
 
 -- ---- a node
 
@@ -44,15 +58,19 @@ putNode l i n = sets l i (nodeWords n)
 
 unfoldable pub getSets : List ℕ → ℕ → Sets
 unfolding getSet
-getSets l i = record { at0 = getSet l (i + 2); at1 = getSet l (i + 4); at2 = getSet l (i + 6) }
+getSets l i = record { at0 = getSet l (i + 2); at1 = getSet l (i + placeOf1); at2 = getSet l (i + placeOf2) }
 
 unfoldable pub putSets : List ℕ → ℕ → Sets → List ℕ
 unfolding putSet
-putSets l i c = putSet (putSet (putSet l (i + 2) (c .at0)) (i + 4) (c .at1)) (i + 6) (c .at2)
+putSets l i c = putSet (putSet (putSet l (i + 2) (c .at0)) (i + placeOf1) (c .at1)) (i + placeOf2) (c .at2)
 
 unfoldable pub putObject : List ℕ → ℕ → Object → List ℕ
 unfolding putNode putSets
 putObject l i o = putSets (putNode l i (o .node)) i (o .sets)
+
+-- the sets that they stand for
+abbrev pub setsOf : Sets → m.Sets
+setsOf c = record { at0 = scopesOf (c .at0); at1 = scopesOf (c .at1); at2 = scopesOf (c .at2) }
 
 -- ---- a function: its node, then its body
 

@@ -6,7 +6,11 @@ ghost use mathlib.Core.Path.{_≡_};
 ghost use Prim.Native.Nat.{ℕ, _+_, _*_, _≤_};
 ghost use lib.ListN.{length};
 ghost use Rattle.model.specs.Jobs.{cleared};
-ghost use Rattle.table.specs.Words.{join, getSet, putSet, getNode, putNode, getSets, putSets, putObject, getBody, putFunction, getCell, putCell};
+ghost use Rattle.table.specs.Words.{join, getWord, putWord, getSet, putSet, getNode, putNode, getSets, putSets, putObject, getBody, putFunction, getCell, putCell};
+ghost use Rattle.table.specs.Sizes.{setSize, cellSize, nodeSize, unitSize};
+
+// What a unit of budget pays for.
+pub const WORDS_PER_UNIT: usize = 40;
 
 // What lies at an index, without what follows it: an atom's or name's number, or the chain of parts.
 pub struct Node {
@@ -45,7 +49,7 @@ impl Node {
     pub const PRIMITIVE_VALUE: u32 = Node::ATOM_VALUE + Node::PRIMITIVE;
 
     // The words that a node takes with its sets or body, though not every kind fills them.
-    pub const WORDS: u32 = 8;
+    pub const WORDS: u32 = 2 + 3 * Sets::WORDS as u32;
 }
 
 // The scope sets of phases 0, 1 and 2. A syntax object's node is followed by them.
@@ -53,6 +57,18 @@ pub struct Sets {
     pub at0: ScopeSet,
     pub at1: ScopeSet,
     pub at2: ScopeSet,
+}
+
+impl Sets {
+    // Of the table, for one set: each word of 64 bits is two.
+    const WORDS: usize = 2 * ScopeSet::WORDS;
+
+    // The places of the sets in a node.
+    const AT0: usize = 2;
+
+    const AT1: usize = Sets::AT0 + Sets::WORDS;
+
+    const AT2: usize = Sets::AT1 + Sets::WORDS;
 }
 
 // A syntax object.
@@ -89,33 +105,54 @@ fn wide(x: u32) -> u64
     x as u64
 }
 
-// A set's bits from its low and high word.
+// A word of a set from its low and high half.
 fn joined(low: u32, high: u32) -> u64
     ensures { λ r. ⌜ r ≡ join low high ⌝ }
 {
     wide(high) * 4294967296 + wide(low)
 }
 
+fn get_word(table: &[u32], at: usize) -> u64
+    requires { ⌜ at + 2 ≤ length (now table) ⌝ }
+    ensures { λ r. ⌜ r ≡ getWord (now (table .entry)) at ⌝ }
+{
+    joined(table[at], table[at + 1])
+}
+
+fn put_word(table: &mut [u32], at: usize, word: u64)
+    requires { ⌜ at + 2 ≤ length (now table) ⌝ }
+    ensures { λ _. ⌜ now (table .exit) ≡ putWord (now (table .entry)) at word ⌝ }
+{
+    table[at] = (word % 4294967296) as u32;
+    table[at + 1] = (word / 4294967296) as u32;
+}
+
 // The one place that knows how a scope set lies in the table.
 fn get_set(table: &[u32], at: usize) -> ScopeSet
-    requires { ⌜ at + 2 ≤ length (now table) ⌝ }
+    requires { ⌜ at + setSize ≤ length (now table) ⌝ }
     ensures { λ r. ⌜ r ≡ getSet (now (table .entry)) at ⌝ }
 {
+    let w0 = get_word(table, at);
+    let w1 = get_word(table, at + 2);
+    let w2 = get_word(table, at + 4);
+    let w3 = get_word(table, at + 6);
     ScopeSet {
-        bits: joined(table[at], table[at + 1]),
+        words: [w0, w1, w2, w3],
     }
 }
 
 fn put_set(table: &mut [u32], at: usize, set: ScopeSet)
-    requires { ⌜ at + 2 ≤ length (now table) ⌝ }
+    requires { ⌜ at + setSize ≤ length (now table) ⌝ }
     ensures { λ _. ⌜ now (table .exit) ≡ putSet (now (table .entry)) at set ⌝ }
 {
-    table[at] = (set.bits % 4294967296) as u32;
-    table[at + 1] = (set.bits / 4294967296) as u32;
+    put_word(table, at, set.words[0]);
+    put_word(table, at + 2, set.words[1]);
+    put_word(table, at + 4, set.words[2]);
+    put_word(table, at + 6, set.words[3]);
 }
 
 pub fn get_node(table: &[u32], at: u32) -> Node
-    requires { ⌜ at + 8 ≤ length (now table) ⌝ }
+    requires { ⌜ at + nodeSize ≤ length (now table) ⌝ }
     ensures { λ r. ⌜ r ≡ getNode (now (table .entry)) at ⌝ }
 {
     let i = at as usize;
@@ -126,7 +163,7 @@ pub fn get_node(table: &[u32], at: u32) -> Node
 }
 
 pub fn put_node(table: &mut [u32], at: u32, node: Node)
-    requires { ⌜ at + 8 ≤ length (now table) ⌝ }
+    requires { ⌜ at + nodeSize ≤ length (now table) ⌝ }
     ensures { λ _. ⌜ now (table .exit) ≡ putNode (now (table .entry)) at node ⌝ }
 {
     let i = at as usize;
@@ -135,28 +172,28 @@ pub fn put_node(table: &mut [u32], at: u32, node: Node)
 }
 
 pub fn get_sets(table: &[u32], at: u32) -> Sets
-    requires { ⌜ at + 8 ≤ length (now table) ⌝ }
+    requires { ⌜ at + nodeSize ≤ length (now table) ⌝ }
     ensures { λ r. ⌜ r ≡ getSets (now (table .entry)) at ⌝ }
 {
     let i = at as usize;
-    let at0 = get_set(table, i + 2);
-    let at1 = get_set(table, i + 4);
-    let at2 = get_set(table, i + 6);
+    let at0 = get_set(table, i + Sets::AT0);
+    let at1 = get_set(table, i + Sets::AT1);
+    let at2 = get_set(table, i + Sets::AT2);
     Sets { at0, at1, at2 }
 }
 
 fn put_sets(table: &mut [u32], at: u32, sets: Sets)
-    requires { ⌜ at + 8 ≤ length (now table) ⌝ }
+    requires { ⌜ at + nodeSize ≤ length (now table) ⌝ }
     ensures { λ _. ⌜ now (table .exit) ≡ putSets (now (table .entry)) at sets ⌝ }
 {
     let i = at as usize;
-    put_set(table, i + 2, sets.at0);
-    put_set(table, i + 4, sets.at1);
-    put_set(table, i + 6, sets.at2);
+    put_set(table, i + Sets::AT0, sets.at0);
+    put_set(table, i + Sets::AT1, sets.at1);
+    put_set(table, i + Sets::AT2, sets.at2);
 }
 
 pub fn put_object(table: &mut [u32], at: u32, object: Object)
-    requires { ⌜ at + 8 ≤ length (now table) ⌝ }
+    requires { ⌜ at + nodeSize ≤ length (now table) ⌝ }
     ensures { λ _. ⌜ now (table .exit) ≡ putObject (now (table .entry)) at object ⌝ }
 {
     let node = object.node;
@@ -166,7 +203,7 @@ pub fn put_object(table: &mut [u32], at: u32, object: Object)
 }
 
 pub fn get_body(table: &[u32], at: u32) -> Body
-    requires { ⌜ at + 8 ≤ length (now table) ⌝ }
+    requires { ⌜ at + nodeSize ≤ length (now table) ⌝ }
     ensures { λ r. ⌜ r ≡ getBody (now (table .entry)) at ⌝ }
 {
     let i = at as usize;
@@ -179,7 +216,7 @@ pub fn get_body(table: &[u32], at: u32) -> Body
 
 // The function of that name.
 pub fn put_function(table: &mut [u32], at: u32, name: Name, body: Body)
-    requires { ⌜ at + 8 ≤ length (now table) ⌝ }
+    requires { ⌜ at + nodeSize ≤ length (now table) ⌝ }
     ensures { λ _. ⌜ now (table .exit) ≡ putFunction (now (table .entry)) at (name .0) body ⌝ }
 {
     let i = at as usize;
@@ -191,7 +228,7 @@ pub fn put_function(table: &mut [u32], at: u32, name: Name, body: Body)
 }
 
 pub fn get_cell(table: &[u32], at: u32) -> Cell
-    requires { ⌜ at + 5 ≤ length (now table) ⌝ }
+    requires { ⌜ at + cellSize ≤ length (now table) ⌝ }
     ensures { λ r. ⌜ r ≡ getCell (now (table .entry)) at ⌝ }
 {
     let i = at as usize;
@@ -205,7 +242,7 @@ pub fn get_cell(table: &[u32], at: u32) -> Cell
 }
 
 pub fn put_cell(table: &mut [u32], at: u32, cell: Cell)
-    requires { ⌜ at + 5 ≤ length (now table) ⌝ }
+    requires { ⌜ at + cellSize ≤ length (now table) ⌝ }
     ensures { λ _. ⌜ now (table .exit) ≡ putCell (now (table .entry)) at cell ⌝ }
 {
     let i = at as usize;
@@ -218,10 +255,10 @@ pub fn put_cell(table: &mut [u32], at: u32, cell: Cell)
 
 // What a job leaves of the table that it was lent: zero in the words that its budget was good for.
 pub fn clear(table: &mut [u32], budget: u32)
-    requires { ⌜ 16 * budget ≤ length (now table) ⌝ }
+    requires { ⌜ unitSize * budget ≤ length (now table) ⌝ }
     ensures { λ _. ⌜ now (table .exit) ≡ cleared budget (now (table .entry)) ⌝ }
 {
-    let n = (budget as usize) * 16;
+    let n = (budget as usize) * WORDS_PER_UNIT;
     let mut k: usize = 0;
     while k < n {
         table[k] = 0;

@@ -14,6 +14,7 @@ use Rattle.table.specs.declared.Cell.{Cell}
 use Rattle.things.specs.Rep.{Rep, RepP, is-var, is-app, is-fun, is-lst, is-datum, is-atom, is-list, is-none, is-part, setsOf}
 use Rattle.things.specs.Weights.{tsizes, weights}
 use Rattle.things.proofs.Frame.{below, belowP, up, upP, deep}
+use Rattle.table.specs.Sizes.{cellSize, nodeSize}
 
 pub tag-low : (a : Atom) → tagOf a < listTag
 unfolding tagOf
@@ -64,7 +65,7 @@ pub record FunAt (l : List ℕ) (top i : ℕ) (o : Node) (y : Body) (t : Tree) :
   pub shown : Rep l top (y .at) body
   pub size : y .size ≡ min 4097 (tsize body)
   pub nesting : y .nesting ≡ tnesting body
-  pub low : y .at + 8 ≤ i
+  pub low : y .at + nodeSize ≤ i
   pub flat : tnesting body ≤ i
 
 pub fun-at : {l : List ℕ} {top i : ℕ} {t : Tree} {o : Node} {y : Body} → Rep l top i t → o ≡ getNode l i → o .tag ≡ functionTag → y ≡ getBody l i → FunAt l top i o y t
@@ -167,7 +168,7 @@ tail-low (is-part a b e x y) h = omega arith
 
 -- of a chain known to have a part
 pub record ConsAt (l : List ℕ) (top c : ℕ) (x : Cell) (t : Tree) (ts : Trees) : Type 0 where
-  pub inside : c + 5 ≤ top
+  pub inside : c + cellSize ≤ top
   pub low : (x .head + 1 < c) × (x .tail < c)
   pub shown : Rep l top (x .head) t
   pub shown-others : RepP l top (x .tail) ts

@@ -9,10 +9,11 @@ use Rattle.table.specs.Words.{getNode, getSets, Same}
 use Rattle.table.proofs.Laws.{getNode-same, getSets-same, getBody-same, getCell-same, same-under}
 use Rattle.things.specs.Rep.{Rep, RepP, is-var, is-app, is-fun, is-lst, is-datum, is-atom, is-list, is-none, is-part, setsOf}
 use Rattle.things.proofs.Weighing.{nest-from}
+use Rattle.table.specs.Sizes.{cellSize, nodeSize}
 
 -- ---- all of it lies below top
 
-pub below : {l : List ℕ} {top i : ℕ} {t : Tree} → Rep l top i t → i + 8 ≤ top
+pub below : {l : List ℕ} {top i : ℕ} {t : Tree} → Rep l top i t → i + nodeSize ≤ top
 below (is-var a q) = a
 below (is-app a q r) = a
 below (is-fun a q y r) = a
@@ -26,24 +27,24 @@ belowP is-none = omega arith
 belowP (is-part a b e h r) = omega arith
 
 pub up : {l : List ℕ} {m n i : ℕ} {t : Tree} → Rep l m i t → m ≤ n → Rep l n i t
-up {n = n} {i = i} (is-var a q) h = let z : i + 8 ≤ n = omega arith in is-var z q
-up {n = n} {i = i} (is-app a q r) h = let z : i + 8 ≤ n = omega arith in is-app z q r
-up {n = n} {i = i} (is-fun a q y r) h = let z : i + 8 ≤ n = omega arith in is-fun z q y r
-up {n = n} {i = i} (is-datum a q) h = let z : i + 8 ≤ n = omega arith in is-datum z q
-up {n = n} {i = i} (is-lst a q r) h = let z : i + 8 ≤ n = omega arith in is-lst z q r
-up {n = n} {i = i} (is-atom a q y) h = let z : i + 8 ≤ n = omega arith in is-atom z q y
-up {n = n} {i = i} (is-list a q y r) h = let z : i + 8 ≤ n = omega arith in is-list z q y r
+up {n = n} {i = i} (is-var a q) h = let z : i + nodeSize ≤ n = omega arith in is-var z q
+up {n = n} {i = i} (is-app a q r) h = let z : i + nodeSize ≤ n = omega arith in is-app z q r
+up {n = n} {i = i} (is-fun a q y r) h = let z : i + nodeSize ≤ n = omega arith in is-fun z q y r
+up {n = n} {i = i} (is-datum a q) h = let z : i + nodeSize ≤ n = omega arith in is-datum z q
+up {n = n} {i = i} (is-lst a q r) h = let z : i + nodeSize ≤ n = omega arith in is-lst z q r
+up {n = n} {i = i} (is-atom a q y) h = let z : i + nodeSize ≤ n = omega arith in is-atom z q y
+up {n = n} {i = i} (is-list a q y r) h = let z : i + nodeSize ≤ n = omega arith in is-list z q y r
 
 pub upP : {l : List ℕ} {m n c : ℕ} {ts : Trees} → RepP l m c ts → m ≤ n → RepP l n c ts
 upP is-none h = is-none
-upP {n = n} {c = c} (is-part a b e x y) h = let q : c + 5 ≤ n = omega arith in is-part a q e x y
+upP {n = n} {c = c} (is-part a b e x y) h = let q : c + cellSize ≤ n = omega arith in is-part a q e x y
 
 -- ---- a table that agrees below top
 
-node-stays : (n : ℕ) (l l′ : List ℕ) (i : ℕ) → Same n l l′ → i + 8 ≤ n → getNode l′ i ≡ getNode l i
+node-stays : (n : ℕ) (l l′ : List ℕ) (i : ℕ) → Same n l l′ → i + nodeSize ≤ n → getNode l′ i ≡ getNode l i
 node-stays n l l′ i e h = getNode-same n l l′ i e (omega arith)
 
-sets-stay : (n : ℕ) (l l′ : List ℕ) (i : ℕ) {s : m.Sets} → Same n l l′ → i + 8 ≤ n → setsOf (getSets l i) ≡ s → setsOf (getSets l′ i) ≡ s
+sets-stay : (n : ℕ) (l l′ : List ℕ) (i : ℕ) {s : m.Sets} → Same n l l′ → i + nodeSize ≤ n → setsOf (getSets l i) ≡ s → setsOf (getSets l′ i) ≡ s
 sets-stay n l l′ i e h q = ap setsOf (getSets-same n l l′ i e h) ∙ q
 
 mutual

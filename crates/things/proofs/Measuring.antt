@@ -19,6 +19,7 @@ use Rattle.things.specs.declared.Extent.{Extent}
 use Rattle.things.proofs.Weighing.{size-app, size-fun, size-lst, size-stx, size-none, nest-app, nest-fun, nest-lst, nest-list, nest-none, weight-app, weight-fun, weight-lst, weight-list, weight-none}
 use Rattle.things.proofs.Frame.{below, deepP}
 use Rattle.things.proofs.ByTag.{tag-low, tag-is, app-at, fun-at, lst-at, atom-at, list-at, part-at, none-at}
+use Rattle.table.specs.Sizes.{cellSize, nodeSize}
 
 -- ---- a chain
 
@@ -26,7 +27,7 @@ pub none-measured : {l : List ℕ} {c : ℕ} → c ≡ 0 → MeasuredP l c (reco
 none-measured h =
     record { means = λ top ts r. rw (none-at r h) (record { size = omega (arith, size-none); weight = omega (arith, weight-none); nesting = sym nest-none }) }
 
-pub cell-inside : {l : List ℕ} {c : ℕ} → SeenP l c → ¬ (c ≡ 0) → c + 5 ≤ length l
+pub cell-inside : {l : List ℕ} {c : ℕ} → SeenP l c → ¬ (c ≡ 0) → c + cellSize ≤ length l
 cell-inside r h = omega (arith, part-at (r .shown) h refl .cell .inside, r .inside)
 
 pub cell-measured : {l : List ℕ} {c : ℕ} {x : Cell} → ¬ (c ≡ 0) → x ≡ getCell l c → MeasuredP l c (record { size = x .size; weight = x .weight; nesting = x .nesting })
@@ -52,7 +53,7 @@ list-measured p h =
 
 -- ---- a tree
 
-pub node-inside : {l : List ℕ} {i : ℕ} → Seen l i → i + 8 ≤ length l
+pub node-inside : {l : List ℕ} {i : ℕ} → Seen l i → i + nodeSize ≤ length l
 node-inside r = omega (arith, below (r .shown), r .inside)
 
 module _ {l : List ℕ} {i : ℕ} {o : Node} (e : o ≡ getNode l i) where

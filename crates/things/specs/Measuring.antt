@@ -7,6 +7,7 @@ use Rattle.model.specs.Trees.{Tree, Trees, tsize, tnesting, tnestings}
 use Rattle.things.specs.Weights.{tsizes, weight, weights}
 use Rattle.things.specs.Rep.{Rep, RepP}
 use Rattle.things.specs.declared.Extent.{Extent}
+use Rattle.table.specs.Sizes.{tableSize}
 
 -- a tree, or a chain, that is all in the table
 pub record Seen (l : List ℕ) (i : ℕ) : Type 0 where
@@ -14,14 +15,14 @@ pub record Seen (l : List ℕ) (i : ℕ) : Type 0 where
   pub thing : Tree
   pub shown : Rep l top i thing
   pub inside : top ≤ length l
-  pub small : length l ≤ 65536
+  pub small : length l ≤ tableSize
 
 pub record SeenP (l : List ℕ) (c : ℕ) : Type 0 where
   pub top : ℕ
   pub thing : Trees
   pub shown : RepP l top c thing
   pub inside : top ≤ length l
-  pub small : length l ≤ 65536
+  pub small : length l ≤ tableSize
 
 pub record Extends (m : Extent) (t : Tree) : Type 0 where
   pub size : m .size ≡ min 4097 (tsize t)

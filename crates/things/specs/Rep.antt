@@ -10,6 +10,7 @@ use Rattle.table.specs.Tags.{listTag, variableTag, applicationTag, functionTag,
 use Rattle.table.specs.Words.{getNode, getSets, getBody, getCell}
 use Rattle.table.specs.declared.Sets.{Sets}
 use Rattle.things.specs.Weights.{tsizes, weights}
+use Rattle.table.specs.Sizes.{cellSize, nodeSize}
 
 -- the sets that an object's words are
 abbrev pub setsOf : Sets → m.Sets
@@ -19,20 +20,20 @@ setsOf c = record { at0 = scopesOf (c .at0); at1 = scopesOf (c .at1); at2 = scop
 -- node or cell: so there are no circles, and what is made later changes nothing.
 mutual
   pub data Rep (l : List ℕ) : ℕ → ℕ → Tree → Type 0 where
-    is-var : {top i n : ℕ} → i + 8 ≤ top → getNode l i ≡ record { tag = variableTag; content = n } → Rep l top i (var n)
-    is-app : {top i c : ℕ} {h : Tree} {ts : Trees} → i + 8 ≤ top → getNode l i ≡ record { tag = applicationTag; content = c } → RepP l i c (tcons h ts) → Rep l top i (app h ts)
-    is-fun : {top i n b : ℕ} {t : Tree} → i + 8 ≤ top → getNode l i ≡ record { tag = functionTag; content = n }
+    is-var : {top i n : ℕ} → i + nodeSize ≤ top → getNode l i ≡ record { tag = variableTag; content = n } → Rep l top i (var n)
+    is-app : {top i c : ℕ} {h : Tree} {ts : Trees} → i + nodeSize ≤ top → getNode l i ≡ record { tag = applicationTag; content = c } → RepP l i c (tcons h ts) → Rep l top i (app h ts)
+    is-fun : {top i n b : ℕ} {t : Tree} → i + nodeSize ≤ top → getNode l i ≡ record { tag = functionTag; content = n }
         → getBody l i ≡ record { at = b; size = min 4097 (tsize t); nesting = tnesting t }
         → Rep l i b t → Rep l top i (fun n t)
-    is-datum : {top i : ℕ} {a : Atom} → i + 8 ≤ top → getNode l i ≡ record { tag = atomValueTag + tagOf a; content = contentOf a } → Rep l top i (datum a)
-    is-lst : {top i c : ℕ} {ts : Trees} → i + 8 ≤ top → getNode l i ≡ record { tag = listValueTag; content = c } → RepP l i c ts → Rep l top i (lst ts)
-    is-atom : {top i : ℕ} {s : m.Sets} {a : Atom} → i + 8 ≤ top → getNode l i ≡ record { tag = tagOf a; content = contentOf a }
+    is-datum : {top i : ℕ} {a : Atom} → i + nodeSize ≤ top → getNode l i ≡ record { tag = atomValueTag + tagOf a; content = contentOf a } → Rep l top i (datum a)
+    is-lst : {top i c : ℕ} {ts : Trees} → i + nodeSize ≤ top → getNode l i ≡ record { tag = listValueTag; content = c } → RepP l i c ts → Rep l top i (lst ts)
+    is-atom : {top i : ℕ} {s : m.Sets} {a : Atom} → i + nodeSize ≤ top → getNode l i ≡ record { tag = tagOf a; content = contentOf a }
         → setsOf (getSets l i) ≡ s → Rep l top i (stx (atom s a))
-    is-list : {top i c : ℕ} {s : m.Sets} {ps : Stxs} → i + 8 ≤ top → getNode l i ≡ record { tag = listTag; content = c }
+    is-list : {top i c : ℕ} {s : m.Sets} {ps : Stxs} → i + nodeSize ≤ top → getNode l i ≡ record { tag = listTag; content = c }
         → setsOf (getSets l i) ≡ s → RepP l i c (fromStxs ps) → Rep l top i (stx (list s ps))
 
   pub data RepP (l : List ℕ) : ℕ → ℕ → Trees → Type 0 where
     is-none : {top : ℕ} → RepP l top 0 tnil
-    is-part : {top c h r : ℕ} {t : Tree} {ts : Trees} → 0 < c → c + 5 ≤ top
+    is-part : {top c h r : ℕ} {t : Tree} {ts : Trees} → 0 < c → c + cellSize ≤ top
         → getCell l c ≡ record { head = h; tail = r; weight = min 4097 (weights (tcons t ts)); size = min 4097 (tsizes (tcons t ts)); nesting = tnestings (tcons t ts) }
         → Rep l c h t → RepP l c r ts → RepP l top c (tcons t ts)

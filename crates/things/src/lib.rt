@@ -10,6 +10,7 @@ ghost use Prim.Native.Nat.{ℕ, _+_, _≤_, min, max};
 ghost use lib.ListN.{length};
 ghost use Rattle.things.specs.Making.{Roomy, Stored, StoredObject, Linkable, Linked, Closable, Closed};
 ghost use Rattle.things.specs.Measuring.{Seen, SeenP, Measured, MeasuredP, MeasuredL};
+ghost use Rattle.table.specs.Sizes.{nodeSize};
 
 // A tree's size, its weight as a syntax object (0 where it is none), and its nesting. Size and weight are MOST for all that is larger: a
 // charge of so much is over any budget.
@@ -124,7 +125,7 @@ pub fn measure(table: &[u32], i: u32) -> Extent
 
 // A variable, application, list value or atom as a value.
 pub fn make(table: &mut [u32], top: u32, node: Node) -> Made
-    requires { ⌜ Roomy (now table) top 8 ⌝ }
+    requires { ⌜ Roomy (now table) top nodeSize ⌝ }
     ensures { λ r. ⌜ Stored (now (table .entry)) (now (table .exit)) top node (r .at) (r .top) ⌝ }
 {
     table::put_node(table, top, node);
@@ -136,7 +137,7 @@ pub fn make(table: &mut [u32], top: u32, node: Node) -> Made
 
 // A syntax object.
 pub fn make_object(table: &mut [u32], top: u32, node: Node, sets: Sets) -> Made
-    requires { ⌜ Roomy (now table) top 8 ⌝ }
+    requires { ⌜ Roomy (now table) top nodeSize ⌝ }
     ensures { λ r. ⌜ StoredObject (now (table .entry)) (now (table .exit)) top node sets (r .at) (r .top) ⌝ }
 {
     table::put_object(table, top, Object { node, sets });

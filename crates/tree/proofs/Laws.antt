@@ -19,10 +19,11 @@ use Rattle.things.proofs.Weighing.{size-app, size-fun, size-lst, size-none, siz
 use Rattle.things.proofs.Frame.{below, staysP, carry, carryP}
 use Rattle.things.proofs.ByTag.{tag-is, var-at, app-at, fun-at, lst-at, part-at, none-at}
 use Rattle.tree.specs.Substituting.{Ready, ReadyP, ReadyB, ReadyL, Substituted, SubstitutedP, SubstitutedB, SubstitutedL}
+use Rattle.table.specs.Sizes.{cellSize, nodeSize}
 
 -- ---- substitute
 
-pub inside : {l : List ℕ} {top i v : ℕ} → Ready l top i v → i + 8 ≤ length l
+pub inside : {l : List ℕ} {top i v : ℕ} → Ready l top i v → i + nodeSize ≤ length l
 inside r = omega (arith, below (r .shown), r .inside)
 
 -- what is left as it is
@@ -137,7 +138,7 @@ module _ {l : List ℕ} {top c v : ℕ} (r : ReadyL l top c v) where
   list-parts = record { thing = r .thing; value = r .value; shown = r .shown; given = r .given; room = omega (arith, r .room); small = r .small; low = r .low }
 
   module _ {x at1 top1 : ℕ} {l1 : List ℕ} (p : SubstitutedP l l1 top c x v at1 top1) where
-    pub list-roomy : length l1 ≡ length l → Roomy l1 top1 8
+    pub list-roomy : length l1 ≡ length l → Roomy l1 top1 nodeSize
     list-roomy len =
         record {
           fits = omega (arith, p .means (r .thing) (r .value) (r .shown) (r .given) .1, r .room);
@@ -152,7 +153,7 @@ module _ {l : List ℕ} {top c v : ℕ} (r : ReadyL l top c v) where
           grows = omega (arith, p .grows, s .grows);
           means = λ ts w a b.
               let d = p .means ts w a b in
-              let fits : at2 + 8 ≤ top2 = omega (arith, s .place, s .grows) in
+              let fits : at2 + nodeSize ≤ top2 = omega (arith, s .place, s .grows) in
               let chain : RepP l2 at2 at1 (substituteAll x w ts) = rw (s .place) (staysP (d .0) (s .kept)) in
               (record { chain = at1; fits = fits; is = s .node; shown = chain }, omega (arith, d .1, s .grows));
         }
@@ -188,7 +189,7 @@ unfolding substituteAll
 parts-none {l} {top} h = record { kept = same-refl top l; grows = omega arith; means = λ ts w a b. rw (none-at a h) (is-none, omega (arith, size-none)) }
 
 module _ {l : List ℕ} {top c v : ℕ} (r : ReadyP l top c v) (n : ¬ (c ≡ 0)) where
-  pub parts-inside : c + 5 ≤ length l
+  pub parts-inside : c + cellSize ≤ length l
   parts-inside = omega (arith, part-at (r .shown) n refl .cell .inside, r .room)
 
   module _ {cell : Cell} (e : cell ≡ getCell l c) where

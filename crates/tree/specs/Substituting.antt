@@ -1,5 +1,5 @@
--- What substituting asks and gives. Room: a node takes 8 words and the cell that holds it 5, so 13 for each of the tree's size; the root has no
--- cell yet, which leaves 5 for the caller.
+-- What substituting asks and gives. Room: a node and the cell that holds it for each of the tree's size; the root has no cell yet, which leaves
+-- one for the caller.
 use mathlib.Core.Path.{_≡_}
 use mathlib.Core.List.{List}
 use Prim.Native.Nat.{ℕ, _+_, _*_, _≤_}
@@ -8,6 +8,7 @@ use Rattle.model.specs.Trees.{Tree, Trees, fun, tsize, substitute, substituteAl
 use Rattle.table.specs.Words.{getNode, Same}
 use Rattle.things.specs.Weights.{tsizes}
 use Rattle.things.specs.Rep.{Rep, RepP}
+use Rattle.table.specs.Sizes.{cellSize, nodeSize, partSize, tableSize}
 
 -- ---- a tree i, and the value v that goes in
 
@@ -16,15 +17,15 @@ pub record Ready (l : List ℕ) (top i v : ℕ) : Type 0 where
   pub value : Tree
   pub shown : Rep l top i thing
   pub given : Rep l top v value
-  pub room : top + 13 * tsize thing ≤ length l + 5
+  pub room : top + partSize * tsize thing ≤ length l + cellSize
   pub inside : top ≤ length l
-  pub small : length l ≤ 65536
+  pub small : length l ≤ tableSize
   pub low : 1 ≤ top
 
 pub record Substituted (l l′ : List ℕ) (top i x v at top′ : ℕ) : Type 0 where
   pub kept : Same top l l′
   pub grows : top ≤ top′
-  pub means : (t w : Tree) → Rep l top i t → Rep l top v w → Rep l′ top′ at (substitute x w t) × (top′ + 5 ≤ top + 13 * tsize t)
+  pub means : (t w : Tree) → Rep l top i t → Rep l top v w → Rep l′ top′ at (substitute x w t) × (top′ + cellSize ≤ top + partSize * tsize t)
 
 -- ---- a chain c
 
@@ -33,14 +34,14 @@ pub record ReadyP (l : List ℕ) (top c v : ℕ) : Type 0 where
   pub value : Tree
   pub shown : RepP l top c thing
   pub given : Rep l top v value
-  pub room : top + 13 * tsizes thing ≤ length l
-  pub small : length l ≤ 65536
+  pub room : top + partSize * tsizes thing ≤ length l
+  pub small : length l ≤ tableSize
   pub low : 1 ≤ top
 
 pub record SubstitutedP (l l′ : List ℕ) (top c x v at top′ : ℕ) : Type 0 where
   pub kept : Same top l l′
   pub grows : top ≤ top′
-  pub means : (ts : Trees) (w : Tree) → RepP l top c ts → Rep l top v w → RepP l′ top′ at (substituteAll x w ts) × (top′ ≤ top + 13 * tsizes ts)
+  pub means : (ts : Trees) (w : Tree) → RepP l top c ts → Rep l top v w → RepP l′ top′ at (substituteAll x w ts) × (top′ ≤ top + partSize * tsizes ts)
 
 -- ---- a function's body b
 
@@ -49,14 +50,14 @@ pub record ReadyB (l : List ℕ) (top b v : ℕ) : Type 0 where
   pub value : Tree
   pub shown : Rep l top b thing
   pub given : Rep l top v value
-  pub room : top + 13 * tsize thing + 8 ≤ length l
-  pub small : length l ≤ 65536
+  pub room : top + partSize * tsize thing + nodeSize ≤ length l
+  pub small : length l ≤ tableSize
   pub low : 1 ≤ top
 
 pub record SubstitutedB (l l′ : List ℕ) (top b n x v at top′ : ℕ) : Type 0 where
   pub kept : Same top l l′
   pub grows : top ≤ top′
-  pub means : (t w : Tree) → Rep l top b t → Rep l top v w → Rep l′ top′ at (fun n (substitute x w t)) × (top′ ≤ top + 13 * tsize t + 8)
+  pub means : (t w : Tree) → Rep l top b t → Rep l top v w → Rep l′ top′ at (fun n (substitute x w t)) × (top′ ≤ top + partSize * tsize t + nodeSize)
 
 -- ---- an application's or list value's chain c
 
@@ -65,18 +66,18 @@ pub record ReadyL (l : List ℕ) (top c v : ℕ) : Type 0 where
   pub value : Tree
   pub shown : RepP l top c thing
   pub given : Rep l top v value
-  pub room : top + 13 * tsizes thing + 8 ≤ length l
-  pub small : length l ≤ 65536
+  pub room : top + partSize * tsizes thing + nodeSize ≤ length l
+  pub small : length l ≤ tableSize
   pub low : 1 ≤ top
 
 -- a node of that tag with a chain
 pub record Holds (l : List ℕ) (top at tag : ℕ) (ts : Trees) : Type 0 where
   pub chain : ℕ
-  pub fits : at + 8 ≤ top
+  pub fits : at + nodeSize ≤ top
   pub is : getNode l at ≡ record { tag = tag; content = chain }
   pub shown : RepP l at chain ts
 
 pub record SubstitutedL (l l′ : List ℕ) (top c tag x v at top′ : ℕ) : Type 0 where
   pub kept : Same top l l′
   pub grows : top ≤ top′
-  pub means : (ts : Trees) (w : Tree) → RepP l top c ts → Rep l top v w → Holds l′ top′ at tag (substituteAll x w ts) × (top′ ≤ top + 13 * tsizes ts + 8)
+  pub means : (ts : Trees) (w : Tree) → RepP l top c ts → Rep l top v w → Holds l′ top′ at tag (substituteAll x w ts) × (top′ ≤ top + partSize * tsizes ts + nodeSize)

@@ -49,7 +49,7 @@ pub record Midway (s : List ℕ) (start at done left : ℕ) : Type 0 where
   pub small : length s ≤ 65536
   pub begins : start ≤ length s
   pub within : at ≤ length s
-  pub most : done + left ≤ 508
+  pub most : done + left ≤ 1020
 
 pub record WordsRead (s : List ℕ) (start at done left : ℕ) (r : Place) : Type 0 where
   pub means : (ws : List (List ℕ)) → Passed done ws (drop start s) (drop at s) → r ≡ placeAt (length s) (readWords left (seenAfter ws coreWords) (drop at s))

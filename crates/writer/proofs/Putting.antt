@@ -25,6 +25,7 @@ use Rattle.writer.specs.Counting.{NumberIs}
 use Rattle.writer.specs.Putting.{Fitting, FittingP, FittingPrefix, FittingObject, Wrote, Puts, PutsP, PutsObject}
 use Rattle.writer.proofs.Bytes.{written-stx, written-tree, front-long, written-long, all-none, all-long, parts-list, parts-app, parts-lst, parts-fun}
 use Rattle.writer.proofs.Counting.{no-parts, list-less, app-less, lst-less, fun-less}
+use Rattle.table.specs.Sizes.{cellSize, nodeSize}
 
 -- ---- one run of bytes behind another
 
@@ -46,7 +47,7 @@ as-wrote e w = rw (← e) w
 pub fitting-seen : {bytes : Tree → List ℕ} {l : List ℕ} {i : ℕ} {out : List ℕ} {at : ℕ} → Fitting bytes l i out at → Seen l i
 fitting-seen s = record { top = s .top; thing = s .thing; shown = s .shown; inside = s .inside; small = s .small }
 
-pub fitting-inside : {bytes : Tree → List ℕ} {l : List ℕ} {i : ℕ} {out : List ℕ} {at : ℕ} → Fitting bytes l i out at → i + 8 ≤ length l
+pub fitting-inside : {bytes : Tree → List ℕ} {l : List ℕ} {i : ℕ} {out : List ℕ} {at : ℕ} → Fitting bytes l i out at → i + nodeSize ≤ length l
 fitting-inside s = omega (arith, below (s .shown), s .inside)
 
 -- ---- the prefix of an object
@@ -84,7 +85,7 @@ module _ {l : List ℕ} {i : ℕ} {out : List ℕ} {at tag : ℕ} (s : FittingPr
   pub tag-fits : at + length (numBytes tag) ≤ length out
   tag-fits = omega (arith, long, s .fitting .fits)
 
-  pub object-inside : i + 8 ≤ length l
+  pub object-inside : i + nodeSize ≤ length l
   object-inside = fitting-inside (s .fitting)
 
   module _ {l1 : List ℕ} {mid : ℕ} (p1 : mid ≡ at + length (numBytes tag)) (o1 : l1 ≡ sets out at (numBytes tag)) where
@@ -357,7 +358,7 @@ module _ {l : List ℕ} {c : ℕ} {out₀ : List ℕ} {at place : ℕ} {out : Li
       }
 
   module _ (h : ¬ (place ≡ 0)) where
-    pub part-inside : place + 5 ≤ length l
+    pub part-inside : place + cellSize ≤ length l
     part-inside = let p = part-at (w .ready .shown) h refl in omega (arith, p .cell .inside, w .ready .inside)
 
     module _ {x : Cell} (e : x ≡ getCell l place) where

@@ -11,6 +11,7 @@ use Rattle.table.specs.Tags.{listTag}
 use Rattle.table.specs.Words.{getNode}
 use Rattle.things.specs.Rep.{Rep, RepP}
 use Rattle.writer.specs.Bytes.{prefix}
+use Rattle.table.specs.Sizes.{tableSize}
 
 -- the bytes of the thing at i fit into the output from a place on
 pub record Fitting (bytes : Tree → List ℕ) (l : List ℕ) (i : ℕ) (out : List ℕ) (at : ℕ) : Type 0 where
@@ -18,7 +19,7 @@ pub record Fitting (bytes : Tree → List ℕ) (l : List ℕ) (i : ℕ) (out : L
   pub thing : Tree
   pub shown : Rep l top i thing
   pub inside : top ≤ length l
-  pub small : length l ≤ 65536
+  pub small : length l ≤ tableSize
   pub fits : at + length (bytes thing) ≤ length out
 
 pub record FittingP (bytes : Trees → List ℕ) (l : List ℕ) (c : ℕ) (out : List ℕ) (at : ℕ) : Type 0 where
@@ -26,7 +27,7 @@ pub record FittingP (bytes : Trees → List ℕ) (l : List ℕ) (c : ℕ) (out :
   pub thing : Trees
   pub shown : RepP l top c thing
   pub inside : top ≤ length l
-  pub small : length l ≤ 65536
+  pub small : length l ≤ tableSize
   pub fits : at + length (bytes thing) ≤ length out
 
 -- the tag and sets of a syntax object fit; its tag is known
@@ -40,7 +41,7 @@ pub record FittingObject (bytes : Stx → List ℕ) (l : List ℕ) (i : ℕ) (ou
   pub thing : Stx
   pub shown : Rep l top i (stx thing)
   pub inside : top ≤ length l
-  pub small : length l ≤ 65536
+  pub small : length l ≤ tableSize
   pub fits : at + length (bytes thing) ≤ length out
 
 -- the bytes bs were stored from `at` on, and nothing else

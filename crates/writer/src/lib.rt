@@ -56,7 +56,7 @@ fn number_of(table: &[u32], i: u32) -> u32
 // Of the bytes before that number: tags, and an object's sets. Where `lead` is set, a syntax value's tag comes before its object.
 fn prefix_len(table: &[u32], i: u32, lead: bool) -> usize
     requires { ⌜ Seen (now table) i ⌝ }
-    ensures { λ r. ⌜ LengthIs (prefix lead) 197 (now (table .entry)) i r ⌝ }
+    ensures { λ r. ⌜ LengthIs (prefix lead) 1163 (now (table .entry)) i r ⌝ }
 {
     let node = table::get_node(table, i);
     let tag = node.tag;
@@ -76,7 +76,7 @@ fn prefix_len(table: &[u32], i: u32, lead: bool) -> usize
 
 fn front_len(table: &[u32], i: u32, lead: bool) -> usize
     requires { ⌜ Seen (now table) i ⌝ }
-    ensures { λ r. ⌜ LengthIs (front lead) 202 (now (table .entry)) i r ⌝ }
+    ensures { λ r. ⌜ LengthIs (front lead) 1168 (now (table .entry)) i r ⌝ }
 {
     prefix_len(table, i, lead) + numbers::number_len(number_of(table, i))
 }

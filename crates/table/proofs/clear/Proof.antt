@@ -10,9 +10,10 @@ use Rattle.model.specs.Jobs.{cleared}
 use Rattle.model.specs.Limits.{wordsPerUnit}
 use Rattle.table.proofs.clear.Statement.{statement}
 use Rattle.table.proofs.clear.Tie as tie
+use Rattle.table.specs.Sizes.{unitSize}
 
 abbrev Inv-loop : tie.InvT-loop
-Inv-loop table₀ budget n k₀ table k = (k ≤ n) × (n ≡ 16 * budget) × (n ≤ length table₀) × (length table ≡ length table₀) × (table ≡ replicate k 0 ++ drop k table₀)
+Inv-loop table₀ budget n k₀ table k = (k ≤ n) × (n ≡ unitSize * budget) × (n ≤ length table₀) × (length table ≡ length table₀) × (table ≡ replicate k 0 ++ drop k table₀)
 
 abbrev μ-loop : tie.MeasureT-loop
 μ-loop table₀ budget n k₀ table k = n - k
@@ -50,7 +51,7 @@ same-length c = c .before .loop .inv .3
 returns : tie.Need-returns Inv-loop μ-loop
 unfolding cleared wordsPerUnit
 returns c =
-    let e : c .before .loop .k ≡ 16 * c .before .before .args .budget = omega arith in
+    let e : c .before .loop .k ≡ unitSize * c .before .before .args .budget = omega arith in
     c .before .loop .inv .4 ∙ ap (λ (j : ℕ). replicate j 0 ++ drop j (c .before .before .args .table .now)) e
 
 pub clear-spec : {M : Type 1} → statement M

@@ -3,36 +3,40 @@ use borrow.Author.Needs.{needs}
 use Rattle.table.proofs.get_set.Statement.{statement}
 use Rattle.table.proofs.get_set.Tie as tie
 
-mul-joined : tie.Need-mul-joined
-mul-joined c = search needs
+get-word-requires : tie.Need-get-word-requires
+get-word-requires c κs = search needs
 
-shared-slice-read-joined : tie.Need-shared-slice-read-joined
-shared-slice-read-joined c = search needs
+add-get-word : tie.Need-add-get-word
+add-get-word c = search needs
 
-add-joined : tie.Need-add-joined
-add-joined c = search needs
+get-word-requires-2 : tie.Need-get-word-requires-2
+get-word-requires-2 c κs = search needs
 
-mul-joined-2 : tie.Need-mul-joined-2
-mul-joined-2 c = search needs
+add-get-word-2 : tie.Need-add-get-word-2
+add-get-word-2 c = search needs
 
-shared-slice-read-joined-2 : tie.Need-shared-slice-read-joined-2
-shared-slice-read-joined-2 c = search needs
+get-word-requires-3 : tie.Need-get-word-requires-3
+get-word-requires-3 c κs = search needs
 
-joined-requires : tie.Need-joined-requires
-joined-requires c κs = search needs
+add-get-word-3 : tie.Need-add-get-word-3
+add-get-word-3 c = search needs
+
+get-word-requires-4 : tie.Need-get-word-requires-4
+get-word-requires-4 c κs = search needs
 
 returns : tie.Need-returns
 unfolding getSet
-returns c = rw (c .joined .ensures)
+returns c = cc
 
 pub get-set-spec : {M : Type 1} → statement M
 get-set-spec =
     tie.close
     (tie.spec
-    mul-joined
-    shared-slice-read-joined
-    add-joined
-    mul-joined-2
-    shared-slice-read-joined-2
-    joined-requires
+    get-word-requires
+    add-get-word
+    get-word-requires-2
+    add-get-word-2
+    get-word-requires-3
+    add-get-word-3
+    get-word-requires-4
     returns)

@@ -1,49 +1,62 @@
-use native.Mathlib.Omega.{arith}
-use lib.ListN.{length-set}
-use native.Mathlib.Numerals.{towards-suc}
-use Rattle.table.specs.Words.{putSet, setWords}
+use Rattle.table.specs.Words.{putSet}
 use borrow.Author.Needs.{needs}
 use Rattle.table.proofs.put_set.Statement.{statement}
 use Rattle.table.proofs.put_set.Tie as tie
 
-cast-table : tie.Need-cast-table
-cast-table c = search needs
+element-copy-out-put-word : tie.Need-element-copy-out-put-word
+element-copy-out-put-word c = search needs
 
-mul-table : tie.Need-mul-table
-mul-table c = search needs
+put-word-requires : tie.Need-put-word-requires
+put-word-requires c κs = search needs
 
-slice-write-table : tie.Need-slice-write-table
-slice-write-table c = search needs
+add-put-word : tie.Need-add-put-word
+add-put-word c = search needs
 
-cast-table-2 : tie.Need-cast-table-2
-cast-table-2 c = search needs
+element-copy-out-put-word-2 : tie.Need-element-copy-out-put-word-2
+element-copy-out-put-word-2 c = search needs
 
-add-table : tie.Need-add-table
-add-table c = search needs
+put-word-requires-2 : tie.Need-put-word-requires-2
+put-word-requires-2 c κs = search needs
 
-mul-table-2 : tie.Need-mul-table-2
-mul-table-2 c = search needs
+add-put-word-2 : tie.Need-add-put-word-2
+add-put-word-2 c = search needs
 
-slice-write-table-2 : tie.Need-slice-write-table-2
-slice-write-table-2 c = simp length-set (omega arith)
+element-copy-out-put-word-3 : tie.Need-element-copy-out-put-word-3
+element-copy-out-put-word-3 c = search needs
+
+put-word-requires-3 : tie.Need-put-word-requires-3
+put-word-requires-3 c κs = search needs
+
+add-put-word-3 : tie.Need-add-put-word-3
+add-put-word-3 c = search needs
+
+element-copy-out-put-word-4 : tie.Need-element-copy-out-put-word-4
+element-copy-out-put-word-4 c = search needs
+
+put-word-requires-4 : tie.Need-put-word-requires-4
+put-word-requires-4 c κs = search needs
 
 same-length : tie.Need-same-length
 same-length c = search needs
 
 returns : tie.Need-returns
-unfolding putSet setWords
-returns c = simp towards-suc
+unfolding putSet
+returns c = cc
 
 pub put-set-spec : {M : Type 1} → statement M
 put-set-spec =
     tie.close
     (tie.spec
-    cast-table
-    mul-table
-    slice-write-table
-    cast-table-2
-    add-table
-    mul-table-2
-    slice-write-table-2
+    element-copy-out-put-word
+    put-word-requires
+    add-put-word
+    element-copy-out-put-word-2
+    put-word-requires-2
+    add-put-word-2
+    element-copy-out-put-word-3
+    put-word-requires-3
+    add-put-word-3
+    element-copy-out-put-word-4
+    put-word-requires-4
     same-length
     returns)

@@ -1,12 +1,8 @@
--- Two numbers of at most five bytes, and a set of at most 65.
+-- Two numbers of at most five bytes, and a set of at most 387.
 use Rattle.bindings.proofs.Lengths.{storing-laws}
 use borrow.Author.Needs.{needs}
 use Rattle.bindings.proofs.storing.binding_len.Statement.{statement}
 use Rattle.bindings.proofs.storing.binding_len.Tie as tie
-use Rattle.bindings.proofs.storing.binding_len.Reads as reads
-use Rattle.bindings.proofs.storing.binding_len.Lts as lts
-use Rattle.numbers.proofs.number_len.Reads as number-len-reads
-use Rattle.sets.proofs.set_len.Reads as set-len-reads
 
 -- src/storing.rt:20:5
 number-len-requires : tie.Need-number-len-requires

@@ -1,12 +1,10 @@
+use native.Mathlib.Omega.{arith}
+use Rattle.scopes.specs.Sets.{scopesOf}
 -- Symbol, target and set, one behind the other.
-use Rattle.bindings.proofs.Lengths.{storing-laws}
+use Rattle.bindings.proofs.Lengths.{storing-laws, bind-length}
 use borrow.Author.Needs.{needs}
 use Rattle.bindings.proofs.storing.put_binding.Statement.{statement}
 use Rattle.bindings.proofs.storing.put_binding.Tie as tie
-use Rattle.bindings.proofs.storing.put_binding.Reads as reads
-use Rattle.bindings.proofs.storing.put_binding.Lts as lts
-use Rattle.numbers.proofs.put_number.Reads as put-number-reads
-use Rattle.sets.proofs.put_set.Reads as put-set-reads
 
 -- src/storing.rt:32:9
 put-number-requires : tie.Need-put-number-requires
@@ -18,7 +16,9 @@ put-number-requires-2 c κs = search (storing-laws, needs)
 
 -- src/storing.rt:34:5
 put-set-requires : tie.Need-put-set-requires
-put-set-requires c κs = search (storing-laws, needs)
+put-set-requires c κs =
+    let b = c .before .before .before .before .before .before .before .before .before .before .before .before .before .args .b in
+    omega (arith, bind-length (b .symbol .0) (b .target .0) (scopesOf (b .set)), c .before .before .before .before .before .before .before .put-number .kept .0, c .before .before .before .put-number2 .kept .0, c .before .before .before .before .before .before .before .before .before .before .before .before .before .pre)
 
 -- src/storing.rt:24:1
 same-length : tie.Need-same-length

@@ -1,7 +1,5 @@
--- Word by word.
-use mathlib.Core.Path.{refl}
 use Rattle.store.specs.Words.{bindAt}
-use Rattle.store.proofs.Runs.{bind-eq}
+use Rattle.store.proofs.Runs.{bind-eq, words-there}
 use borrow.Author.Needs.{needs}
 use Rattle.store.proofs.bindings.get.Statement.{statement}
 use Rattle.store.proofs.bindings.get.Tie as tie
@@ -39,12 +37,40 @@ mul-t11 c = search needs
 shared-slice-read-t10 : tie.Need-shared-slice-read-t10
 shared-slice-read-t10 c = search needs
 
+add-t14 : tie.Need-add-t14
+add-t14 c = search needs
+
+mul-t15 : tie.Need-mul-t15
+mul-t15 c = search needs
+
+shared-slice-read-t17 : tie.Need-shared-slice-read-t17
+shared-slice-read-t17 c = search needs
+
+add-t18 : tie.Need-add-t18
+add-t18 c = search needs
+
+mul-t19 : tie.Need-mul-t19
+mul-t19 c = search needs
+
+shared-slice-read-t21 : tie.Need-shared-slice-read-t21
+shared-slice-read-t21 c = search needs
+
+add-t22 : tie.Need-add-t22
+add-t22 c = search needs
+
+mul-t23 : tie.Need-mul-t23
+mul-t23 c = search needs
+
+shared-slice-read-t25 : tie.Need-shared-slice-read-t25
+shared-slice-read-t25 c = search needs
+
 returns : tie.Need-returns
 unfolding bindAt
-returns c = bind-eq (c .before .before .before .half .ensures) (c .before .half2 .ensures) refl
+returns c = search (bind-eq, words-there, needs)
 
 pub get-spec : {M : Type 1} → statement M
-get-spec = tie.close
+get-spec =
+    tie.close
     (tie.spec
     mul-at
     mul-half
@@ -57,4 +83,13 @@ get-spec = tie.close
     add-t8
     mul-t11
     shared-slice-read-t10
+    add-t14
+    mul-t15
+    shared-slice-read-t17
+    add-t18
+    mul-t19
+    shared-slice-read-t21
+    add-t22
+    mul-t23
+    shared-slice-read-t25
     returns)

@@ -25,9 +25,9 @@ same-length c = search needs
 
 returns : tie.Need-returns
 returns c =
-    inserted _ _ _ _ _ _ (omega arith) (omega arith) (omega arith)
+    inserted _ _ _ _ _ _ (omega arith)
     (c .before .before .before .before .before .before .before .before .place .ensures)
-    (c .before .before .before .before .before .before .shift .ensures) (c .before .before .put .ensures .0)
+    (c .before .before .before .before .before .before .shift .ensures) (c .before .before .put .ensures)
 
 pub insert-spec : {M : Type 1} → statement M
 insert-spec = tie.close
