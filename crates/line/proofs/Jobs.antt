@@ -15,10 +15,10 @@ use Rattle.laws.proofs.Tests.{leb-true}
 use Rattle.addresses.proofs.Endings.{after-ending, expandWork, expandEnding-is, expandJob-is, parseJob-is, lent-cases, lent-ended, fitted-case, worked-case, image-case, phase-case, Ended, take-whole, Wrote, nothing-wrote}
 use Rattle.proof_bench.proofs.Answers.{expand-units-are-within-the-budget, parse-units-are-within-the-budget}
 
--- 16 words for each unit of the budget are enough
-lent-is : (table output : List ℕ) (e : Ending) → 16384 ≤ length table → lent 1024 table output e ≡ after-ending 1024 table output e
+-- the table that the program lends is enough for its budget
+lent-is : (table output : List ℕ) (e : Ending) → 16000 ≤ length table → lent 400 table output e ≡ after-ending 400 table output e
 unfolding lent budgetFits mostBudget wordsPerUnit
-lent-is table output e h = rw (leb-true 16384 (length table) h)
+lent-is table output e h = rw (leb-true 16000 (length table) h)
 
 answer-line : (before : ℕ) {a : Answer} (e : Ending) → a ≡ answerOf e → record { code = a .code; units = before + a .units } ≡ lineOf before e
 unfolding answerOf lineOf
@@ -68,58 +68,58 @@ written-line {a} {out′} out (written b u) w d q o p =
 
 -- of what the job promises
 module _ (image table out : List ℕ) {out′ table′ : List ℕ} {code units name len : ℕ}
-    (e : record { answer = record { code = code; units = units; name = name; len = len }; output = out′; table = table′ } ≡ expandJob image 0 1024 table out) where
+    (e : record { answer = record { code = code; units = units; name = name; len = len }; output = out′; table = table′ } ≡ expandJob image 0 400 table out) where
   ending : Ending
-  ending = expandEnding image 0 1024 (length out)
+  ending = expandEnding image 0 400 (length out)
 
-  is : record { answer = record { code = code; units = units; name = name; len = len }; output = out′; table = table′ } ≡ lent 1024 table out ending
+  is : record { answer = record { code = code; units = units; name = name; len = len }; output = out′; table = table′ } ≡ lent 400 table out ending
   unfolding ending
-  is = e ∙ expandJob-is image 0 1024 table out
+  is = e ∙ expandJob-is image 0 400 table out
 
   unnamed : Unnamed ending
   unfolding ending
-  unnamed = expand-unnamed image 0 1024 (length out)
+  unnamed = expand-unnamed image 0 400 (length out)
 
   program-is : length out ≡ 65536 → program image ≡ thenParsed ending
   unfolding ending program programBudget mostImage
-  program-is l = ap (λ (n : ℕ). thenParsed (expandEnding image 0 1024 n)) (sym l)
+  program-is l = ap (λ (n : ℕ). thenParsed (expandEnding image 0 400 n)) (sym l)
 
-  pub expanded-units : units ≤ 1024
-  expanded-units = subst (λ (z : Result). z .answer .units ≤ 1024) (sym e) (expand-units-are-within-the-budget image 0 1024 table out)
+  pub expanded-units : units ≤ 400
+  expanded-units = subst (λ (z : Result). z .answer .units ≤ 400) (sym e) (expand-units-are-within-the-budget image 0 400 table out)
 
   pub expanded-length : len ≤ length out′
   unfolding answerOf
   expanded-length =
       subst (λ (z : Result). z .answer .len ≤ length (z .output)) (sym is)
-      (lent-cases (λ (z : Result). z .answer .len ≤ length (z .output)) 1024 table out ending (length-within out ending) zero-le)
+      (lent-cases (λ (z : Result). z .answer .len ≤ length (z .output)) 400 table out ending (length-within out ending) zero-le)
 
   pub part-long : len ≡ length (take len out′)
   part-long = sym (length-take-le len out′ expanded-length)
 
-  pub expand-refused : 16384 ≤ length table → length out ≡ 65536 → (code ≡ 0 → ⊥) → record { code = code; units = units } ≡ program image
+  pub expand-refused : 16000 ≤ length table → length out ≡ 65536 → (code ≡ 0 → ⊥) → record { code = code; units = units } ≡ program image
   expand-refused h l n =
       refused-line ending unnamed (ap (λ (z : Result). z .answer) (is ∙ lent-is table out ending h)) n ∙ sym (program-is l)
 
   pub expand-written : {l : Line} → length out ≡ 65536 → code ≡ 0 → l ≡ lineOf units (parseEnding (take len out′) programBudget mostImage) → l ≡ program image
   expand-written n k p =
-      let d = lent-ended 1024 table out ending (ap (λ (z : Result). z .answer .code) (sym is) ∙ k) in
+      let d = lent-ended 400 table out ending (ap (λ (z : Result). z .answer .code) (sym is) ∙ k) in
       let q = is ∙ d .1 in
       written-line out ending unnamed (d .0) (ap (λ (z : Result). z .answer) q) (ap (λ (z : Result). z .output) q) p ∙ sym (program-is n)
 
 -- ---- parsing
 
 module _ (image table out : List ℕ) {out′ table′ : List ℕ} {code units name len : ℕ}
-    (e : record { answer = record { code = code; units = units; name = name; len = len }; output = out′; table = table′ } ≡ parseJob image 1024 table out) where
-  pub both-units : {before : ℕ} → before ≤ 1024 → Fits w32 (before + units)
+    (e : record { answer = record { code = code; units = units; name = name; len = len }; output = out′; table = table′ } ≡ parseJob image 400 table out) where
+  pub both-units : {before : ℕ} → before ≤ 400 → Fits w32 (before + units)
   both-units h =
-      let u = subst (λ (z : Result). z .answer .units ≤ 1024) (sym e) (parse-units-are-within-the-budget image 1024 table out) in
+      let u = subst (λ (z : Result). z .answer .units ≤ 400) (sym e) (parse-units-are-within-the-budget image 400 table out) in
       omega arith
 
-  pub parse-line : (before : ℕ) → 16384 ≤ length table → length out ≡ 65536
+  pub parse-line : (before : ℕ) → 16000 ≤ length table → length out ≡ 65536
       → record { code = code; units = before + units } ≡ lineOf before (parseEnding image programBudget mostImage)
   unfolding programBudget mostImage
   parse-line before h l =
-      answer-line before _ (ap (λ (z : Result). z .answer) (e ∙ parseJob-is image 1024 table out ∙ lent-is table out _ h))
-      ∙ ap (λ (n : ℕ). lineOf before (parseEnding image 1024 n)) l
+      answer-line before _ (ap (λ (z : Result). z .answer) (e ∙ parseJob-is image 400 table out ∙ lent-is table out _ h))
+      ∙ ap (λ (n : ℕ). lineOf before (parseEnding image 400 n)) l
 
 pub ruleset line-laws = (expanded-units, expanded-length, part-long, expand-refused, expand-written, both-units, parse-line)

@@ -9,7 +9,7 @@ use Rattle.line.specs.declared.Line.{Line}
 abbrev pub lineIs : Line → m.Line
 lineIs l = record { code = l .code; units = l .units }
 
--- what the program lends a job: 16 words for each of 1,024 units, and an output as long as an image may be
+-- what the program lends a job: 40 words for each of 400 units, and an output as long as an image may be
 pub record Lent (table out : List ℕ) : Type 0 where
-  pub words : 16384 ≤ length table
+  pub words : 16000 ≤ length table
   pub bytes : length out ≡ 65536

@@ -8,7 +8,7 @@ ghost use Rattle.model.specs.Limits.{programBudget, mostImage};
 ghost use Rattle.model.specs.Jobs.{parseEnding, lineOf, program};
 ghost use Rattle.line.specs.Lines.{lineIs, Lent};
 
-const BUDGET: u32 = 1024;
+const BUDGET: u32 = 400;
 
 const WORDS: usize = BUDGET as usize * limits::WORDS_PER_UNIT;
 
@@ -20,7 +20,7 @@ pub struct Line {
 
 // The line of parsing an image, after so many units.
 fn parsed(image: &[u8], before: u32, table: &mut [u32], tree: &mut [u8]) -> Line
-    requires { ⌜ (before ≤ 1024) × Lent (now table) (now tree) ⌝ }
+    requires { ⌜ (before ≤ 400) × Lent (now table) (now tree) ⌝ }
     ensures { λ r. ⌜ lineIs r ≡ lineOf before (parseEnding (now (image .entry)) programBudget mostImage) ⌝ }
 {
     let p = parse::meirhuppa_parse(image, BUDGET, table, tree);

@@ -33,8 +33,8 @@ use Rattle.refusals.proofs.Cases.{refusal-back}
 -- ---- what a head that was read says
 
 record Limits (h : Head) : Type 0 where
-  words-few : length (h .words) ≤ 508
-  scopes-few : h .scopes ≤ 64
+  words-few : length (h .words) ≤ 1020
+  scopes-few : h .scopes ≤ 256
 
 head-tail : (kind : ℕ) (s : List ℕ) → Tail s (readHead kind s)
 unfolding readHead
@@ -44,24 +44,24 @@ head-tail kind s =
     tail-next _ (up-to-tail overLimit (mostNames - coreNames - w) y) (λ n z. tail-next _ (up-to-tail overLimit mostScopes z) (λ c d.
     tail-give (record { words = ws; names = coreNames + w + n; scopes = c }) d)))))))
 
-counts-limits : (w : ℕ) (ws : List (List ℕ)) (v : List ℕ) (h : Head) (rest : List ℕ) → w ≤ 508 → length ws ≡ w → readCounts w ws v ≡ got h rest → Limits h
+counts-limits : (w : ℕ) (ws : List (List ℕ)) (v : List ℕ) (h : Head) (rest : List ℕ) → w ≤ 1020 → length ws ≡ w → readCounts w ws v ≡ got h rest → Limits h
 unfolding readCounts mostNames coreNames mostScopes
 counts-limits w ws v h rest few all e =
-    let a = next-got (numUpTo overLimit (508 - w) v) (λ made t. next (numUpTo overLimit 64 t) (λ n u. got (record { words = ws; names = 4 + w + made; scopes = n }) u)) h rest e in
-    let b = next-got (numUpTo overLimit 64 (a .1)) (λ n u. got (record { words = ws; names = 4 + w + a .0; scopes = n }) u) h rest (a .3) in
+    let a = next-got (numUpTo overLimit (1020 - w) v) (λ made t. next (numUpTo overLimit 256 t) (λ n u. got (record { words = ws; names = 4 + w + made; scopes = n }) u)) h rest e in
+    let b = next-got (numUpTo overLimit 256 (a .1)) (λ n u. got (record { words = ws; names = 4 + w + a .0; scopes = n }) u) h rest (a .3) in
     let z : _≡_ {A = Read Head} (got (record { words = ws; names = 4 + w + a .0; scopes = b .0 }) (b .1)) (got h rest) = b .3 in
     let y : record { words = ws; names = 4 + w + a .0; scopes = b .0 } ≡ h = cc in
     record {
       words-few = omega (arith, ap (λ (k : Head). length (k .words)) y);
-      scopes-few = omega (arith, ap (λ (k : Head). k .scopes) y, at-most overLimit 64 (b .0) (a .1) (b .1) (b .2));
+      scopes-few = omega (arith, ap (λ (k : Head). k .scopes) y, at-most overLimit 256 (b .0) (a .1) (b .1) (b .2));
     }
 
 after-limits : (u : List ℕ) (h : Head) (rest : List ℕ) → readAfterKind u ≡ got h rest → Limits h
 unfolding readAfterKind mostNames coreNames
 after-limits u h rest e =
-    let d = next-got (numUpTo overLimit 508 u) (λ w t. next (readWords w coreWords t) (λ ws v. readCounts w ws v)) h rest e in
+    let d = next-got (numUpTo overLimit 1020 u) (λ w t. next (readWords w coreWords t) (λ ws v. readCounts w ws v)) h rest e in
     let f = next-got (readWords (d .0) coreWords (d .1)) (λ ws v. readCounts (d .0) ws v) h rest (d .3) in
-    counts-limits (d .0) (f .0) (f .1) h rest (at-most overLimit 508 (d .0) u (d .1) (d .2)) (words-count (d .0) coreWords (f .0) (d .1) (f .1) (f .2)) (f .3)
+    counts-limits (d .0) (f .0) (f .1) h rest (at-most overLimit 1020 (d .0) u (d .1) (d .2)) (words-count (d .0) coreWords (f .0) (d .1) (f .1) (f .2)) (f .3)
 
 head-limits : (kind : ℕ) (s : List ℕ) (h : Head) (rest : List ℕ) → readHead kind s ≡ got h rest → Limits h
 unfolding readHead readAfterKind readCounts
@@ -130,7 +130,7 @@ module _ (ph budget : ℕ) (s : List ℕ) (short : length s ≤ 65536) {r : Head
         let l : length u ≡ length s - (c .at - 0) = ap length i ∙ length-drop (c .at - 0) s in
         omega (arith, known .within)
 
-    pub head-scopes : k .scopes ≤ 64
+    pub head-scopes : k .scopes ≤ 256
     head-scopes = omega (arith, ap (λ (x : code.Head). x .scopes) (known .is), limits .scopes-few)
 
     pub head-words : k .words + 4 < 2 ^ 32
@@ -181,16 +181,16 @@ module _ (s : List ℕ) (ph budget : ℕ) (l : List ℕ) {a : j.Answer} where
   budget-over h e = unfit s ph budget l (rw (lt-leb budget 4096 h)) e
 
   module _ (h : budget ≤ 4096) where
-    pub table-short : length l < budget * 16 → a ≡ answerOf (endingOf (Refused refusal.SmallTable 0)) → record { answer = a; output = []; table = l } ≡ resolveJob s ph budget l
+    pub table-short : length l < budget * 40 → a ≡ answerOf (endingOf (Refused refusal.SmallTable 0)) → record { answer = a; output = []; table = l } ≡ resolveJob s ph budget l
     unfolding budgetFits mostBudget wordsPerUnit
-    table-short k e = unfit s ph budget l (rw (le-leb budget 4096 h, lt-leb (16 * budget) (length l) (omega arith))) e
+    table-short k e = unfit s ph budget l (rw (le-leb budget 4096 h, lt-leb (40 * budget) (length l) (omega arith))) e
 
-    pub job-done : (x : Ending) {l1 : List ℕ} → budget * 16 ≤ length l → endingOf x ≡ resolveEnding s ph budget → l1 ≡ cleared budget l → a ≡ answerOf (endingOf x)
+    pub job-done : (x : Ending) {l1 : List ℕ} → budget * 40 ≤ length l → endingOf x ≡ resolveEnding s ph budget → l1 ≡ cleared budget l → a ≡ answerOf (endingOf x)
         → record { answer = a; output = []; table = l1 } ≡ resolveJob s ph budget l
     unfolding resolveJob lent budgetFits mostBudget wordsPerUnit
     job-done x {l1} k e c f =
         let o : [] ≡ outputAfter (resolveEnding s ph budget) [] = sym (nothing-written x) ∙ ap (λ (y : j.Ending). outputAfter y []) e in
         let g : a ≡ answerOf (resolveEnding s ph budget) = f ∙ ap answerOf e in
-        (λ i. record { answer = g i; output = o i; table = c i }) ∙ rw (le-leb budget 4096 h, le-leb (16 * budget) (length l) (omega arith))
+        (λ i. record { answer = g i; output = o i; table = c i }) ∙ rw (le-leb budget 4096 h, le-leb (40 * budget) (length l) (omega arith))
 
 pub ruleset job-laws = (image-long, head-unread, head-after, head-fits, head-scopes, head-words, head-read, phase-over, phase-right, budget-over, table-short, job-done)

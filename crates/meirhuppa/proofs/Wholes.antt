@@ -73,29 +73,29 @@ module _ (budget : ℕ) (table out : List ℕ) (q : m.Ending) {a : m.Answer} whe
   unfolding budgetFits mostBudget
   over h e = lent-no (rw (lt-leb budget 4096 h) refl) e
 
-  few-words : length table < budget * 16 → a ≡ answerOf (m.refused smallTable 0) → record { answer = a; output = out; table = table } ≡ lent budget table out q
+  few-words : length table < budget * 40 → a ≡ answerOf (m.refused smallTable 0) → record { answer = a; output = out; table = table } ≡ lent budget table out q
   unfolding budgetFits wordsPerUnit
   few-words h e =
-      let l : length table < 16 * budget = omega arith in
-      lent-no (rw (lt-leb (16 * budget) (length table) l) (and-no (leb budget mostBudget))) e
+      let l : length table < 40 * budget = omega arith in
+      lent-no (rw (lt-leb (40 * budget) (length table) l) (and-no (leb budget mostBudget))) e
 
-  ended : budget ≤ 4096 → budget * 16 ≤ length table → (p : List ℕ) {t′ out′ : List ℕ} {e : Ending} → length p ≡ length (take (budget * 16) table) → t′ ≡ cleared budget (p ++ drop (budget * 16) table)
+  ended : budget ≤ 4096 → budget * 40 ≤ length table → (p : List ℕ) {t′ out′ : List ℕ} {e : Ending} → length p ≡ length (take (budget * 40) table) → t′ ≡ cleared budget (p ++ drop (budget * 40) table)
       → EndsAs q out out′ e → a ≡ answerFor e → record { answer = a; output = out′; table = t′ } ≡ lent budget table out q
   unfolding lent budgetFits mostBudget wordsPerUnit cleared
   ended h k p len c w e =
-      let l : 16 * budget ≤ length table = omega arith in
-      let long : length p ≡ budget * 16 = len ∙ length-take-le (budget * 16) table k in
-      let turn : 16 * budget ≡ budget * 16 = omega arith in
-      let rest : drop (16 * budget) (p ++ drop (budget * 16) table) ≡ drop (16 * budget) table =
-      drop-at p (drop (budget * 16) table) (16 * budget) (long ∙ sym turn) ∙ ap (λ (n : ℕ). drop n table) (sym turn) in
-      rw (le-leb budget 4096 h, le-leb (16 * budget) (length table) l)
-      (λ i. record { answer = (e ∙ answer-is w) i; output = output-is w i; table = (c ∙ ap (λ (x : List ℕ). replicate (16 * budget) 0 ++ x) rest) i })
+      let l : 40 * budget ≤ length table = omega arith in
+      let long : length p ≡ budget * 40 = len ∙ length-take-le (budget * 40) table k in
+      let turn : 40 * budget ≡ budget * 40 = omega arith in
+      let rest : drop (40 * budget) (p ++ drop (budget * 40) table) ≡ drop (40 * budget) table =
+      drop-at p (drop (budget * 40) table) (40 * budget) (long ∙ sym turn) ∙ ap (λ (n : ℕ). drop n table) (sym turn) in
+      rw (le-leb budget 4096 h, le-leb (40 * budget) (length table) l)
+      (λ i. record { answer = (e ∙ answer-is w) i; output = output-is w i; table = (c ∙ ap (λ (x : List ℕ). replicate (40 * budget) 0 ++ x) rest) i })
 
 -- the part of the table that is lent for the work
-pub part-long : (budget : ℕ) (table : List ℕ) → budget * 16 ≤ length table → budget * 16 ≡ length (take (budget * 16) table)
-part-long budget table k = sym (length-take-le (budget * 16) table k)
+pub part-long : (budget : ℕ) (table : List ℕ) → budget * 40 ≤ length table → budget * 40 ≡ length (take (budget * 40) table)
+part-long budget table k = sym (length-take-le (budget * 40) table k)
 
-pub part-lent : (budget : ℕ) (table : List ℕ) → budget ≤ 4096 → budget * 16 ≤ length table → Lent (take (budget * 16) table) budget
+pub part-lent : (budget : ℕ) (table : List ℕ) → budget ≤ 4096 → budget * 40 ≤ length table → Lent (take (budget * 40) table) budget
 part-lent budget table h k = let l = part-long budget table k in record { room = omega arith; small = omega arith }
 
 -- ---- evaluate
@@ -105,11 +105,11 @@ module _ (image : List ℕ) (budget : ℕ) (table out : List ℕ) {a : m.Answer}
   unfolding evaluateJob
   evaluate-over h e = over budget table out (evaluateEnding image budget (length out)) h e
 
-  pub evaluate-few : length table < budget * 16 → a ≡ answerOf (m.refused smallTable 0) → record { answer = a; output = out; table = table } ≡ evaluateJob image budget table out
+  pub evaluate-few : length table < budget * 40 → a ≡ answerOf (m.refused smallTable 0) → record { answer = a; output = out; table = table } ≡ evaluateJob image budget table out
   unfolding evaluateJob
   evaluate-few h e = few-words budget table out (evaluateEnding image budget (length out)) h e
 
-  pub evaluate-ended : (p : List ℕ) {t′ out′ : List ℕ} {e : Ending} → budget ≤ 4096 → budget * 16 ≤ length table → length p ≡ length (take (budget * 16) table) → t′ ≡ cleared budget (p ++ drop (budget * 16) table)
+  pub evaluate-ended : (p : List ℕ) {t′ out′ : List ℕ} {e : Ending} → budget ≤ 4096 → budget * 40 ≤ length table → length p ≡ length (take (budget * 40) table) → t′ ≡ cleared budget (p ++ drop (budget * 40) table)
       → EndsAs (evaluateEnding image budget (length out)) out out′ e → a ≡ answerFor e → record { answer = a; output = out′; table = t′ } ≡ evaluateJob image budget table out
   unfolding evaluateJob
   evaluate-ended p h k len c w e = ended budget table out (evaluateEnding image budget (length out)) h k p len c w e
@@ -123,11 +123,11 @@ module _ (image : List ℕ) (ph budget : ℕ) (table out : List ℕ) {a : m.Answ
   unfolding expandJob
   expand-over h e = over budget table out (expandEnding image ph budget (length out)) h e
 
-  pub expand-few : length table < budget * 16 → a ≡ answerOf (m.refused smallTable 0) → record { answer = a; output = out; table = table } ≡ expandJob image ph budget table out
+  pub expand-few : length table < budget * 40 → a ≡ answerOf (m.refused smallTable 0) → record { answer = a; output = out; table = table } ≡ expandJob image ph budget table out
   unfolding expandJob
   expand-few h e = few-words budget table out (expandEnding image ph budget (length out)) h e
 
-  pub expand-ended : (p : List ℕ) {t′ out′ : List ℕ} {e : Ending} → budget ≤ 4096 → budget * 16 ≤ length table → length p ≡ length (take (budget * 16) table) → t′ ≡ cleared budget (p ++ drop (budget * 16) table)
+  pub expand-ended : (p : List ℕ) {t′ out′ : List ℕ} {e : Ending} → budget ≤ 4096 → budget * 40 ≤ length table → length p ≡ length (take (budget * 40) table) → t′ ≡ cleared budget (p ++ drop (budget * 40) table)
       → EndsAs (expandEnding image ph budget (length out)) out out′ e → a ≡ answerFor e → record { answer = a; output = out′; table = t′ } ≡ expandJob image ph budget table out
   unfolding expandJob
   expand-ended p h k len c w e = ended budget table out (expandEnding image ph budget (length out)) h k p len c w e
@@ -141,11 +141,11 @@ module _ (image : List ℕ) (budget : ℕ) (table out : List ℕ) {a : m.Answer}
   unfolding parseJob
   parse-over h e = over budget table out (parseEnding image budget (length out)) h e
 
-  pub parse-few : length table < budget * 16 → a ≡ answerOf (m.refused smallTable 0) → record { answer = a; output = out; table = table } ≡ parseJob image budget table out
+  pub parse-few : length table < budget * 40 → a ≡ answerOf (m.refused smallTable 0) → record { answer = a; output = out; table = table } ≡ parseJob image budget table out
   unfolding parseJob
   parse-few h e = few-words budget table out (parseEnding image budget (length out)) h e
 
-  pub parse-ended : (p : List ℕ) {t′ out′ : List ℕ} {e : Ending} → budget ≤ 4096 → budget * 16 ≤ length table → length p ≡ length (take (budget * 16) table) → t′ ≡ cleared budget (p ++ drop (budget * 16) table)
+  pub parse-ended : (p : List ℕ) {t′ out′ : List ℕ} {e : Ending} → budget ≤ 4096 → budget * 40 ≤ length table → length p ≡ length (take (budget * 40) table) → t′ ≡ cleared budget (p ++ drop (budget * 40) table)
       → EndsAs (parseEnding image budget (length out)) out out′ e → a ≡ answerFor e → record { answer = a; output = out′; table = t′ } ≡ parseJob image budget table out
   unfolding parseJob
   parse-ended p h k len c w e = ended budget table out (parseEnding image budget (length out)) h k p len c w e

@@ -2,7 +2,7 @@
 pub const MOST_BUDGET: u32 = 4096;
 
 // Words of the table, 32 bits each.
-pub const WORDS_PER_UNIT: usize = 16;
+pub const WORDS_PER_UNIT: usize = table::WORDS_PER_UNIT;
 
 pub const LAST_PHASE: u32 = 2;
 

@@ -25,10 +25,11 @@ ghost use Rattle.model.specs.Resolving as model;
 ghost use Rattle.model.specs.Jobs.{resolveEnding, resolveJob};
 ghost use Rattle.meirhuppa.specs.Endings.{endingOf, answerIs, foundEnding};
 ghost use Rattle.meirhuppa.specs.Stages.{phased, RootEnds, RootRead, BindsRead, imageEnding};
+ghost use Rattle.store.specs.Sizes.{bindingSize, storeSize};
 
 // The name of the identifier with symbol x and set s, after so many units.
 fn resolve_name(store: &[u64], count: usize, x: Symbol, s: ScopeSet, units: u32) -> Ending
-    requires { ⌜ count * 3 ≤ length (now store) ⌝ }
+    requires { ⌜ count * bindingSize ≤ length (now store) ⌝ }
     ensures { λ r. ⌜ endingOf r ≡ foundEnding (model.resolve (x .0) (scopesOf s) (bindsOf (now (store .entry)) count)) units ⌝ }
 {
     match resolving::resolve(store, count, x, s) {
@@ -60,8 +61,8 @@ fn resolve_root(
     store: &[u64],
     count: usize,
 ) -> Ending
-    requires image { ⌜ (c .at + length (now s) ≤ 65536) × (counts .scopes ≤ 64) ⌝ }
-    requires held { ⌜ count * 3 ≤ length (now store) ⌝ }
+    requires image { ⌜ (c .at + length (now s) ≤ 65536) × (counts .scopes ≤ 256) ⌝ }
+    requires held { ⌜ count * bindingSize ≤ length (now store) ⌝ }
     ensures { λ r. ⌜ RootEnds counts (now (s .entry)) phase (bindsOf (now (store .entry)) count) units r ⌝ }
 {
     match c.number_up_to(s, Refusal::Layout, 5) {
@@ -98,8 +99,8 @@ fn resolve_measured(
     store: &[u64],
     count: usize,
 ) -> Ending
-    requires image { ⌜ (c .at + length (now s) ≤ 65536) × (counts .scopes ≤ 64) ⌝ }
-    requires held { ⌜ count * 3 ≤ length (now store) ⌝ }
+    requires image { ⌜ (c .at + length (now s) ≤ 65536) × (counts .scopes ≤ 256) ⌝ }
+    requires held { ⌜ count * bindingSize ≤ length (now store) ⌝ }
     ensures { λ r. ⌜ RootRead counts (now (s .entry)) phase (bindsOf (now (store .entry)) count) budget r ⌝ }
 {
     match objects::measure_object(c, s, counts.symbols, counts.scopes, limits::MOST_NESTING) {
@@ -125,8 +126,8 @@ fn resolve_bindings(
     budget: u32,
     store: &mut [u64],
 ) -> Ending
-    requires image { ⌜ (c .at + length (now s) ≤ 65536) × (counts .scopes ≤ 64) ⌝ }
-    requires held { ⌜ 384 ≤ length (now store) ⌝ }
+    requires image { ⌜ (c .at + length (now s) ≤ 65536) × (counts .scopes ≤ 256) ⌝ }
+    requires held { ⌜ storeSize ≤ length (now store) ⌝ }
     ensures { λ r. ⌜ BindsRead counts (now (s .entry)) phase budget r ⌝ }
 {
     let read = loading::read_bindings(c, s, counts, store);
@@ -148,7 +149,7 @@ fn resolve_bindings(
 
 // From the front of the image.
 fn resolve_image(image: &[u8], phase: u32, budget: u32, store: &mut [u64]) -> Ending
-    requires { ⌜ 384 ≤ length (now store) ⌝ }
+    requires { ⌜ storeSize ≤ length (now store) ⌝ }
     ensures { λ r. ⌜ endingOf r ≡ imageEnding phase budget (now (image .entry)) ⌝ }
 {
     if limits::MOST_IMAGE < image.len() {

@@ -11,8 +11,10 @@ use crate::stream::Input;
 use crate::stream::Number;
 use crate::stream::Place;
 
-// The most bytes or words of a buffer that a call may ask for.
-const MOST: usize = 70000;
+// The most that a call may ask for: bytes of image and output, words of the table.
+const MOST_BYTES: usize = 70000;
+
+const MOST_WORDS: usize = 170000;
 
 // How far the run is: what is left of the input, what is printed, and whether a call may follow.
 struct Run {
@@ -149,8 +151,8 @@ fn answer_all(
 fn main() {
     let mut room = [0u8; Input::ROOM];
     let mut page = [0u8; Lines::PAGE];
-    let mut image = [0u8; MOST];
-    let mut table = [0u32; MOST];
-    let mut output = [0u8; MOST];
+    let mut image = [0u8; MOST_BYTES];
+    let mut table = [0u32; MOST_WORDS];
+    let mut output = [0u8; MOST_BYTES];
     answer_all(&mut room, &mut image, &mut table, &mut output, &mut page);
 }
