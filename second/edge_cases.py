@@ -1,4 +1,4 @@
-"""Edge cases of document 01, worked out by hand.
+"""Edge cases of document 01, as request T-09 amends it, worked out by hand.
 
 Each case is a reason, a call and the answer that document 01 asks for. The
 notation is the one of image.py. `steps` walks through the charges of a call
@@ -86,8 +86,8 @@ def nested(times, inner="1", opening="(", closing=")"):
     return opening * times + inner + closing * times
 
 
-sample(14, "64 scopes are read", "resolve", syntax_image("x", scopes=64), 0, 1, 4)
-sample(14, "65 scopes are not", "resolve", syntax_image("x", scopes=65), 2, 0)
+sample(14, "256 scopes are read", "resolve", syntax_image("x", scopes=256), 0, 1, 4)
+sample(14, "257 scopes are not", "resolve", syntax_image("x", scopes=257), 2, 0)
 sample(14, "nesting 64 is read", "resolve", syntax_image(nested(63)), 8, 64)
 sample(14, "nesting 65 is not", "resolve", syntax_image(nested(64)), 2, 0)
 case("wrong turn: the candidate with the most scopes", "resolve",
@@ -99,14 +99,26 @@ case("wrong turn: the candidate with the most scopes", "resolve",
 ONE = syntax_image("1")
 case("budget 4,096 is the largest", "expand", ONE, 0, 2, result=ONE, budget=4096)
 for job in ("resolve", "expand", "parse", "evaluate"):
-    case(f"{job}: budget 4,097 with a table for it", job, ONE, 5, 0, budget=4097, table=70000)
-    case(f"{job}: one table word short", job, ONE, 5, 0, budget=1024, table=16383)
-    case(f"{job}: 5 before everything else", job, b"", 5, 0, budget=1, table=15, phase=9)
+    case(f"{job}: budget 4,097 with a table for it", job, ONE, 5, 0, budget=4097, table=163880)
+    case(f"{job}: one table word short", job, ONE, 5, 0, budget=1024, table=40959)
+    case(f"{job}: 5 before everything else", job, b"", 5, 0, budget=1, table=39, phase=9)
     case(f"{job}: an empty image breaks the layout", job, b"", 1, 0)
     case(f"{job}: an empty image with no budget at all", job, b"", 1, 0, budget=0, table=0)
-    case(f"{job}: the largest budget there is", job, ONE, 5, 0, budget=4294967295, table=70000)
-case("a budget of 1 with 16 table words", "resolve", syntax_image("x"), 0, 1, 4, budget=1, table=16)
-case("a table larger than needed", "resolve", syntax_image("x"), 0, 1, 4, budget=1, table=70000)
+    case(f"{job}: the largest budget there is", job, ONE, 5, 0, budget=4294967295, table=170000)
+# 40 times this budget is 4,294,967,320, which is 24 where only 32 bits are kept.
+case("a budget whose table words are more than 32 bits hold", "expand", ONE, 5, 0,
+     budget=107374183, table=170000)
+case("a budget of 1 with 40 table words", "resolve", syntax_image("x"), 0, 1, 4, budget=1, table=40)
+case("a budget of 1 with 39 table words", "resolve", syntax_image("x"), 5, 0, budget=1, table=39)
+case("16 table words a unit were enough once", "expand", ONE, 5, 0, budget=1024, table=16384)
+case("budget 4,096 with 163,840 table words", "expand", ONE, 0, 2, result=ONE, budget=4096,
+     table=163840)
+case("budget 4,096 with 163,839 table words", "expand", ONE, 5, 0, budget=4096, table=163839)
+case("the program's budget and table", "expand", IDENTITY, 0, 8, result=IDENTITY_EXPANDED,
+     budget=400, table=16000)
+case("the program's budget, one table word short", "expand", IDENTITY, 5, 0, budget=400,
+     table=15999)
+case("a table larger than needed", "resolve", syntax_image("x"), 0, 1, 4, budget=1, table=170000)
 case("a table larger than needed, no budget", "resolve", syntax_image("x"), 19, 0, budget=0,
      table=40)
 for job in ("resolve", "expand"):
@@ -206,7 +218,7 @@ case("a doubled word comes before a bad length after it", "expand", b"\1\3\1x\1x
 
 # ==== counts ====
 
-MANY = ["w%03d" % i for i in range(510)]
+MANY = ["w%04d" % i for i in range(1020)]
 ROOT = b"\1\0\0\0\1"
 
 
@@ -214,31 +226,46 @@ def counted(words, made, scopes, after=b"\0" + ROOT):
     return head(1, MANY[:words], made, scopes) + after
 
 
-case("508 words", "resolve", counted(508, 0, 0), 8, 1)
-case("509 words are judged at their count", "resolve", b"\1" + number(509), 2, 0)
-case("508 words, and then the image ends", "resolve", b"\1" + number(508), 1, 0)
-case("508 words and a made name", "resolve", counted(508, 1, 0), 2, 0)
-case("508 made names", "resolve", counted(0, 508, 0), 8, 1)
-case("509 made names are judged at their count", "resolve", b"\1\0" + number(509), 2, 0)
-case("words and made names fill the names", "resolve", counted(100, 408, 0), 8, 1)
-case("words and made names, one too many", "resolve", counted(100, 409, 0), 2, 0)
+case("1,020 words", "resolve", counted(1020, 0, 0), 8, 1)
+case("1,021 words are judged at their count", "resolve", b"\1" + number(1021), 2, 0)
+case("1,020 words, and then the image ends", "resolve", b"\1" + number(1020), 1, 0)
+case("1,020 words and a made name", "resolve", counted(1020, 1, 0), 2, 0)
+case("1,020 made names", "resolve", counted(0, 1020, 0), 8, 1)
+case("1,021 made names are judged at their count", "resolve", b"\1\0" + number(1021), 2, 0)
+case("words and made names fill the names", "resolve", counted(100, 920, 0), 8, 1)
+case("words and made names, one too many", "resolve", counted(100, 921, 0), 2, 0)
 case("a very large count of made names", "resolve", counted(3, 4294967295, 0), 2, 0)
-case("64 scopes", "resolve", counted(0, 0, 64), 8, 1)
-case("65 scopes are judged at their count", "resolve", b"\1\0\0\x41", 2, 0)
-case("evaluate: 65 scopes", "evaluate", b"\2\0\0\x41", 2, 0)
-case("evaluate: 64 scopes", "evaluate", b"\2\0\0\x40\3\1\1", 0, 2, result=b"\2\0\0\x40\3\1\1")
-case("evaluate: 513 names", "evaluate", b"\2\0" + number(509), 2, 0)
+case("the last of 1,020 words is symbol 1,023", "resolve",
+     counted(1020, 0, 0, b"\0" + b"\0\0\0\0" + b"\xff\x07"), 0, 1, 1023)
+case("symbol 1,024 is undeclared", "resolve",
+     counted(1020, 0, 0, b"\0" + b"\0\0\0\0" + b"\x80\x08"), 1, 0)
+# 64 was the most once; from 128 on the count takes two groups.
+for scopes, bytes_ in ((64, b"\x40"), (65, b"\x41"), (127, b"\x7f"), (128, b"\x80\1"),
+                       (129, b"\x81\1"), (255, b"\xff\1"), (256, b"\x80\2")):
+    case(f"{scopes} scopes", "resolve", b"\1\0\0" + bytes_ + b"\0" + ROOT, 8, 1)
+    case(f"evaluate: {scopes} scopes", "evaluate", b"\2\0\0" + bytes_ + b"\3\1\1", 0, 2,
+         result=b"\2\0\0" + bytes_ + b"\3\1\1")
+case("257 scopes are judged at their count", "resolve", b"\1\0\0\x81\2", 2, 0)
+case("evaluate: 257 scopes", "evaluate", b"\2\0\0\x81\2", 2, 0)
+case("256 scopes, not in the shortest form", "resolve", b"\1\0\0\x80\x82\0", 1, 0)
+case("evaluate: 1,025 names", "evaluate", b"\2\0" + number(1021), 2, 0)
+# What was over the limit once is read.
+case("509 words", "resolve", counted(509, 0, 0), 8, 1)
+case("509 made names", "resolve", counted(0, 509, 0), 8, 1)
 
-PAIRS = sorted([[a] for a in range(1, 17)] + [[a, b] for a in range(1, 17) for b in range(a + 1, 17)])
+# 32 sets of one scope and 496 of two.
+PAIRS = sorted([[a] for a in range(1, 33)] + [[a, b] for a in range(1, 33) for b in range(a + 1, 33)])
 
 
 def many_bindings(count, **named):
-    return dict(scopes=16, bindings=[("x", s, 4) for s in PAIRS[:count]], **named)
+    return dict(scopes=32, bindings=[("x", s, 4) for s in PAIRS[:count]], **named)
 
 
-case("128 bindings", "resolve", syntax_image("x{1}", **many_bindings(128)), 0, 1, 4)
-case("129 bindings", "resolve", syntax_image("x{1}", **many_bindings(129)), 2, 0)
-case("129 bindings are judged at their count", "resolve", b"\1\0\0\0" + number(129), 2, 0)
+case("129 bindings, once one too many", "resolve", syntax_image("x{1}", **many_bindings(129)), 0, 1, 4)
+case("512 bindings", "resolve", syntax_image("x{1}", **many_bindings(512)), 0, 1, 4)
+case("513 bindings", "resolve", syntax_image("x{1}", **many_bindings(513)), 2, 0)
+case("513 bindings are judged at their count", "resolve", b"\1\0\0\0" + number(513), 2, 0)
+case("512 bindings, and then the image ends", "resolve", b"\1\0\0\0" + number(512), 1, 0)
 
 # ==== sets and bindings ====
 
@@ -259,6 +286,28 @@ case("set: a falling scope before a fifth byte of 16", "resolve",
      with_set(b"\4\2\1\x80\x80\x80\x80\x10"), 1, 0)
 case("set: scope 64", "resolve", with_set(b"\1\x40", 64), 0, 1, 4)
 case("set: all 64 scopes", "resolve", with_set(b"\x40" + bytes(range(1, 65)), 64), 0, 1, 4)
+for scope, bytes_ in ((65, b"\x41"), (127, b"\x7f"), (128, b"\x80\1"), (129, b"\x81\1"),
+                      (192, b"\xc0\1"), (193, b"\xc1\1"), (255, b"\xff\1"), (256, b"\x80\2")):
+    case(f"set: scope {scope}, the last one", "resolve", with_set(b"\1" + bytes_, scope), 0, 1, 4)
+    case(f"set: scope {scope} with one fewer declared", "resolve",
+         with_set(b"\1" + bytes_, scope - 1), 1, 0)
+case("set: scope 257 is undeclared: 1, not 2", "resolve", with_set(b"\1\x81\2", 256), 1, 0)
+case("set: scope 512 is undeclared", "resolve", with_set(b"\1\x80\4", 256), 1, 0)
+case("set: scope 127 not in its shortest form", "resolve", with_set(b"\1\xff\0", 256), 1, 0)
+case("set: scope 128 cut after its first group", "resolve",
+     head(1, ["x"], 1, 256) + b"\0\0\1\x80", 1, 0)
+case("set: all 256 scopes", "resolve", with_set(b"\x80\2" + b"".join(map(number, range(1, 257))), 256),
+     0, 1, 4)
+case("set: 257 scopes of 256", "resolve",
+     with_set(b"\x81\2" + b"".join(map(number, range(1, 258))), 256), 1, 0)
+for one, other in ((65, 64), (65, 1), (128, 127), (129, 128), (129, 1), (193, 192), (193, 129),
+                   (256, 255), (256, 1)):
+    case(f"set: {one}, then {other}", "resolve",
+         with_set(b"\2" + number(one) + number(other), 256), 1, 0)
+    case(f"set: {other}, then {one}", "resolve",
+         with_set(b"\2" + number(other) + number(one), 256), 0, 1, 4)
+for scope in (64, 65, 128, 129, 192, 193, 256):
+    case(f"set: scope {scope} twice", "resolve", with_set(b"\2" + number(scope) * 2, 256), 1, 0)
 
 
 def bound(rows, root="x", made=3, scopes=3, words=("x", "y")):
@@ -284,7 +333,33 @@ for reason, rows in (("symbols that fall", [(5, 6, []), (4, 6, [])]),
                      ("an undeclared target", [(4, 9, [])]),
                      ("an undeclared scope", [(4, 6, [4])])):
     case(f"bindings: {reason}", "resolve", bound(rows), 1, 0)
+# A set is four words: scopes 1 to 64, 65 to 128, 129 to 192 and 193 to 256. The order knows nothing of
+# that: each of these sets comes before the next, whichever word they differ in or end in.
+ASCENDING = [[], [1], [1, 64], [1, 64, 65], [1, 64, 256], [1, 65], [1, 128], [1, 129], [1, 193],
+             [2, 193], [2, 194], [64], [64, 65], [64, 65, 129], [64, 65, 193], [64, 128], [64, 129],
+             [64, 193], [65], [65, 128], [65, 128, 256], [65, 129], [65, 192], [65, 193], [66, 193],
+             [128], [128, 129], [129], [129, 192], [129, 192, 193], [129, 193], [129, 256], [130, 256],
+             [192], [192, 193], [193], [193, 194], [193, 256], [194], [256]]
+assert all(a < b for a, b in zip(ASCENDING, ASCENDING[1:]))
+FOUR_WORDS = [(4, 6 + (z in ([129, 192], [64, 65, 129])), z) for z in ASCENDING]
+case("bindings: sets ascend over all four words", "resolve",
+     bound(FOUR_WORDS, "x{129,192}", scopes=256), 0, 1, 7)
+case("bindings: of eight sets over three words the largest", "resolve",
+     bound(FOUR_WORDS, "x{64,65,129}", scopes=256), 0, 1, 7)
+case("bindings: {64,65,193} does not contain {194}", "resolve",
+     bound(FOUR_WORDS, "x{64,65,193,194}", scopes=256), 6, 1)
+for before, after in zip(ASCENDING, ASCENDING[1:]):
+    case(f"bindings: {before}, then {after}", "resolve",
+         bound([(4, 6, before), (4, 6, after)], "y", scopes=256), 0, 1, 5)
+    case(f"bindings: {after}, then {before}", "resolve",
+         bound([(4, 6, after), (4, 6, before)], "y", scopes=256), 1, 0)
+for scope in (64, 65, 128, 129, 192, 193, 256):
+    case(f"bindings: {[scope]} twice", "resolve",
+         bound([(4, 6, [scope]), (4, 7, [scope])], "y", scopes=256), 1, 0)
+case("bindings: scope 256 is undeclared", "resolve", bound([(4, 6, [256])], scopes=255), 1, 0)
 case("bindings: the last name as target", "resolve", bound([(4, 8, [])]), 0, 1, 8)
+case("bindings: name 1,023 as target", "resolve", bound([(4, 1023, [])], made=1018), 0, 1, 1023)
+case("bindings: name 1,024 as target", "resolve", bound([(4, 1024, [])], made=1018), 1, 0)
 case("bindings: a core name as target", "resolve", bound([(4, 3, [])]), 0, 1, 3)
 case("bindings: order waits until the binding is whole", "resolve",
      head(1, ["x", "y"], 3, 3) + b"\2\5\6\0\4\x80\x80\x80\x80\x10", 2, 0)
@@ -345,8 +420,10 @@ case("tree: a function in a list value may hold a variable", "evaluate",
      tree_image("<[4 $4]>", made=1), 0, 4, result=tree_image("<[4 $4]>", made=1))
 case("tree: names 0 to 3 are names like any other", "evaluate", tree_image("([0 $0] 9)"), 0, 9,
      result=tree_image("9"))
-case("tree: the last name", "evaluate", tree_image("[511 $511]", made=508), 0, 3,
-     result=tree_image("[511 $511]", made=508))
+case("tree: the last name", "evaluate", tree_image("[1023 $1023]", made=1020), 0, 3,
+     result=tree_image("[1023 $1023]", made=1020))
+case("tree: name 1,024 is undeclared", "evaluate", tree_image("[1024 $1024]", made=1020), 1, 0)
+case("tree: name 1,023 with one fewer declared", "evaluate", tree_image("[1023 $1023]", made=1019), 1, 0)
 for reason, opening, closing in (("list values", "<", ">"), ("functions", "[0 ", "]")):
     case(f"tree: 64 levels of {reason}", "evaluate", tree_image(nested(63, "1", opening, closing)),
          0, 65, result=tree_image(nested(63, "1", opening, closing)))
@@ -406,12 +483,10 @@ case("a root of size 4,096 is loaded", "resolve",
 
 # ==== resolving ====
 
-RESOLVE = dict(words=["x", "y"], made=6, scopes=4)
-
-
-def resolving(reason, text, rows, code, name=0, phase=0):
-    case(f"resolve: {reason}", "resolve", syntax_image(text, bindings=rows, **RESOLVE), code, 1,
-         name, phase=phase)
+def resolving(reason, text, rows, code, name=0, phase=0, scopes=4):
+    case(f"resolve: {reason}", "resolve",
+         syntax_image(text, words=["x", "y"], made=6, scopes=scopes, bindings=rows), code, 1, name,
+         phase=phase)
 
 
 resolving("another symbol's binding is no candidate", "x{1}", [("y", [1], 6)], 0, 4)
@@ -435,6 +510,45 @@ resolving("only the phase's own set counts", "x{1|2|3}", [("x", [1], 6), ("x", [
           0, 7, phase=1)
 resolving("only the phase's own set counts", "x{1|2|3}", [("x", [1], 6), ("x", [2], 7), ("x", [3], 8)],
           0, 8, phase=2)
+
+# Candidates whose sets differ in the second, third or fourth word.
+for h in (65, 128, 129, 192, 193, 256):
+    resolving(f"with scope {h}: the larger set wins", f"x{{1,{h}}}", [("x", [1], 6), ("x", [1, h], 7)],
+              0, 7, scopes=256)
+    resolving(f"with scope {h}: neither contains the other", f"x{{1,{h}}}",
+              [("x", [1], 6), ("x", [h], 7)], 6, scopes=256)
+    resolving(f"with scope {h}: one contains both", f"x{{1,{h}}}",
+              [("x", [1], 6), ("x", [1, h], 8), ("x", [h], 7)], 0, 8, scopes=256)
+    resolving(f"with scope {h}: it is not in the identifier's set", "x{1}",
+              [("x", [1], 6), ("x", [1, h], 7)], 0, 6, scopes=256)
+    resolving(f"with scope {h}: the only binding is no candidate", "x{1,64}", [("x", [h], 6)], 0, 4,
+              scopes=256)
+    resolving(f"with scope {h}: at phase 2", f"x{{1||{h}}}", [("x", [1], 6), ("x", [h], 7)], 0, 7,
+              phase=2, scopes=256)
+# 1, 65, 129 and 193 stand in the same place, each of another word.
+for one in (1, 65, 129, 193):
+    others = [[s] for s in (1, 65, 129, 193) if s != one]
+    resolving(f"scope {one} is none of {others}", f"x{{{one}}}", [("x", s, 6) for s in others], 0, 4,
+              scopes=256)
+    resolving(f"scope {one} is found among four", f"x{{{one}}}",
+              [("x", [s], 6 + (s == one)) for s in (1, 65, 129, 193)], 0, 7, scopes=256)
+    resolving(f"all four but scope {one}", "x{1,65,129,193}",
+              [("x", [one], 6), ("x", sum(others, []), 7)], 6, scopes=256)
+resolving("four scopes, a word for each", "x{1,65,129,193}",
+          [("x", [1], 6), ("x", [1, 65], 7), ("x", [1, 65, 129], 8), ("x", [1, 65, 129, 193], 9)],
+          0, 9, scopes=256)
+resolving("two sets, each over two words", "x{64,65,192,193}",
+          [("x", [64, 65], 6), ("x", [192, 193], 7)], 6, scopes=256)
+resolving("their union over all four words settles it", "x{64,65,192,193}",
+          [("x", [64, 65], 6), ("x", [64, 65, 192, 193], 8), ("x", [192, 193], 7)], 0, 8, scopes=256)
+resolving("the most scopes do not win over a word's end", "x{64,65,66,256}",
+          [("x", [64, 65, 66], 6), ("x", [256], 7)], 6, scopes=256)
+EVERY = list(range(1, 257))
+EVERY_SCOPE = "{" + ",".join(map(str, EVERY)) + "}"
+resolving("all 256 scopes", "x" + EVERY_SCOPE, [("x", EVERY[:-1], 6), ("x", EVERY, 7)], 0, 7,
+          scopes=256)
+resolving("all but one on each side", "x" + EVERY_SCOPE,
+          [("x", EVERY[:-1], 6), ("x", EVERY[1:], 7)], 6, scopes=256)
 
 # ==== expanding: identifiers, atoms, applications ====
 
@@ -474,31 +588,65 @@ for text in ("(lambda)", "(lambda x)", "(lambda x x x)", "(lambda (x) x)", "(lam
              "(lambda () x)", "(lambda @1 1)"):
     case(f"expand: the shape {text}", "expand", syntax_image(text), 8)
 case("expand: the shape is tested before a name is taken", "expand",
-     syntax_image("(lambda x)", made=507), 8, 4)
-FULL = dict(words=["x"], made=507)
+     syntax_image("(lambda x)", made=1019), 8, 4)
+FULL = dict(words=["x"], made=1019)
 case("expand: no name left", "expand", syntax_image("(lambda x x)", **FULL), 13, 5)
-case("expand: the last name", "expand", syntax_image("(lambda x x)", words=["x"], made=506), 0, 8,
-     result=syntax_image("(lambda x{1} x{1})", words=["x"], made=507, scopes=1,
-                         bindings=[("x", [1], 511)]))
-case("expand: no scope left", "expand", syntax_image("(lambda x x)", scopes=64), 14, 5)
-case("expand: the last scope", "expand", syntax_image("(lambda x x)", scopes=63), 0, 8,
-     result=syntax_image("(lambda x{64} x{64})", made=1, scopes=64, bindings=[("x", [64], 5)]))
+case("expand: one made name more is over the limit", "expand",
+     syntax_image("(lambda x x)", words=["x"], made=1020), 2, 0)
+case("expand: the last name", "expand", syntax_image("(lambda x x)", words=["x"], made=1018), 0, 8,
+     result=syntax_image("(lambda x{1} x{1})", words=["x"], made=1019, scopes=1,
+                         bindings=[("x", [1], 1023)]))
+case("expand: name 512, once one too many", "expand",
+     syntax_image("(lambda x x)", words=["x"], made=507), 0, 8,
+     result=syntax_image("(lambda x{1} x{1})", words=["x"], made=508, scopes=1,
+                         bindings=[("x", [1], 512)]))
+case("expand: no scope left", "expand", syntax_image("(lambda x x)", scopes=256), 14, 5)
+
+
+def identity_behind(scopes):
+    """(lambda x x) expanded in an image that has so many scopes already."""
+    fresh = scopes + 1
+    return syntax_image(f"(lambda x{{{fresh}}} x{{{fresh}}})", made=1, scopes=fresh,
+                        bindings=[("x", [fresh], 5)])
+
+
+for scopes, fresh in ((126, "7f"), (127, "8001"), (255, "8002")):  # from 128 on two groups
+    assert identity_behind(scopes) == bytes.fromhex(
+        "0101017801" + fresh + "01040501" + fresh + "0500000003" + "0000000000" +
+        "0001" + fresh + "000004" + "0001" + fresh + "000004")
+for scopes in (63, 64, 65, 126, 127, 128, 190, 191, 192, 193, 253, 254):
+    case(f"expand: {scopes} scopes and a fresh one", "expand",
+         syntax_image("(lambda x x)", scopes=scopes), 0, 8, result=identity_behind(scopes))
+    case(f"parse: a binder with scope {scopes + 1}", "parse", identity_behind(scopes), 0, 6,
+         result=tree_image("[5 $5]", words=["x"], made=1, scopes=scopes + 1))
+case("expand: the last scope", "expand", syntax_image("(lambda x x)", scopes=255), 0, 8,
+     result=identity_behind(255))
+case("parse: a binder with the last scope", "parse", identity_behind(255), 0, 6,
+     result=tree_image("[5 $5]", words=["x"], made=1, scopes=256))
+case("expand: 257 scopes", "expand", syntax_image("(lambda x x)", scopes=257), 2, 0)
+case("expand: a fresh scope of two groups fits just so", "expand",
+     syntax_image("(lambda x x)", scopes=127), 0, 8, result=identity_behind(127), output=37)
+case("expand: a fresh scope of two groups, one byte short", "expand",
+     syntax_image("(lambda x x)", scopes=127), 20, 8, output=36)
+case("expand: the same again, where no scope is left", "expand", identity_behind(255), 14, 5)
 case("expand: no name comes before no scope", "expand",
-     syntax_image("(lambda x x)", scopes=64, **FULL), 13, 5)
+     syntax_image("(lambda x x)", scopes=256, **FULL), 13, 5)
 case("expand: no name comes before the charge", "expand",
      syntax_image("(lambda x x)", **FULL), 13, 5, budget=5)
 case("expand: no scope comes before the charge", "expand",
-     syntax_image("(lambda x x)", scopes=64), 14, 5, budget=5)
-case("expand: no binding room", "expand", syntax_image("(lambda x x)", **many_bindings(128)), 15, 6)
+     syntax_image("(lambda x x)", scopes=256), 14, 5, budget=5)
+case("expand: no binding room", "expand", syntax_image("(lambda x x)", **many_bindings(512)), 15, 6)
 case("expand: the charge comes before no binding room", "expand",
-     syntax_image("(lambda x x)", **many_bindings(128)), 19, 5, budget=5)
+     syntax_image("(lambda x x)", **many_bindings(512)), 19, 5, budget=5)
 case("expand: no scope comes before no binding room", "expand",
-     syntax_image("(lambda x x)", words=["x"], scopes=64,
-                  bindings=[("x", s, 4) for s in PAIRS[:128]]), 14, 5)
-LAST_ROOM = many_bindings(127)
-case("expand: the last binding room", "expand", syntax_image("(lambda x x)", **LAST_ROOM), 0, 8,
-     result=syntax_image("(lambda x{17} x{17})", made=1, scopes=17,
-                         bindings=LAST_ROOM["bindings"] + [("x", [17], 5)]))
+     syntax_image("(lambda x x)", words=["x"], scopes=256,
+                  bindings=[("x", s, 4) for s in PAIRS[:512]]), 14, 5)
+for room, reason in ((127, "the 128th binding"), (128, "the 129th binding, once one too many"),
+                     (511, "the last binding room")):
+    BEFORE = many_bindings(room)
+    case(f"expand: {reason}", "expand", syntax_image("(lambda x x)", **BEFORE), 0, 8,
+         result=syntax_image("(lambda x{33} x{33})", made=1, scopes=33,
+                             bindings=BEFORE["bindings"] + [("x", [33], 5)]))
 case("expand: the new binding is put in order", "expand",
      syntax_image("(lambda x{1,3} x{1,3})", words=["w", "x", "y"], scopes=4,
                   bindings=[("w", [1], 4), ("x", [1], 4), ("x", [1, 4], 4), ("x", [2], 4),
@@ -506,6 +654,13 @@ case("expand: the new binding is put in order", "expand",
      result=syntax_image("(lambda x{1,3,5} x{1,3,5})", words=["w", "x", "y"], made=1, scopes=5,
                          bindings=[("w", [1], 4), ("x", [1], 4), ("x", [1, 3, 5], 7),
                                    ("x", [1, 4], 4), ("x", [2], 4), ("y", [], 4)]))
+case("expand: the new binding is put in order, its set over three words", "expand",
+     syntax_image("(lambda x{1,129} x{1,129})", words=["x"], scopes=193,
+                  bindings=[("x", [1], 4), ("x", [1, 64], 4), ("x", [1, 193], 4), ("x", [2], 4),
+                            ("x", [65], 4)]), 0, 8,
+     result=syntax_image("(lambda x{1,129,194} x{1,129,194})", words=["x"], made=1, scopes=194,
+                         bindings=[("x", [1], 4), ("x", [1, 64], 4), ("x", [1, 129, 194], 5),
+                                   ("x", [1, 193], 4), ("x", [2], 4), ("x", [65], 4)]))
 case("expand: a word bound to lambda's name is lambda", "expand",
      syntax_image("(x{1} y y)", words=["x", "y"], scopes=1, bindings=[("x", [1], 0)]), 0, 8,
      result=syntax_image("(x{1} y{2} y{2})", words=["x", "y"], made=1, scopes=2,
@@ -523,6 +678,10 @@ case("expand: scopes go to the phase at hand", "expand", IDENTITY, 0, 8, phase=1
      result=syntax_image("(lambda x{|1} x{|1})", made=1, scopes=1, bindings=[("x", [1], 5)]))
 case("expand: scopes go to the phase at hand", "expand", IDENTITY, 0, 8, phase=2,
      result=syntax_image("(lambda x{||1} x{||1})", made=1, scopes=1, bindings=[("x", [1], 5)]))
+for phase, text in ((1, "(lambda x{|193} x{|193})"), (2, "(lambda x{||193} x{||193})")):
+    case(f"expand: the first scope of the fourth word goes to phase {phase}", "expand",
+         syntax_image("(lambda x x)", scopes=192), 0, 8, phase=phase,
+         result=syntax_image(text, made=1, scopes=193, bindings=[("x", [193], 5)]))
 case("expand: the inner of two binders", "expand", syntax_image("(lambda x (lambda x x))"), 0,
      7 + 1 + 1 + 4 + 1 + 1 + 1 + 1,
      result=syntax_image("(lambda x{1} (lambda{1} x{1,2} x{1,2}){1})", made=2, scopes=2,
@@ -550,6 +709,19 @@ case("expand: syntax prunes the scopes of both binders around it", "expand",
      result=syntax_image("(lambda x{1} (lambda{1} y{1,2} (syntax{1,2} (x y)){1,2}){1})",
                          words=["x", "y"], made=2, scopes=2,
                          bindings=[("x", [1], 6), ("y", [1, 2], 7)]))
+for x in (64, 128, 192):  # the outer scope ends a word, the inner one begins the next
+    both = f"{x},{x + 1}"
+    case(f"expand: syntax prunes scopes {x} and {x + 1}", "expand",
+         syntax_image("(lambda x (lambda y (syntax (x y))))", words=["x", "y"], scopes=x - 1), 0,
+         11 + 2 + 8 + 2 + 5 + 1 + 3,
+         result=syntax_image(f"(lambda x{{{x}}} (lambda{{{x}}} y{{{both}}} (syntax{{{both}}} (x y))"
+                             f"{{{both}}}){{{x}}})", words=["x", "y"], made=2, scopes=x + 1,
+                             bindings=[("x", [x], 6), ("y", [x, x + 1], 7)]))
+case("expand: syntax prunes the last scope, and none in another word", "expand",
+     syntax_image("(lambda x (syntax x{1,64,65,128,129,192,193,255}))", scopes=255), 0,
+     6 + 1 + 1 + 3 + 1 + 1,
+     result=syntax_image("(lambda x{256} (syntax{256} x{1,64,65,128,129,192,193,255}){256})", made=1,
+                         scopes=256, bindings=[("x", [256], 5)]))
 case("expand: a lambda beside it is not prunable", "expand",
      syntax_image("((lambda x x) (syntax x{1}))", scopes=1), 0, 8 + 1 + 4 + 1 + 1,
      result=syntax_image("((lambda x{2} x{2}) (syntax x{1}))", made=1, scopes=2,
@@ -560,17 +732,17 @@ case("expand: a lambda beside it is not prunable", "expand",
 for text in ("(let-syntax)", "(let-syntax m)", "(let-syntax m 1)", "(let-syntax m 1 1 1)",
              "(let-syntax 1 1 1)", "(let-syntax (m) 1 1)", "(let-syntax () 1 1)"):
     case(f"expand: the shape {text}", "expand", syntax_image(text), 8)
-case("expand: let-syntax, no name left", "expand", syntax_image("(let-syntax m 1 1)", made=507), 13, 6)
-case("expand: let-syntax, no scope left", "expand", syntax_image("(let-syntax m 1 1)", scopes=64), 14, 6)
+case("expand: let-syntax, no name left", "expand", syntax_image("(let-syntax m 1 1)", made=1019), 13, 6)
+case("expand: let-syntax, no scope left", "expand", syntax_image("(let-syntax m 1 1)", scopes=256), 14, 6)
 case("expand: let-syntax, no binding room", "expand",
-     syntax_image("(let-syntax x 1 1)", **many_bindings(128)), 15, 7)
+     syntax_image("(let-syntax x 1 1)", **many_bindings(512)), 15, 7)
 case("expand: a let-syntax whose macro is not used", "expand", syntax_image("(let-syntax m 1 1)"), 0,
      5 + 1 + 1 + 3 + 1 + 1, result=syntax_image("1{1}", words=["m"], made=1, scopes=1,
                                                 bindings=[("m", [1], 5)]))
 steps("expand: no phase above phase 2", "expand", syntax_image("(let-syntax m 1 1)"), [5, 1, 1], 12,
       phase=2)
 case("expand: no binding room comes before no phase", "expand",
-     syntax_image("(let-syntax x 1 1)", **many_bindings(128)), 15, 7, phase=2)
+     syntax_image("(let-syntax x 1 1)", **many_bindings(512)), 15, 7, phase=2)
 case("expand: a right-hand side inside a right-hand side", "expand",
      syntax_image("(let-syntax m (let-syntax n (let-syntax k 1 1) 1) 1)"), 12,
      13 + 1 + 1 + 1 + 1 + 1 + 1)
@@ -625,16 +797,57 @@ case("expand: the primitive's charge comes before 11", "expand",
 case("expand: an ambiguous word in a right-hand side", "expand",
      syntax_image("(let-syntax m x{|1,2} 1)", words=["m", "x"], scopes=2,
                   bindings=[("x", [1], 4), ("x", [2], 4)]), 6, 5 + 2 + 1)
-case("expand: the use's two scopes are the last", "expand", syntax_image(CONSTANT, scopes=60), 0, 37,
-     result=syntax_image("1{64}", words=["m", "z"], made=2, scopes=64,
-                         bindings=[("m", [61], 6), ("z", [62], 7)]))
-case("expand: one scope left for the use", "expand", syntax_image(CONSTANT, scopes=61), 14, 26)
-case("expand: no scope left for the use", "expand", syntax_image(CONSTANT, scopes=62), 14, 26)
+# Scopes of m, of z (phase 1), of the use and of the introduction follow those that are there; what the
+# template brings has the last one alone.
+for scopes in (60, 61, 62, 63, 64, 124, 125, 126, 127, 188, 189, 190, 191, 251):
+    case(f"expand: a macro use behind {scopes} scopes", "expand", syntax_image(CONSTANT, scopes=scopes),
+         0, 37, result=syntax_image(f"1{{{scopes + 4}}}", words=["m", "z"], made=2, scopes=scopes + 4,
+                                    bindings=[("m", [scopes + 1], 6), ("z", [scopes + 2], 7)]))
+# What the use brings has m's scope and the use's; the introduction's is flipped in and out again.
+GIVE_BACK = "(let-syntax m (lambda z (#first (#rest (#stx-e z)))) (m 1))"
+for scopes in (0, 60, 61, 62, 63, 125, 126, 127, 189, 190, 191, 252):
+    case(f"expand: an argument given back behind {scopes} scopes", "expand",
+         syntax_image(GIVE_BACK, scopes=scopes), 0,
+         16 + 2 + (2 + 7 + 7) + 8 + 1 + 3 + (1 + 3 + 3) + (3 + 7 + 10) + 1 + 1,
+         result=syntax_image(f"1{{{scopes + 1},{scopes + 3}}}", words=["m", "z"], made=2,
+                             scopes=scopes + 4,
+                             bindings=[("m", [scopes + 1], 6), ("z", [scopes + 2], 7)]))
+case("expand: the use's two scopes are the last", "expand", syntax_image(CONSTANT, scopes=252), 0, 37,
+     result=syntax_image("1{256}", words=["m", "z"], made=2, scopes=256,
+                         bindings=[("m", [253], 6), ("z", [254], 7)]))
+case("expand: one scope left for the use", "expand", syntax_image(CONSTANT, scopes=253), 14, 26)
+case("expand: no scope left for the use", "expand", syntax_image(CONSTANT, scopes=254), 14, 26)
 case("expand: no scope for the use comes before the charge", "expand",
-     syntax_image(CONSTANT, scopes=61), 14, 26, budget=26)
+     syntax_image(CONSTANT, scopes=253), 14, 26, budget=26)
+# (m) gives (m) again, for 12 units and two scopes each time. 64 scopes are enough for the let-syntax and
+# 31 uses. All 256 would be enough for 127, but the 126th use is the 127th entry in progress, applying
+# the macro the 128th, and its head one too many.
+ROUND = "(let-syntax m (lambda z z) (m))"
 case("expand: a macro that gives its own use runs out of scopes", "expand",
-     syntax_image("(let-syntax m (lambda z z) (m))"), 14,
-     9 + 2 + 4 + 2 + 1 + 2 + 31 * (1 + 4 + 3 + 1 + 1 + 2) + 1)
+     syntax_image(ROUND, scopes=192), 14, 9 + 2 + 4 + 2 + 1 + 2 + 31 * (1 + 4 + 3 + 1 + 1 + 2) + 1)
+case("expand: a macro that gives its own use runs out of entries before scopes", "expand",
+     syntax_image(ROUND), 18, 9 + 2 + 4 + 2 + 1 + 2 + 125 * (1 + 4 + 3 + 1 + 1 + 2) + 1 + 4 + 1,
+     budget=4096)
+
+
+def plant(macros):
+    """So many macros side by side, each used once."""
+    return "(" + " ".join([CONSTANT] * macros) + ")"
+
+
+def planted(macros):
+    """The same expanded: a macro takes four scopes and two names."""
+    return syntax_image("(" + " ".join(f"1{{{4 * i + 4}}}" for i in range(macros)) + ")",
+                        words=["m", "z"], made=2 * macros, scopes=4 * macros,
+                        bindings=[("m", [4 * i + 1], 6 + 2 * i) for i in range(macros)] +
+                                 [("z", [4 * i + 2], 7 + 2 * i) for i in range(macros)])
+
+
+for macros in (16, 19, 32, 33, 64):
+    case(f"expand: {macros} macros, each with its use", "expand", syntax_image(plant(macros)), 0,
+         1 + 11 * macros + 1 + 26 * macros, result=planted(macros), budget=4096)
+case("expand: of 65 macros the last has no scope left", "expand", syntax_image(plant(65)), 14,
+     1 + 11 * 65 + 1 + 26 * 64 + 1, budget=4096)
 case("expand: shadowed core words stay shadowed in a template", "expand",
      syntax_image("(let-syntax lambda (lambda z (syntax 1)) (lambda x x))"), 0,
      result=syntax_image("1{4}", words=["z", "x"], made=2, scopes=4,
@@ -795,6 +1008,13 @@ value("stx-e of the empty list", "(#stx-e `())", "<>")
 for text in ("1", "x", "<>", "<`x>", "[4 $4]", "#stx-e"):
     value("stx-e takes syntax: " + text, f"(#stx-e {text})", None, code=11)
 value_steps("mk-stx of an atom", "(#mk-stx x `(1 2){1|2|3})", "`x{1|2|3}", [6, 1, 1, 1, 1, 1])
+WIDE = "{64,65|128,129|192,193,256}"
+case("evaluate: mk-stx gives sets over all four words", "evaluate",
+     tree_image("(#mk-stx x `(1 2)%s)" % WIDE, scopes=256), 0, 6 + 5,
+     result=tree_image("`x" + WIDE, scopes=256))
+case("evaluate: stx-e keeps the sets of the parts", "evaluate",
+     tree_image("(#stx-e `(x%s 1{255}){1})" % WIDE, scopes=256), 0, 5 + 4,
+     result=tree_image("<`x%s `1{255}>" % WIDE, scopes=256))
 value_steps("mk-stx of a list", "(#mk-stx <`x{1} `(1)> `1{2})", "`(x{1} (1)){2}",
             [7, 1, 1, 1, 1, 1])
 value("mk-stx of the empty list", "(#mk-stx <> `1{1})", "`(){1}")
@@ -915,8 +1135,9 @@ case("resolve writes nothing and needs no output", "resolve", syntax_image("x"),
 case("the counts reached are written", "evaluate", tree_image("1", words=["x", "y"], made=9, scopes=9),
      0, 2, result=tree_image("1", words=["x", "y"], made=9, scopes=9))
 
-# Syntax values with all scopes in all sets are long: 198 bytes for a number.
-ALL = "{" + "|".join([",".join(map(str, range(1, 65)))] * 3) + "}"
+# Syntax values with all scopes in all sets are long: a set takes 2 + 127 + 2 * 129 bytes, a number three
+# sets and 3 bytes, 1,164 in all.
+ALL = "{" + "|".join([",".join(map(str, EVERY))] * 3) + "}"
 
 
 def padded(length, make):
@@ -933,12 +1154,12 @@ def padded(length, make):
 
 
 def long_list(words):
-    return tree_image("<" + ("`1" + ALL + " ") * 330 + ">", words=words, scopes=64)
+    return tree_image("<" + ("`1" + ALL + " ") * 56 + ">", words=words, scopes=256)
 
 
 LONGEST = padded(65536, long_list)
-case("an image of 65,536 bytes", "evaluate", LONGEST, 0, 332, result=LONGEST)
-case("a result of 65,536 bytes, the output a byte shorter", "evaluate", LONGEST, 20, 332,
+case("an image of 65,536 bytes", "evaluate", LONGEST, 0, 57 + 1, result=LONGEST)
+case("a result of 65,536 bytes, the output a byte shorter", "evaluate", LONGEST, 20, 57 + 1,
      output=65535)
 case("an image of 65,537 bytes", "evaluate", LONGEST + b"\0", 2, 0)
 case("an image of 65,536 bytes with a fault at its front", "evaluate", bytes(65536), 1, 0)
@@ -946,11 +1167,11 @@ case("an image of 65,537 bytes with a fault at its front", "evaluate", bytes(655
 case("an image of 65,537 bytes of another kind", "resolve", b"\2" + bytes(65536), 2, 0)
 
 
-HALF = "<" + ("`1" + ALL + " ") * 165 + ">"
+HALF = "<" + ("`1" + ALL + " ") * 28 + ">"
 
 
 def twice(words):
-    return tree_image(f"<{HALF} {HALF}>", words=words, scopes=64)
+    return tree_image(f"<{HALF} {HALF}>", words=words, scopes=256)
 
 
 def words_of(image):
@@ -961,13 +1182,15 @@ def words_of(image):
     return image[1:place]
 
 
+# Loading 38, of which HALF is 29; the application, its head and its argument; 7 for the body; then 9
+# for the two links.
 for length in (65536, 65537):
     written = padded(length, twice)
-    doubling = tree_image(f"([0 (#link $0 (#link $0 <>))] {HALF})", scopes=64)
+    doubling = tree_image(f"([0 (#link $0 (#link $0 <>))] {HALF})", scopes=256)
     image = doubling[:1] + words_of(written) + doubling[2:]
     if length == 65536:
-        case("a result of 65,536 bytes in a longer output", "evaluate", image, 0, 194,
+        case("a result of 65,536 bytes in a longer output", "evaluate", image, 0, 38 + 3 + 7 + 9,
              result=written, output=70000)
     else:
-        case("a result of 65,537 bytes in a longer output", "evaluate", image, 20, 194,
+        case("a result of 65,537 bytes in a longer output", "evaluate", image, 20, 38 + 3 + 7 + 9,
              output=70000)

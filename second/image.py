@@ -25,6 +25,8 @@ RUNG_WORDS = ["and", "or", "not", "out", "set", "all"]
 JOBS = ["resolve", "expand", "parse", "evaluate"]
 SYMBOL, NUMBER, POINT, PRIMITIVE, RUNG_WORD, LIST = range(6)
 VARIABLE, APPLICATION, FUNCTION, ATOM, LIST_VALUE, SYNTAX_VALUE = range(6)
+TABLE_WORDS_PER_UNIT = 40
+LARGEST_TABLE = 170000  # of a call in a stream
 
 
 # ---- making ----
@@ -194,7 +196,7 @@ def tree_image(text, words=(), made=0, scopes=0):
 def call(job, image, phase=0, budget=1024, table=None, output=65536):
     """A call of the stream. The table is just large enough unless given."""
     if table is None:
-        table = min(16 * budget, 70000)
+        table = min(TABLE_WORDS_PER_UNIT * budget, LARGEST_TABLE)
     job = JOBS.index(job)
     return b"".join(number(n) for n in (job, phase, budget, table, output, len(image))) + image
 

@@ -46,7 +46,7 @@ static uint32_t choose_budget(uint32_t need)
 static uint32_t choose_table(uint32_t budget)
 {
     if (budget > MOST_BUDGET)
-        return below(LARGEST_STREAM_SIZE + 1);
+        return below(LARGEST_STREAM_TABLE + 1);
     uint32_t need = TABLE_WORDS_PER_UNIT * budget;
     uint32_t choice = below(100);
     if (choice < 90)
@@ -59,7 +59,7 @@ static uint32_t choose_table(uint32_t budget)
         return 0;
     if (choice < 98)
         return below(need + 1);
-    return need + below(LARGEST_STREAM_SIZE - need + 1);
+    return need + below(LARGEST_STREAM_TABLE - need + 1);
 }
 
 static uint32_t choose_output(uint32_t need)

@@ -1,4 +1,4 @@
-/* Breaking a draft: bits flipped, cut, spliced, sections doubled. */
+/* Breaking a draft: bits flipped, cut, spliced, sections doubled, numbers put in. */
 #include <string.h>
 
 #include "chance.h"
@@ -46,6 +46,22 @@ static void lengthen_number(Draft *draft, size_t place)
     insert_bytes(draft, place + 1, chosen + 1, chosen[0]);
 }
 
+/* A number at a limit, or where two groups begin, or beside it takes the place
+   of a byte. */
+static void put_limit(Draft *draft, size_t place)
+{
+    static const uint32_t limits[] = {
+        MOST_NESTING, 128, MOST_SCOPES, MOST_BINDINGS, MOST_NAMES - CORE_NAMES, MOST_NAMES,
+    };
+    uint32_t number = limits[below(sizeof limits / sizeof limits[0])] + below(3) - 1;
+    uint8_t high = (uint8_t)(number >> 7); /* none takes more than two groups */
+    draft->bytes[place] = (uint8_t)(number & 127);
+    if (high != 0) {
+        draft->bytes[place] |= 128;
+        insert_bytes(draft, place + 1, &high, 1);
+    }
+}
+
 void damage_draft(Draft *draft, const Draft *other)
 {
     for (uint32_t times = percent(70) ? 1 : between(1, 4); times > 0; times--) {
@@ -56,7 +72,7 @@ void damage_draft(Draft *draft, const Draft *other)
         uint32_t run = 1 + below((uint32_t)(left < 12 ? left : 12));
         static const uint8_t telling[] = {0, 1, 2, 3, 4, 5, 6, 7, 15, 16, 31, 32, 33, 35,
                                           39, 40, 48, 64, 65, 126, 127, 128, 255};
-        switch (below(9)) {
+        switch (below(10)) {
         case 0:
         case 1:
             draft->bytes[place] ^= (uint8_t)(1u << below(8));
@@ -86,6 +102,9 @@ void damage_draft(Draft *draft, const Draft *other)
             break;
         case 7:
             draft->bytes[place] = telling[below(sizeof telling)];
+            break;
+        case 8:
+            put_limit(draft, place);
             break;
         default:
             draft->bytes[place] = (uint8_t)(draft->bytes[place] + (percent(50) ? 1 : 255));

@@ -2,6 +2,7 @@
 
    Programs are first made without scopes, as a person would write them. Some
    then get scopes and bindings of their own, ambiguous ones among them. */
+#include <stdio.h>
 #include <string.h>
 
 #include "chance.h"
@@ -12,7 +13,7 @@ Image draft_image;
 
 /* ---- small makers ---- */
 
-static const ScopeSet bare[PHASES] = {NO_SCOPES, NO_SCOPES, NO_SCOPES};
+static const ScopeSet bare[PHASES]; /* no scopes */
 
 static const Object *atom(ObjectTag tag, uint32_t content)
 {
@@ -535,14 +536,59 @@ static const Object *rename_word(const Object *object, uint32_t from, uint32_t t
 
 /* ---- scopes and bindings of the image's own ---- */
 
+/* A few scopes that most sets are made of, so that sets meet: the first ones,
+   or some beside the ends of a set's words. */
+enum { FAVOURED = 4 };
+static uint32_t favoured_scopes[FAVOURED];
+
+static void favour_first_scopes(void)
+{
+    for (uint32_t i = 0; i < FAVOURED; i++)
+        favoured_scopes[i] = i + 1;
+}
+
+/* 63 to 66, and so on at the end of each word. */
+static uint32_t beside_word_end(void)
+{
+    return WORD_BITS * between(1, SET_WORDS) - 1 + below(4);
+}
+
+static void favour_word_ends(void)
+{
+    for (uint32_t i = 0; i < FAVOURED; i++) {
+        uint32_t chosen = beside_word_end();
+        favoured_scopes[i] =
+            chosen <= draft_image.scopes ? chosen : between(1, draft_image.scopes);
+    }
+}
+
+static uint32_t any_scope(void)
+{
+    uint32_t chosen = favoured_scopes[below(FAVOURED)];
+    if (chosen > draft_image.scopes || percent(10))
+        return between(1, draft_image.scopes);
+    return chosen;
+}
+
+/* Scopes one after another, over the end of a word or two. */
+static ScopeSet run_of_scopes(void)
+{
+    ScopeSet set = NO_SCOPES;
+    uint32_t scope = between(1, draft_image.scopes);
+    for (uint32_t i = below(70); i > 0 && scope <= draft_image.scopes; i--)
+        put_scope(&set, scope++);
+    return set;
+}
+
 static ScopeSet any_set(void)
 {
     ScopeSet set = NO_SCOPES;
     if (draft_image.scopes == 0)
         return set;
+    if (draft_image.scopes > WORD_BITS && percent(3))
+        return run_of_scopes();
     for (uint32_t i = below(4); i > 0; i--)
-        set |= only_scope(percent(90) ? between(1, draft_image.scopes < 4 ? draft_image.scopes : 4)
-                                      : between(1, draft_image.scopes));
+        put_scope(&set, any_scope());
     return set;
 }
 
@@ -551,7 +597,7 @@ const Object *sprinkle(const Object *object, uint32_t of_hundred)
     ScopeSet sets[PHASES] = {object->sets[0], object->sets[1], object->sets[2]};
     for (int phase = 0; phase < PHASES; phase++)
         if (percent(of_hundred))
-            sets[phase] |= any_set();
+            sets[phase] = add_scopes(sets[phase], any_set());
     if (object->tag != LIST)
         return make_atom_object(draft_memory, (Atom){object->tag, object->content}, sets);
     const Object **parts = take_object_parts(draft_memory, object->count);
@@ -584,31 +630,39 @@ static void add_bindings(uint32_t count, uint32_t favoured)
     }
 }
 
+static void bind_somewhere(uint32_t word, ScopeSet set)
+{
+    add_binding((Binding){.symbol = word, .target = below(draft_image.names), .set = set});
+}
+
 /* Two bindings of a word that contain each other nowhere; a third may settle it. */
 static void tangle(uint32_t word)
 {
-    if (draft_image.scopes < 3)
-        draft_image.scopes = 3;
-    ScopeSet one = only_scope(1), two = only_scope(2), three = only_scope(3);
-    add_binding((Binding){.symbol = word, .target = below(draft_image.names), .set = one});
-    add_binding((Binding){.symbol = word, .target = below(draft_image.names), .set = two});
+    for (uint32_t i = 0; i < 3; i++)
+        if (draft_image.scopes < favoured_scopes[i])
+            draft_image.scopes = favoured_scopes[i];
+    ScopeSet one = only_scope(favoured_scopes[0]), two = only_scope(favoured_scopes[1]),
+             three = only_scope(favoured_scopes[2]);
+    bind_somewhere(word, one);
+    bind_somewhere(word, two);
     if (percent(40))
-        add_binding((Binding){.symbol = word, .target = below(draft_image.names), .set = one | two});
+        bind_somewhere(word, add_scopes(one, two));
     if (percent(30))
-        add_binding((Binding){.symbol = word, .target = below(draft_image.names), .set = one | three});
+        bind_somewhere(word, add_scopes(one, three));
 }
 
 /* Many bindings of a word that is seldom used, to be short of room. */
 static void fill_bindings(uint32_t count)
 {
-    if (draft_image.scopes < 30)
-        draft_image.scopes = 30;
-    uint32_t word = any_word();
-    for (uint32_t low = 1; low < 30 && draft_image.binding_count < count; low++)
-        for (uint32_t high = low + 1; high <= 30 && draft_image.binding_count < count; high++)
+    enum { SPAN = 33 }; /* scopes that make more pairs than there may be bindings */
+    uint32_t word = any_word(), first = between(1, MOST_SCOPES - SPAN), last = first + SPAN - 1;
+    if (draft_image.scopes < last)
+        draft_image.scopes = last;
+    for (uint32_t low = first; low < last && draft_image.binding_count < count; low++)
+        for (uint32_t high = low + 1; high <= last && draft_image.binding_count < count; high++)
             add_binding((Binding){.symbol = word,
                                   .target = word,
-                                  .set = only_scope(low) | only_scope(high)});
+                                  .set = add_scopes(only_scope(low), only_scope(high))});
 }
 
 void start_draft(Memory *memory, uint32_t kind, uint32_t words)
@@ -623,24 +677,69 @@ void start_draft(Memory *memory, uint32_t kind, uint32_t words)
     draft_image.object = NULL;
     draft_image.tree = NULL;
     holes_allowed = 0;
+    favour_first_scopes();
     choose_words(words);
+}
+
+/* As many words as there may be, or a few fewer. */
+static void fill_words(void)
+{
+    static char texts[MOST_NAMES][8];
+    uint32_t count = MOST_NAMES - CORE_NAMES - below(4);
+    for (uint32_t i = draft_image.word_count; i < count; i++) {
+        int length = snprintf(texts[i], sizeof texts[i], "w%u", (unsigned)i);
+        draft_image.words[i] = (Word){(const uint8_t *)texts[i], (uint32_t)length};
+    }
+    draft_image.word_count = count;
+}
+
+static void choose_names(void)
+{
+    if (below(1000) == 0)
+        fill_words();
+    uint32_t taken = CORE_NAMES + draft_image.word_count, left = MOST_NAMES - taken, made = 0;
+    if (percent(15))
+        made = between(1, 3);
+    if (percent(1))
+        made = between(1, 200);
+    if (percent(4))
+        made = left < 4 ? left : left - below(4);
+    draft_image.names = taken + (made < left ? made : left);
+}
+
+static void choose_scopes(void)
+{
+    if (percent(30))
+        draft_image.scopes = between(1, FAVOURED);
+    if (percent(8)) /* fresh scopes go over the end of a word */
+        draft_image.scopes = WORD_BITS * between(1, SET_WORDS - 1) - below(4);
+    if (percent(10))
+        draft_image.scopes = between(FAVOURED + 1, MOST_SCOPES);
+    if (percent(5))
+        draft_image.scopes = MOST_SCOPES - below(6);
+    if (draft_image.scopes > FAVOURED && percent(80))
+        favour_word_ends();
 }
 
 void choose_counts(void)
 {
-    draft_image.names = CORE_NAMES + draft_image.word_count;
-    if (percent(15))
-        draft_image.names += between(1, 3);
-    if (percent(4))
-        draft_image.names = MOST_NAMES - below(4);
-    if (percent(30))
-        draft_image.scopes = between(1, 4);
-    if (percent(5))
-        draft_image.scopes = MOST_SCOPES - below(6);
+    choose_names();
+    choose_scopes();
+}
+
+/* One over the limit; nothing may be made from the counts after this. */
+static void overdraw_counts(void)
+{
+    if (percent(50))
+        draft_image.names = MOST_NAMES + 1;
+    else
+        draft_image.scopes = MOST_SCOPES + 1;
 }
 
 void finish_draft(Draft *draft)
 {
+    if (below(200) == 0)
+        overdraw_counts();
     draft->kind = draft_image.kind;
     if (!write_image(&draft_image, draft->bytes, DRAFT_ROOM, &draft->length))
         draft->length = 0;
@@ -706,9 +805,10 @@ void draft_program(Memory *memory, Draft *draft)
     if (draft_image.word_count > 1 && percent(15))
         root = rename_word(root, any_word(), any_word());
     choose_counts();
-    if (percent(35))
+    bool many_scopes = draft_image.scopes > WORD_BITS;
+    if (percent(many_scopes ? 60 : 35))
         root = sprinkle(root, 10);
-    if (percent(30))
+    if (percent(many_scopes ? 50 : 30))
         add_bindings(between(1, 4), any_word());
     if (percent(6)) {
         tangle(any_word());

@@ -9,11 +9,11 @@ static ScopeSet change_set(Change change, ScopeSet set, ScopeSet scopes)
 {
     switch (change) {
     case ADD:
-        return set | scopes;
+        return add_scopes(set, scopes);
     case FLIP:
-        return set ^ scopes;
+        return flip_scopes(set, scopes);
     default:
-        return set & ~scopes;
+        return prune_scopes(set, scopes);
     }
 }
 
@@ -111,7 +111,7 @@ static const Object *expand_body(Work *work, const Object *body, uint32_t phase,
     const Object *scoped = change_scopes(work, ADD, body, phase, only_scope(scope));
     if (scoped == NULL)
         return NULL;
-    return expand(work, scoped, phase, meanings, prunable | only_scope(scope));
+    return expand(work, scoped, phase, meanings, add_scopes(prunable, only_scope(scope)));
 }
 
 static const Object *expand_lambda(Work *work, const Object *form, uint32_t phase,

@@ -1,11 +1,12 @@
-/* The limits and codes of document 01, each with its number. */
+/* The limits and codes of document 01 as request T-09 amends it, each with its
+   number. */
 #ifndef LIMITS_H
 #define LIMITS_H
 
 enum {
-    MOST_SCOPES = 64,
-    MOST_NAMES = 512, /* core names and words counted */
-    MOST_BINDINGS = 128,
+    MOST_SCOPES = 256,
+    MOST_NAMES = 1024, /* core names and words counted */
+    MOST_BINDINGS = 512,
     MOST_NESTING = 64,
     MOST_ENTRIES = 128,
     MOST_BUDGET = 4096,
@@ -16,7 +17,7 @@ enum {
     LARGEST_RUNG_WORD = 15,
     LAST_PHASE = 2,
     PHASES = 3,
-    TABLE_WORDS_PER_UNIT = 16,
+    TABLE_WORDS_PER_UNIT = 40,
     /* Sizes are kept up to here: a larger charge is refused whatever it is. */
     SIZE_CAP = MOST_BUDGET + 1
 };

@@ -4,7 +4,7 @@
 
 #include "jobs.h"
 
-enum { PROGRAM_BUDGET = 1024 };
+enum { PROGRAM_BUDGET = 400 };
 
 static void answer_job(Memory *memory, Job job, const uint8_t *image, size_t length,
                        Answer *answer)

@@ -122,7 +122,7 @@ int main(int count, char **arguments)
         draft_program(memory, &draft);
         uint32_t names_before = names_of(&draft);
         if (names_before == 0)
-            continue; /* nested too deep to be read */
+            continue; /* nested too deep, or a count over its limit */
         made++;
         if (!same_when_written_again(draft.bytes, draft.length, SYNTAX_IMAGE))
             violation(&draft, "another image when read and written");

@@ -148,7 +148,7 @@ static bool read_set(Reader *reader, ScopeSet *set)
             return false;
         if (scope <= before)
             return fault(reader, BAD_LAYOUT);
-        *set |= only_scope(scope);
+        put_scope(set, scope);
         before = scope;
     }
     return true;

@@ -16,7 +16,7 @@ bool resolve(Work *work, const Object *identifier, uint32_t phase, uint32_t *nam
     bool any = false;
     for (uint32_t i = 0; i < image->binding_count; i++) {
         if (is_candidate(&image->bindings[i], identifier, phase)) {
-            all |= image->bindings[i].set;
+            all = add_scopes(all, image->bindings[i].set);
             any = true;
         }
     }
@@ -26,7 +26,7 @@ bool resolve(Work *work, const Object *identifier, uint32_t phase, uint32_t *nam
     }
     for (uint32_t i = 0; i < image->binding_count; i++) {
         const Binding *binding = &image->bindings[i];
-        if (is_candidate(binding, identifier, phase) && binding->set == all) {
+        if (is_candidate(binding, identifier, phase) && same_sets(binding->set, all)) {
             *name = binding->target;
             return true;
         }

@@ -32,7 +32,7 @@ Met read_call(FILE *stream, Call *call, uint8_t *image)
     if (read_stream_number(stream, &call->phase) != A_CALL ||
         read_stream_number(stream, &call->budget) != A_CALL ||
         read_stream_number(stream, &call->table_words) != A_CALL ||
-        call->table_words > LARGEST_STREAM_SIZE ||
+        call->table_words > LARGEST_STREAM_TABLE ||
         read_stream_number(stream, &call->output_length) != A_CALL ||
         call->output_length > LARGEST_STREAM_SIZE ||
         read_stream_number(stream, &length) != A_CALL || length > LARGEST_STREAM_SIZE)

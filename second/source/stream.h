@@ -1,4 +1,4 @@
-/* The stream of calls and the answer lines, as REPLAY.md has them. */
+/* The stream of calls and the answer lines; second/README.md describes both. */
 #ifndef STREAM_H
 #define STREAM_H
 
@@ -7,7 +7,8 @@
 
 #include "jobs.h"
 
-enum { LARGEST_STREAM_SIZE = 70000 };
+/* The most words of a table, and the most bytes of an output or image. */
+enum { LARGEST_STREAM_TABLE = 170000, LARGEST_STREAM_SIZE = 70000 };
 
 typedef enum { A_CALL, THE_END, CUT } Met;
 

@@ -42,9 +42,12 @@ static bool write_set(Writer *writer, ScopeSet set)
 {
     if (!write_number(writer, count_scopes(set)))
         return false;
-    for (uint32_t scope = 1; scope <= MOST_SCOPES; scope++)
-        if (has_scope(set, scope) && !write_number(writer, scope))
-            return false;
+    for (uint32_t i = 0; i < SET_WORDS; i++) {
+        uint32_t scope = i * WORD_BITS + 1;
+        for (uint64_t left = set.words[i]; left != 0; left >>= 1, scope++)
+            if ((left & 1) != 0 && !write_number(writer, scope))
+                return false;
+    }
     return true;
 }
 
