@@ -1,0 +1,186 @@
+"""Holds the examples against their page, examples/README.md, and ends with 'N passed, M failed'."""
+import os
+import re
+import subprocess
+import sys
+from collections import namedtuple
+
+sys.dont_write_bytecode = True
+ROOT = os.path.normpath(os.path.join(os.path.dirname(os.path.abspath(__file__)), "..", ".."))
+EXAMPLES = os.path.join(ROOT, "examples")
+sys.path.insert(0, EXAMPLES)
+import answers
+import listing
+
+PROGRAM_BUDGET = 400
+OLDER_SCOPES = 64
+
+# A listing's row: its budget, the units of both jobs, and the tree where the page has it.
+Row = namedtuple("Row", "name budget units tree")
+Programs = namedtuple("Programs", "replay line")
+
+
+def file_text(*path):
+    with open(os.path.join(ROOT, *path)) as file:
+        return file.read()
+
+
+def image_of(name):
+    with open(os.path.join(EXAMPLES, name + ".image"), "rb") as file:
+        return file.read()
+
+
+def number(text):
+    return int(text.replace(",", ""))
+
+
+# ---- what the page says ----
+
+PAGE = file_text("examples", "README.md")
+
+
+def rows():
+    found = re.findall(r"^\| `(.*)\.rung` \| ([\d,]+) \| (\d+) \+ (\d+) \| (.*) \|$", PAGE, re.MULTILINE)
+    return [Row(name, number(budget), [int(expand), int(parse)], tree.strip("`") if tree.startswith("`") else None)
+            for name, budget, expand, parse, tree in found]
+
+
+def commands(page):
+    """The images that a page hands to the program, each with the units that it says are printed."""
+    found = re.findall(r"^ +(?:\./meirhuppa|second/program <) examples/(\S+)\.image +code 0 units (\d+)$", page, re.MULTILINE)
+    return [(name, int(units)) for name, units in found]
+
+
+def plant_counts():
+    return [int(count) for count in re.search(r"^\| (\d+) \| (\d+) \| (\d+) \| (\d+) \|$", PAGE, re.MULTILINE).groups()]
+
+
+# ---- the programs ----
+
+def second_programs():
+    return Programs(answers.second_program("replay"), answers.second_program("program"))
+
+
+def printed(program, *arguments, given=b""):
+    return subprocess.run([*answers.command(program), *arguments], input=given, stdout=subprocess.PIPE).stdout.decode()
+
+
+def proved_programs():
+    """None where they are not built."""
+    programs = Programs(*(os.path.join(answers.BUILT, name) for name in ("replay", "expander")))
+    return programs if all(map(os.path.exists, programs)) else None
+
+
+# ---- the checks ----
+
+def images_are_fresh():
+    return subprocess.run([os.path.join(EXAMPLES, "make"), "--check"]).returncode == 0
+
+
+def page_has_every_listing():
+    listings = [file[:-len(".rung")] for file in os.listdir(EXAMPLES) if file.endswith(".rung")]
+    return sorted(listings) == sorted(row.name for row in rows())
+
+
+def commands_fit(page):
+    """What a page hands to the program fits the program's budget, and there is such a command."""
+    fitting = {(row.name, sum(row.units)) for row in rows() if row.budget == PROGRAM_BUDGET}
+    return commands(page) != [] and set(commands(page)) <= fitting
+
+
+def answers_as_said(row, replay):
+    given = answers.expand_and_parse(replay, image_of(row.name), row.budget)
+    return ([answer.code for answer in given] == [0, 0] and [answer.units for answer in given] == row.units
+            and (row.tree is None or answers.root_of(given[-1].written) == row.tree))
+
+
+def prints_as_said(row, program):
+    line = printed(program, given=image_of(row.name))
+    if row.budget == PROGRAM_BUDGET:
+        return line == f"code 0 units {sum(row.units)}\n"
+    return line.startswith("code 19 units ")
+
+
+def shows_as_said(row):
+    shown = printed(os.path.join(EXAMPLES, "expand"), os.path.join(EXAMPLES, row.name + ".rung"), str(row.budget)).splitlines()
+    said = [f"{job}: code 0 units {units}" for job, units in zip(("expand", "parse"), row.units)]
+    return ([" ".join(line.split()[:5]) for line in shown[1:3]] == said
+            and (row.tree is None or shown[3:] == [row.tree]))
+
+
+def same_lines(row, second, proved):
+    return (answers.expand_and_parse(second, image_of(row.name), row.budget)
+            == answers.expand_and_parse(proved, image_of(row.name), row.budget))
+
+
+def counts(given, replay):
+    """Macro uses, scopes, names and bits. A binder takes a name and a scope, a macro use two scopes."""
+    expanded, parsed = answers.expand_and_parse(replay, given, 4096)
+    head = answers.head_of(expanded.written)
+    uses = (head.scopes - head.made) // 2
+    return [uses, head.scopes, head.names, answers.root_of(parsed.written).count("[")]
+
+
+def plant_counts_as_said(replay):
+    said = plant_counts()
+    return said == counts(image_of("mixing-plant"), replay) and said[0] > 19 and said[1] > OLDER_SCOPES
+
+
+def scopes_without(dropped, replay):
+    """The plant's scopes when these rungs are left out."""
+    text = file_text("examples", "mixing-plant.rung")
+    for rung in dropped:
+        assert rung in text
+        text = text.replace(rung, "")
+    return counts(listing.image_of(text), replay)[1]
+
+
+def nineteenth_passes_older_limit(replay):
+    nineteenth, twentieth = "('out @117 (lit @1))", "('out @118 (lit @33))"
+    return (scopes_without([nineteenth, twentieth], replay) <= OLDER_SCOPES < scopes_without([twentieth], replay))
+
+
+def page_checks(second):
+    yield "the page has every listing", page_has_every_listing()
+    yield "the commands of the page", commands_fit(PAGE)
+    yield "the commands of the README", commands_fit(file_text("README.md"))
+    yield "the mixing plant's counts", plant_counts_as_said(second.replay)
+    yield "the mixing plant's nineteenth macro", nineteenth_passes_older_limit(second.replay)
+    for row in rows():
+        yield f"{row.name} by examples/expand", shows_as_said(row)
+
+
+def program_checks(row, programs):
+    for check, program in ((answers_as_said, programs.replay), (prints_as_said, programs.line)):
+        yield f"{row.name} by {os.path.relpath(program, ROOT)}", check(row, program)
+
+
+def checks(second, proved):
+    """Each check with what it is about. Where an image is stale, the others have nothing to say."""
+    fresh = images_are_fresh()
+    yield "the images", fresh
+    if not fresh:
+        return
+    yield from page_checks(second)
+    for row in rows():
+        yield from program_checks(row, second)
+        if proved:
+            yield from program_checks(row, proved)
+            yield f"{row.name}: the lines of both", same_lines(row, second.replay, proved.replay)
+
+
+def main():
+    second, proved = second_programs(), proved_programs()
+    if proved is None:
+        print("examples: the proved programs are not built here: only the second program is asked")
+    results = list(checks(second, proved))
+    for what, holds in results:
+        if not holds:
+            print(f"examples: {what}: failed")
+    failed = sum(not holds for _, holds in results)
+    print(f"{len(results) - failed} passed, {failed} failed")
+    return 1 if failed else 0
+
+
+if __name__ == "__main__":
+    sys.exit(main())
