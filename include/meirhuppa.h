@@ -9,9 +9,11 @@
  *  - image, table and output do not overlap;
  *  - no other thread touches them during the call.
  *
- * The table is working memory, at least 16 words per unit of budget. After MEIRHUPPA_SMALL_TABLE it is untouched; after every other answer its
- * first 16 * budget words are 0 and the rest untouched. A refusal leaves the output untouched; success writes the image from its start and
- * touches no byte after it.
+ * The table is working memory, at least MEIRHUPPA_WORDS_PER_UNIT (40) words per unit of budget. After
+ * MEIRHUPPA_SMALL_TABLE it is untouched; after every other answer its first 40 * budget words are 0 and the rest untouched. A refusal leaves the
+ * output untouched; success writes the image from its start and touches no byte after it.
+ *
+ * An image may have up to 256 scopes, 1,024 names (core names and words counted) and 512 bindings.
  */
 #ifndef MEIRHUPPA_H
 #define MEIRHUPPA_H
@@ -36,7 +38,7 @@ enum meirhuppa_code {
     MEIRHUPPA_OVER_LIMIT = 2,        /* a count, value or nesting is over its limit */
     MEIRHUPPA_UNOWNED = 3,           /* evaluate: a variable of the tree, outside syntax values, has no enclosing function of its name */
     MEIRHUPPA_WRONG_KIND = 4,        /* the kind is 1 or 2 but not the job's (2 for evaluate, 1 for the others) */
-    MEIRHUPPA_SMALL_TABLE = 5,       /* budget over 4,096, or fewer than 16 table words per unit of budget */
+    MEIRHUPPA_SMALL_TABLE = 5,       /* budget over 4,096, or fewer than 40 table words per unit of budget */
     MEIRHUPPA_AMBIGUOUS = 6,         /* several bindings fit and none contains the others */
     MEIRHUPPA_NO_MEANING = 7,        /* expand: an identifier in expression place whose name has no meaning */
     MEIRHUPPA_NO_RULE = 8,           /* a form with no rule */
@@ -56,7 +58,7 @@ enum meirhuppa_code {
 
 enum {
     MEIRHUPPA_MOST_BUDGET = 4096,
-    MEIRHUPPA_WORDS_PER_UNIT = 16,
+    MEIRHUPPA_WORDS_PER_UNIT = 40,
     MEIRHUPPA_MOST_IMAGE = 65536
 };
 

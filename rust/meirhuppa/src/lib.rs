@@ -70,7 +70,7 @@ const CODES: [Code; 20] = [
 ];
 
 /// Words of the table per unit of budget.
-pub const WORDS_PER_UNIT: usize = 16;
+pub const WORDS_PER_UNIT: usize = 40;
 
 #[cfg(target_arch = "x86_64")]
 mod library {
