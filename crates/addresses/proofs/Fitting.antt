@@ -1,10 +1,12 @@
 -- Objects that keep the limits keep them when scopes are added, flipped or pruned, when more is declared, and when they are stripped.
 use mathlib.Core.Path.{_≡_, refl, ap, ap₂}
+use mathlib.Core.Bool.{Bool, true, false}
 use Prim.Native.Nat.{ℕ, zero, suc, _^_, _≤_, _<_, max}
 use native.Mathlib.Nat.{le-trans, zero-lt-suc, pow-le-pow-right, lt-of-le-of-lt}
 use lib.Bits.{or-lt, xor-lt, and-le-r, bitAnd}
 use lib.Pow.{pow-pos}
-use Rattle.model.specs.Scopes.{Scopes, only, add, flip, prune}
+use Rattle.model.specs.Choice.{if_then_else_}
+use Rattle.model.specs.Scopes.{Scopes, has, only, add, flip, prune}
 use Rattle.model.specs.Objects.{Sets, changeAt, Stx, atom, list, Stxs, nil, cons, nesting, nestings, onSets, onSetsAll, addScope, flipScope, pruneScopes}
 use Rattle.model.specs.Trees.{Tree, var, app, fun, datum, lst, stx, Trees, tnil, tcons, tnesting, tnestings, strip, stripAll}
 use Rattle.codec_laws.specs.WellFormed.{StxFits, StxsFit, IsValue, TreeFits, TreesFit, ValuesFit}
@@ -78,13 +80,17 @@ pub add-in : (j n : ℕ) → j ≤ n → (a : Scopes) → a < 2 ^ n → add j a 
 unfolding add
 add-in j n h a q = or-lt n (only j) a (only-small j n h) q
 
-flip-in : (j n : ℕ) → j ≤ n → (a : Scopes) → a < 2 ^ n → flip j a < 2 ^ n
-unfolding flip
-flip-in j n h a q = xor-lt n (only j) a (only-small j n h) q
-
 prune-in : (p : Scopes) (n : ℕ) → (a : Scopes) → a < 2 ^ n → prune p a < 2 ^ n
 unfolding prune
 prune-in p n a q = xor-lt n a (bitAnd p a) q (lt-of-le-of-lt (and-le-r p a) q)
+
+flip-in : (j n : ℕ) → j ≤ n → (a : Scopes) → a < 2 ^ n → flip j a < 2 ^ n
+unfolding flip
+flip-in j n h a q = go (has j a)
+  where
+    go : (t : Bool) → (if t then prune (only j) a else add j a) < 2 ^ n
+    go true = prune-in (only j) n a q
+    go false = add-in j n h a q
 
 pub addScope-fits : (k j n ph : ℕ) → j ≤ n → (s : Stx) → StxFits k n s → StxFits k n (addScope j ph s)
 unfolding addScope

@@ -6,6 +6,7 @@ use mathlib.Core.Bool.{Bool, true, false, not, _&&_, _||_, xor, true≢false, fa
 use lib.Dec.{T, eqb, eqb→eq, eqb-refl, eqb·zero-suc, eqb·suc-zero, eqb·suc-suc}
 use lib.Arith.{bin-ind, digits-div, digits-mod}
 use lib.Bits.{bitAnd, bitOr, bitXor, differ, and-step, or-step, xor-step}
+use Rattle.model.specs.Choice.{if_then_else_}
 use Rattle.model.specs.Scopes.{Scopes, digit, has, only, add, flip, prune, within}
 
 two-pos : zero < 2
@@ -150,10 +151,6 @@ pub has-add : (k j : ℕ) (m : Scopes) → has k (add (suc j) m) ≡ (eqb k (suc
 unfolding add
 has-add k j m = has-or k (only (suc j)) m ∙ ap (λ (x : Bool). x || has k m) (has-only k j)
 
-pub has-flip : (k j : ℕ) (m : Scopes) → has k (flip (suc j) m) ≡ xor (eqb k (suc j)) (has k m)
-unfolding flip
-has-flip k j m = has-xor k (only (suc j)) m ∙ ap (λ (x : Bool). xor x (has k m)) (has-only k j)
-
 xor-and : (x y : Bool) → xor x (y && x) ≡ (x && not y)
 unfolding xor
 xor-and true true = refl
@@ -189,6 +186,29 @@ eqb-true a b e = is-true (eqb a b) (subst (λ (x : ℕ). T (eqb a x)) e (eqb-ref
     is-true : (x : Bool) → T x → x ≡ true
     is-true true t = refl
     is-true false t = absurd t
+
+pub has-flip : (k j : ℕ) (m : Scopes) → has k (flip (suc j) m) ≡ xor (eqb k (suc j)) (has k m)
+unfolding flip xor
+has-flip k j m = go (has (suc j) m) refl
+  where
+    here : eqb k (suc j) ≡ true → has k m ≡ has (suc j) m
+    here e = ap (λ (i : ℕ). has i m) (eqb-eq k (suc j) e)
+
+    out : (x y : Bool) → (x ≡ true → y ≡ true) → (y && not x) ≡ xor x y
+    out true true f = refl
+    out true false f = absurd (false≢true (f refl))
+    out false true f = refl
+    out false false f = refl
+
+    put : (x y : Bool) → (x ≡ true → y ≡ false) → (x || y) ≡ xor x y
+    put true true f = absurd (false≢true (sym (f refl)))
+    put true false f = refl
+    put false true f = refl
+    put false false f = refl
+
+    go : (t : Bool) → has (suc j) m ≡ t → has k (if t then prune (only (suc j)) m else add (suc j) m) ≡ xor (eqb k (suc j)) (has k m)
+    go true h = has-prune k (only (suc j)) m ∙ ap (λ (x : Bool). has k m && not x) (has-only k j) ∙ out (eqb k (suc j)) (has k m) (λ e. here e ∙ h)
+    go false h = has-add k j m ∙ put (eqb k (suc j)) (has k m) (λ e. here e ∙ h)
 
 pub within→sub : (a b : Scopes) → within a b ≡ true → Sub a b
 unfolding within

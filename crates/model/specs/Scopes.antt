@@ -5,6 +5,7 @@ use mathlib.Core.Bool.{Bool, true, false}
 use mathlib.Core.List.{List, [], _∷_}
 use lib.Dec.{eqb, ltb}
 use lib.Bits.{bitAnd, bitOr, bitXor}
+use Rattle.model.specs.Choice.{if_then_else_}
 use Rattle.model.specs.Limits.{mostScopes}
 
 abbrev pub Scopes : Type 0
@@ -30,14 +31,14 @@ unfoldable pub add : ℕ → Scopes → Scopes
 unfolding only
 add k m = bitOr (only k) m
 
--- taken out where it is there, else put in
-unfoldable pub flip : ℕ → Scopes → Scopes
-unfolding only
-flip k m = bitXor (only k) m
-
 -- m without the members of p
 unfoldable pub prune : Scopes → Scopes → Scopes
 prune p m = bitXor m (bitAnd p m)
+
+-- take scope k out if it is there, else put it in
+unfoldable pub flip : ℕ → Scopes → Scopes
+unfolding has only add prune
+flip k m = if has k m then prune (only k) m else add k m
 
 -- every member of a is one of b
 unfoldable pub within : Scopes → Scopes → Bool

@@ -1,5 +1,6 @@
 -- A scope's place in a set: the digit of weight 2 ^ (k - 1).
 use mathlib.Core.Path.{_≡_, refl, sym, ap, ap₂, _∙_}
+use mathlib.Core.Bool.{Bool, true, false}
 use mathlib.Core.List.{List}
 use Prim.Native.Nat.{ℕ, zero, suc, _+_, _-_, _*_, _/_, _%_, _^_, _≤_, _<_}
 use native.Mathlib.Nat.{div-one, zero-add, one-mul, div-add-mod', mod-lt}
@@ -9,7 +10,7 @@ use lib.ListN.{getD, length, set, replicate, length-replicate}
 use lib.Pow.{shr-shr, pow-add, shl-exact}
 use lib.Seq.{getD-set-same, getD-set-other}
 use Rattle.model.specs.Limits.{mostScopes}
-use Rattle.model.specs.Scopes.{Scopes, digit, has, only}
+use Rattle.model.specs.Scopes.{Scopes, digit, has, only, add, prune, flip}
 use Rattle.scopes.specs.Sets.{wordsFrom, setScopes}
 use Rattle.scopes.proofs.Words.{Words, words-one, digit-at}
 
@@ -32,6 +33,17 @@ pub has-is : (k : ℕ) (m : Scopes) → 1 ≤ k → has k m ≡ eqb (m / 2 ^ (k 
 unfolding has
 has-is zero m h = absurd (let e : ⊥ = omega arith in e)
 has-is (suc k) m h = digit-is k m ∙ ap (λ (j : ℕ). eqb (m / 2 ^ j % 2) 1) (let e : k ≡ suc k - 1 = omega arith in e)
+
+-- ---- flipping, by the test that is made
+
+module _ (k : ℕ) (m : Scopes) {r : Scopes} {t : Bool} (e : t ≡ has k m) where
+  pub flip-out : {one : Scopes} → t ≡ true → one ≡ only k → r ≡ prune one m → r ≡ flip k m
+  unfolding flip
+  flip-out h o p = let there : has k m ≡ true = cc in rw there (p ∙ ap (λ (x : Scopes). prune x m) o)
+
+  pub flip-in : t ≡ false → r ≡ add k m → r ≡ flip k m
+  unfolding flip
+  flip-in h p = let absent : has k m ≡ false = cc in rw absent p
 
 -- ---- the place of a scope among words of 64 digits
 

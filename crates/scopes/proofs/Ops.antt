@@ -54,9 +54,6 @@ module _ {n : ℕ} {a b r : List ℕ} {i : ℕ} (w : ℕ) where
   pub union-all : Over bitOr n a b r i → n ≤ i → Words w a → Words w b → wordsFrom w n r 0 ≡ bitOr (wordsFrom w n a 0) (wordsFrom w n b 0)
   union-all v h = over-all v w h refl or-block
 
-  pub apart-all : Over bitXor n a b r i → n ≤ i → Words w a → Words w b → wordsFrom w n r 0 ≡ bitXor (wordsFrom w n a 0) (wordsFrom w n b 0)
-  apart-all v h = over-all v w h refl xor-block
-
   -- a is what is prunable
   pub prune-all : Over (λ p m. bitXor m (bitAnd p m)) n a b r i → n ≤ i → Words w a → Words w b → wordsFrom w n r 0 ≡ model.prune (wordsFrom w n a 0) (wordsFrom w n b 0)
   unfolding model.prune

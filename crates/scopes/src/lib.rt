@@ -4,7 +4,7 @@ ghost use mathlib.Core.Bool.{not};
 ghost use Prim.Native.Nat.{_+_, _*_, _/_, _^_, _≤_, _<_};
 ghost use lib.ListN.{length};
 ghost use lib.Dec.{eqb};
-ghost use lib.Bits.{bitOr, bitXor};
+ghost use lib.Bits.{bitOr};
 ghost use Rattle.model.specs.Scopes as model;
 ghost use Rattle.scopes.specs.Sets.{setWords, setScopes, mostLong, scopesOf, wordMembers, longMembers, Declared, Differing};
 
@@ -72,13 +72,15 @@ impl ScopeSet {
         one.union(self)
     }
 
-    // Taken out where it is there, else put in.
+    // Take it out if it is there, else put it in.
     pub fn flip(self, k: Scope) -> Self
         requires { ⌜ Declared k ⌝ }
         ensures { λ r. ⌜ scopesOf r ≡ model.flip (k .0) (scopesOf self) ⌝ }
     {
-        let one = ScopeSet::only(k);
-        one.apart(self)
+        if self.has(k) {
+            return self.prune(ScopeSet::only(k));
+        }
+        self.add(k)
     }
 
     // The members that are not prunable.
@@ -102,19 +104,6 @@ impl ScopeSet {
         let mut i: usize = 0;
         while i < ScopeSet::WORDS {
             r.words[i] = self.words[i] | other.words[i];
-            i += 1;
-        }
-        r
-    }
-
-    // The members of one of the two sets alone.
-    fn apart(self, other: ScopeSet) -> Self
-        ensures { λ r. ⌜ scopesOf r ≡ bitXor (scopesOf self) (scopesOf other) ⌝ }
-    {
-        let mut r = self;
-        let mut i: usize = 0;
-        while i < ScopeSet::WORDS {
-            r.words[i] = self.words[i] ^ other.words[i];
             i += 1;
         }
         r

@@ -1,21 +1,25 @@
-use Rattle.scopes.specs.Sets.{scopesOf}
-use Rattle.model.specs.Scopes.{flip}
-use lib.Bits.{bitXor}
-use Prim.Native.Nat.{ℕ}
-use mathlib.Core.Path.{ap, _∙_}
+use Rattle.scopes.proofs.Members.{flip-out, flip-in}
 use borrow.Author.Needs.{needs}
 use Rattle.scopes.proofs.ScopeSet.flip.Statement.{statement}
 use Rattle.scopes.proofs.ScopeSet.flip.Tie as tie
 
+has-requires : tie.Need-has-requires
+has-requires c κs = search needs
+
 only-requires : tie.Need-only-requires
 only-requires c κs = search needs
 
-apart-requires : tie.Need-apart-requires
-apart-requires c κs = search needs
+prune-requires : tie.Need-prune-requires
+prune-requires c κs = search needs
 
 returns : tie.Need-returns
-unfolding flip
-returns c = c .apart .ensures ∙ ap (λ (one : ℕ). bitXor one (scopesOf (c .before .before .args .self))) (c .before .only .ensures)
+returns c = search (flip-out, needs)
+
+add-requires : tie.Need-add-requires
+add-requires c κs = search needs
+
+returns-2 : tie.Need-returns-2
+returns-2 c = search (flip-in, needs)
 
 pub flip-spec : {M : Type 1} → statement M
-flip-spec = tie.close (tie.spec only-requires apart-requires returns)
+flip-spec = tie.close (tie.spec has-requires only-requires prune-requires returns add-requires returns-2)
