@@ -262,7 +262,7 @@ module _ (k : ℕ) where
       let kp₂₆ : Kept t₂ t₆ = kept-trans kp₄ kp₆ in
       let i₇ : Piece t₇ back = flipped intro ph x back t₆ t₇ (le-trans (f₂ .1) (le-of-eq (kp₂₆ .scopes-is))) i₆ fl₇ in
       let g₇ : Grows k s t₇ = grows-trans k s t₂ t₇ g₂ (kept-grows k t₂ t₇ (kept-trans kp₂₆ (fl₇ .1))) in
-      weaken (rec ph e p back t₇ (g₇ .keeps g) (env-grows k ph s t₇ g₇ e w) i₇) (λ out s′ a.
+      weaken (rec ph e (add us p) back t₇ (g₇ .keeps g) (env-grows k ph s t₇ g₇ e w) i₇) (λ out s′ a.
       expanded-after k d (suc d) ph e s t₇ s′ out (up d) g₇ a))))))))
 
   -- ---- quote and syntax

@@ -1,2 +1,3 @@
 pub mod Notation
 pub mod Cases
+pub mod UseScope

@@ -428,7 +428,7 @@ module _ (self : Expander) (steady : Steady self) where
       then-no-rise (flipIn intro ph used) _ (flipIn-no-rise intro ph used) (λ marked.
       then-no-rise (evaluate d (app v (tcons (stx marked) tnil))) _ (evaluate-no-rise d _) (λ r.
       then-no-rise (orNoSyntax (asStx r)) _ (orNoSyntax-no-rise (asStx r)) (λ s.
-      then-no-rise (flipIn intro ph s) _ (flipIn-no-rise intro ph s) (λ back. steady ph e p back)))))))
+      then-no-rise (flipIn intro ph s) _ (flipIn-no-rise intro ph s) (λ back. steady ph e (add outer p) back)))))))
 
   form-no-rise : (d ph : ℕ) (e : Env) (p : Scopes) (c : Sets) (h : Stx) (l : Stxs) (m : Meaning) → NoRise (expandForm self d ph e p c h l m)
   unfolding expandForm expandLambda expandLetSyntax expandSyntax

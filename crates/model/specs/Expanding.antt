@@ -130,7 +130,7 @@ orNoSyntax none = refuse noSyntax
 orNoSyntax (some s) = done s
 
 unfoldable pub expandMacro : Expander → ℕ → ℕ → Env → Scopes → Tree → Stx → Step Stx
-unfolding freshScope addTo flipIn evaluate asStx orNoSyntax
+unfolding freshScope addTo flipIn evaluate asStx orNoSyntax add
 expandMacro self d ph e p v form = do
   use-scope ← freshScope
   intro ← freshScope
@@ -139,7 +139,7 @@ expandMacro self d ph e p v form = do
   r ← evaluate d (app v (tcons (stx marked) tnil))
   s ← orNoSyntax (asStx r)
   back ← flipIn intro ph s
-  self ph e p back
+  self ph e (add use-scope p) back
 
 -- the list with sets c of head h and tail l, by the head's meaning
 unfoldable pub expandForm : Expander → ℕ → ℕ → Env → Scopes → Sets → Stx → Stxs → Meaning → Step Stx
