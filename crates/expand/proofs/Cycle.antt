@@ -90,6 +90,10 @@ within-later r p few len len2 =
       held = record { few = few; wide = omega (arith, r .held .wide, len2) };
     }
 
+-- what is prunable is no part of what an expansion asks for
+pruning : {l st : List ℕ} {s : State} {at : Context} (p : ScopeSet) → Within l st s at → Within l st s (record { phase = at .phase; meanings = at .meanings; prunable = p })
+pruning p r = record { meant = r .meant; known = r .known; room = r .room; held = r .held }
+
 -- the entry's unit is not needed for what follows
 within-paid : {l st : List ℕ} (s : State) {at : Context} → Within l st (unpaid s) at → Within l st s at
 unfolding unpaid
@@ -926,32 +930,37 @@ module _ {st l : List ℕ} {s : State} {i w : ℕ} {at : Context} (r : ReadyMacr
       marked-to : (b : Store) (x : Stx) → Rep l (s .top) i (stx x) → Gave marks 1 nodeSpare l l1 s b (markRule (at .phase) x (stateOf s b)) o
       marked-to b x a = on-done (v .means b x a) (ap markingOf e)
 
-      pub macro-declared : Declared (o .intro)
-      macro-declared = marked-to (bindsOf st) (r .thing) (r .shown) .shown .declared
+      pub macro-use-declared : Declared (o .uses)
+      macro-use-declared = marked-to (bindsOf st) (r .thing) (r .shown) .shown .uses-declared
+
+      pub macro-intro-declared : Declared (o .intro)
+      macro-intro-declared = marked-to (bindsOf st) (r .thing) (r .shown) .shown .intro-declared
 
       pub macro-less : {T : ℕ} → s .units * 32 + 18 ≡ T → o .state .units * 32 + 17 < T
       macro-less y = omega (arith, marked-to (bindsOf st) (r .thing) (r .shown) .later .spent)
 
-      pub macro-rewritten-ready : length l1 ≡ length l → ReadyRewritten l1 st (o .state) w (o .at) at
-      macro-rewritten-ready len =
+      pub macro-rewritten-ready : {p : ScopeSet} → length l1 ≡ length l → ReadyRewritten l1 st (o .state) w (o .at) (record { phase = at .phase; meanings = at .meanings; prunable = p })
+      macro-rewritten-ready {p} len =
           let g = marked-to (bindsOf st) (r .thing) (r .shown) in
           record {
             value = r .value;
             thing = g .value .object;
             shown-value = carry (r .shown-value) (g .later .kept) (g .later .grows);
             shown = g .shown .rep;
-            within = within-later (r .within) (g .later) (g .shown .few) len refl;
+            within = pruning p (within-later (r .within) (g .later) (g .shown .few) len refl);
           }
 
-      pub macro-rewritten : {left : ℕ} {st1 l2 : List ℕ} {q : Answer} → ExpandedRewritten left at st st1 l1 l2 (o .state) w (o .at) (o .intro .0) q → ExpandedMacro left at st st1 l l2 s i w q
-      macro-rewritten {left} {st1} {l2} {q} f =
+      pub macro-rewritten : {left : ℕ} {p : ScopeSet} {st1 l2 : List ℕ} {q : Answer} → scopesOf p ≡ add (o .uses .0) (scopesOf (at .prunable))
+          → ExpandedRewritten left (record { phase = at .phase; meanings = at .meanings; prunable = p }) st st1 l1 l2 (o .state) w (o .at) (o .intro .0) q → ExpandedMacro left at st st1 l l2 s i w q
+      macro-rewritten {left} {p} {st1} {l2} {q} wider f =
           record {
             means = λ x t g a b k.
                 let j = marked-to (bindsOf st) x a in
                 let d = f .means (j .value .object) t g (carry b (j .later .kept) (j .later .grows)) (j .shown .rep) (carryE k (j .later .kept) (j .later .grows)) in
-                let named : rewrittenRule (entries left) left (at .phase) g (scopesOf (at .prunable)) t (j .value .intro) (j .value .object) (stateOf (o .state) (bindsOf st))
-                ≡ rewrittenRule (entries left) left (at .phase) g (scopesOf (at .prunable)) t (o .intro .0) (j .value .object) (stateOf (o .state) (bindsOf st)) =
-                λ n. rewrittenRule (entries left) left (at .phase) g (scopesOf (at .prunable)) t ((sym (j .shown .intro)) n) (j .value .object) (stateOf (o .state) (bindsOf st)) in
+                let pruned : add (j .value .uses) (scopesOf (at .prunable)) ≡ scopesOf p = ap (λ (u : ℕ). add u (scopesOf (at .prunable))) (sym (j .shown .uses)) ∙ sym wider in
+                let named : rewrittenRule (entries left) left (at .phase) g (add (j .value .uses) (scopesOf (at .prunable))) t (j .value .intro) (j .value .object) (stateOf (o .state) (bindsOf st))
+                ≡ rewrittenRule (entries left) left (at .phase) g (scopesOf p) t (o .intro .0) (j .value .object) (stateOf (o .state) (bindsOf st)) =
+                λ n. rewrittenRule (entries left) left (at .phase) g (pruned n) t ((sym (j .shown .intro)) n) (j .value .object) (stateOf (o .state) (bindsOf st)) in
                 since 1 cellSize (j .later) (omega arith) (omega arith)
                 (macro-split (entries left) left (at .phase) g (scopesOf (at .prunable)) (stateOf s (bindsOf st)) t x ∙ then-ok _ (j .is) ∙ named) d;
           }
@@ -1087,7 +1096,8 @@ pub ruleset laws = (
   defined-scoped,
   macro-mark-ready,
   macro-refused,
-  macro-declared,
+  macro-use-declared,
+  macro-intro-declared,
   macro-less,
   macro-rewritten-ready,
   macro-rewritten,

@@ -7,7 +7,7 @@ use native.Mathlib.Omega.{arith}
 use lib.Dec.{leb}
 use Rattle.model.specs.Limits.{lastPhase}
 use Rattle.model.specs.Refusals.{Refusal, ambiguous, noRule, noPhase}
-use Rattle.model.specs.Scopes.{Scopes}
+use Rattle.model.specs.Scopes.{Scopes, add}
 use Rattle.model.specs.Objects.{Atom, symbol, number, point, prim, rung, tagOf, Sets, Stx, atom, list, Stxs, nil, cons}
 use Rattle.model.specs.Trees.{Tree, app, stx, tnil, tcons, asStx}
 use Rattle.model.specs.Evaluating.{evaluate}
@@ -29,8 +29,8 @@ pub expand-entry : (ph : ℕ) (e : Env) (q : Scopes) (x : Stx) → Entry (λ d. 
 unfolding expand
 expand-entry ph e q x = record { none = λ y. refl; some = λ d y. refl }
 
-abbrev marked-by : ℕ → Stx → Step Marked
-marked-by k x = λ s. ok (record { object = x; intro = k }) s
+abbrev marked-by : ℕ → ℕ → Stx → Step Marked
+marked-by u k x = λ s. ok (record { object = x; uses = u; intro = k }) s
 
 module _ (self : Expander) (d ph : ℕ) (e : Env) (q : Scopes) (y : State) where
   pub entry-atom : (c : Sets) (a : Atom) → ¬ (tagOf a ≡ 0) → expandEntry self d ph e q (atom c a) y ≡ ok (atom c a) y
@@ -99,24 +99,24 @@ module _ (self : Expander) (d ph : ℕ) (e : Env) (q : Scopes) (y : State) where
       λ i. after (bindFresh ph ci x y) (λ b. λ s. after (unless noPhase (leb (ph + 1) lastPhase) s) (λ u. λ s1. after (self (ph + 1) coreOnly 0 rhs s1) (λ r. λ s2.
       (sym (after-after (p.parse d (ph + 1) r s2) (λ t. evaluate d t) (λ v. scopedRule self ph e q (b .name) (b .scope) (macro v) body))) i)))
 
-  rewritten-split : (v : Tree) (k : ℕ) (x : Stx) (s : State)
-      → rewrittenRule self d ph e q v k x s ≡ after (evaluate d (app v (tcons (stx x) tnil)) s) (λ r. λ s1. after (orNoSyntax (asStx r) s1) (λ z. λ s2. after (flipIn k ph z s2) (λ b. self ph e q b)))
+  rewritten-split : (p : Scopes) (v : Tree) (k : ℕ) (x : Stx) (s : State)
+      → rewrittenRule self d ph e p v k x s ≡ after (evaluate d (app v (tcons (stx x) tnil)) s) (λ r. λ s1. after (orNoSyntax (asStx r) s1) (λ z. λ s2. after (flipIn k ph z s2) (λ b. self ph e p b)))
   unfolding rewrittenRule transcribeRule backRule
-  rewritten-split v k x s =
-      after-after (evaluate d (app v (tcons (stx x) tnil)) s) (λ r. backRule ph k r) (λ b. self ph e q b)
-      ∙ (λ i. after (evaluate d (app v (tcons (stx x) tnil)) s) (λ r. λ s1. (after-after (orNoSyntax (asStx r) s1) (λ z. flipIn k ph z) (λ b. self ph e q b)) i))
+  rewritten-split p v k x s =
+      after-after (evaluate d (app v (tcons (stx x) tnil)) s) (λ r. backRule ph k r) (λ b. self ph e p b)
+      ∙ (λ i. after (evaluate d (app v (tcons (stx x) tnil)) s) (λ r. λ s1. (after-after (orNoSyntax (asStx r) s1) (λ z. flipIn k ph z) (λ b. self ph e p b)) i))
 
   marks-split : (v : Tree) (form : Stx) (u k : ℕ) (s : State)
-      → after (marksRule ph u k form s) (λ w. rewrittenRule self d ph e q v (w .intro) (w .object)) ≡ after (addTo u ph form s) (λ used. λ s1. after (flipIn k ph used s1) (λ marked. rewrittenRule self d ph e q v k marked))
+      → after (marksRule ph u k form s) (λ w. rewrittenRule self d ph e (add (w .uses) q) v (w .intro) (w .object)) ≡ after (addTo u ph form s) (λ used. λ s1. after (flipIn k ph used s1) (λ marked. rewrittenRule self d ph e (add u q) v k marked))
   unfolding marksRule addTo flipIn changeRule
   marks-split v form u k s =
-      after-after {B = Marked} (addTo u ph form s) (λ used. λ s1. after (flipIn k ph used s1) (marked-by k)) (λ w. rewrittenRule self d ph e q v (w .intro) (w .object))
-      ∙ (λ i. after (addTo u ph form s) (λ used. λ s1. (after-after {B = Marked} (flipIn k ph used s1) (marked-by k) (λ w. rewrittenRule self d ph e q v (w .intro) (w .object))) i))
+      after-after {B = Marked} (addTo u ph form s) (λ used. λ s1. after (flipIn k ph used s1) (marked-by u k)) (λ w. rewrittenRule self d ph e (add (w .uses) q) v (w .intro) (w .object))
+      ∙ (λ i. after (addTo u ph form s) (λ used. λ s1. (after-after {B = Marked} (flipIn k ph used s1) (marked-by u k) (λ w. rewrittenRule self d ph e (add (w .uses) q) v (w .intro) (w .object))) i))
 
-  pub macro-split : (v : Tree) (form : Stx) → expandMacro self d ph e q v form y ≡ after (markRule ph form y) (λ k. rewrittenRule self d ph e q v (k .intro) (k .object))
+  pub macro-split : (v : Tree) (form : Stx) → expandMacro self d ph e q v form y ≡ after (markRule ph form y) (λ k. rewrittenRule self d ph e (add (k .uses) q) v (k .intro) (k .object))
   unfolding expandMacro markRule
   macro-split v form =
-      sym (after-after (freshScope y) (λ u. λ s. after (freshScope s) (λ k. marksRule ph u k form)) (λ w. rewrittenRule self d ph e q v (w .intro) (w .object))
-      ∙ (λ i. after (freshScope y) (λ u. λ s. (after-after (freshScope s) (λ k. marksRule ph u k form) (λ w. rewrittenRule self d ph e q v (w .intro) (w .object))) i))
+      sym (after-after (freshScope y) (λ u. λ s. after (freshScope s) (λ k. marksRule ph u k form)) (λ w. rewrittenRule self d ph e (add (w .uses) q) v (w .intro) (w .object))
+      ∙ (λ i. after (freshScope y) (λ u. λ s. (after-after (freshScope s) (λ k. marksRule ph u k form) (λ w. rewrittenRule self d ph e (add (w .uses) q) v (w .intro) (w .object))) i))
       ∙ (λ i. after (freshScope y) (λ u. λ s. after (freshScope s) (λ k. λ s1. (marks-split v form u k s1) i)))
-      ∙ (λ i. after (freshScope y) (λ u. λ s. after (freshScope s) (λ k. λ s1. after (addTo u ph form s1) (λ used. λ s2. after (flipIn k ph used s2) (λ marked. λ s3. (rewritten-split v k marked s3) i))))))
+      ∙ (λ i. after (freshScope y) (λ u. λ s. after (freshScope s) (λ k. λ s1. after (addTo u ph form s1) (λ used. λ s2. after (flipIn k ph used s2) (λ marked. λ s3. (rewritten-split (add u q) v k marked s3) i))))))

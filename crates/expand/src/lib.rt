@@ -20,6 +20,7 @@ use things::Made;
 ghost use mathlib.Core.Path.{_≡_};
 ghost use Prim.Native.Nat.{ℕ, _+_, _≤_};
 ghost use lib.ListN.{length};
+ghost use Rattle.model.specs.Scopes.{add};
 ghost use Rattle.scopes.specs.Sets.{scopesOf, Declared};
 ghost use Rattle.parse.specs.Parsing.{unpaid};
 ghost use Rattle.expand.specs.Making.{Relistable, Relisted, Chainable, Chained, ReadyList, Lists, ReadyTwo, TwoLists, ReadyThree, ThreeLists};
@@ -36,6 +37,15 @@ pub struct Context {
 
 impl Context {
     pub const LAST_PHASE: u32 = 2;
+
+    // The prunable set with a scope more.
+    fn also_prunable(self, k: Scope) -> ScopeSet
+        requires { ⌜ Declared k ⌝ }
+        ensures { λ r. ⌜ scopesOf r ≡ add (k .0) (scopesOf (self .prunable)) ⌝ }
+    {
+        let prunable = self.prunable;
+        prunable.add(k)
+    }
 }
 
 // ---- what is made
@@ -453,8 +463,7 @@ fn inner(
 {
     let m = environment::extend(table, s.top, name, kind, thing, at.meanings);
     let t = s.raised(m.top);
-    let old = at.prunable;
-    let prunable = old.add(scope);
+    let prunable = at.also_prunable(scope);
     let to = Context {
         phase: at.phase,
         meanings: m.at,
@@ -703,13 +712,20 @@ fn macro_use(
         Marking::Refused(f) => Answer::Refused(f),
         Marking::Done(m) => {
             let s1 = m.state;
+            let uses = m.uses;
             let intro = m.intro;
-            rewritten(table, store, s1, v, m.at, intro, left, at)
+            let prunable = at.also_prunable(uses);
+            let to = Context {
+                phase: at.phase,
+                meanings: at.meanings,
+                prunable,
+            };
+            rewritten(table, store, s1, v, m.at, intro, left, to)
         }
     }
 }
 
-// What the macro makes of the marked form is expanded in its place.
+// What the macro makes of the marked form is expanded in its place, the use scope being prunable there.
 fn rewritten(
     table: &mut [u32],
     store: &mut [u64],

@@ -368,17 +368,17 @@ module _ (ph u k : ℕ) {l l1 : List ℕ} {s : State} {i : ℕ} {a : Answer} (v 
       mark-intro-refused z =
           record { means = λ b x w. let g = used b x w in stops _ (then-ok _ (g .is) ∙ then-no _ (on-refused (q .means b (g .value) (g .shown .rep)) (ap ended z))) }
 
-      pub mark-done : {p : Out} {n : Scope} → Declared n → n .0 ≡ k → d ≡ Done p → Marks ph u k l l2 s i (marking.Done (record { at = p .at; intro = n; state = p .state }))
+      pub mark-done : {p : Out} {m n : Scope} → Declared m → Declared n → m .0 ≡ u → n .0 ≡ k → d ≡ Done p → Marks ph u k l l2 s i (marking.Done (record { at = p .at; uses = m; intro = n; state = p .state }))
       unfolding marksRule
-      mark-done {p} {n} known same z =
+      mark-done {p} {m} {n} used-known known used-same same z =
           record {
             means = λ b x w.
                 let g = used b x w in
                 let h = on-done (q .means b (g .value) (g .shown .rep)) (ap ended z) in
-                gives (record { at = p .at; intro = n; state = p .state }) (record {
-                  value = record { object = h .value; intro = k };
+                gives (record { at = p .at; uses = m; intro = n; state = p .state }) (record {
+                  value = record { object = h .value; uses = u; intro = k };
                   is = then-ok _ (g .is) ∙ then-ok _ (h .is);
-                  shown = record { rep = h .shown .rep; intro = same; declared = known; few = h .shown .few };
+                  shown = record { rep = h .shown .rep; uses = used-same; intro = same; uses-declared = used-known; intro-declared = known; few = h .shown .few };
                   later = later-trans 1 nodeSpare (g .later) (h .later) (omega arith) (omega arith);
                 });
           }

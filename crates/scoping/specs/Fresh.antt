@@ -149,6 +149,7 @@ freshScopeOf s =
 
 pub record Marked : Type 0 where
   pub object : Stx
+  pub uses : ℕ
   pub intro : ℕ
 
 unfoldable pub marksRule : ℕ → ℕ → ℕ → Stx → Step Marked
@@ -156,7 +157,7 @@ unfolding changeRule
 marksRule ph u k x = do
   used ← changeRule (addScope u ph) x
   marked ← changeRule (flipScope k ph) used
-  done (record { object = marked; intro = k })
+  done (record { object = marked; uses = u; intro = k })
 
 unfoldable pub markRule : ℕ → Stx → Step Marked
 unfolding freshScope marksRule
@@ -167,8 +168,10 @@ markRule ph x = do
 
 pub record ShownMark (l : List ℕ) (o : Mark) (k : Marked) : Type 0 where
   pub rep : Rep l (o .state .top) (o .at) (stx (k .object))
+  pub uses : o .uses .0 ≡ k .uses
   pub intro : o .intro .0 ≡ k .intro
-  pub declared : Declared (o .intro)
+  pub uses-declared : Declared (o .uses)
+  pub intro-declared : Declared (o .intro)
   pub few : o .state .bindings ≤ 512
 
 abbrev pub marks : Shape Marked Mark

@@ -207,9 +207,11 @@ pub fn bind_fresh(table: &mut [u32], store: &mut [u64], s: State, id: u32, phase
 
 // ---- a macro's use
 
-// The form with the use scope added and the introduction scope flipped, which is flipped again in what the macro makes of it.
+// The form with the use scope added, which is prunable in what the macro makes of it, and the introduction scope flipped, which is flipped
+// again there.
 pub struct Mark {
     pub at: u32,
+    pub uses: Scope,
     pub intro: Scope,
     pub state: State,
 }
@@ -249,6 +251,7 @@ fn mark_by(table: &mut [u32], s: State, form: u32, phase: u32, uses: Scope, intr
                     let state = p.state;
                     Marking::Done(Mark {
                         at: p.at,
+                        uses,
                         intro,
                         state,
                     })

@@ -1,7 +1,7 @@
 use borrow.Author.Needs.{needs}
 use Prim.Native.Nat.{ℕ}
 use Rattle.expand.proofs.Cycle.{laws}
-use Rattle.scopes.proofs.ScopeSet.add.Reads as add-reads
+use Rattle.expand.proofs.Context.also_prunable.Reads as also-prunable-reads
 use Rattle.expand.proofs.expand.Reads as expand
 use Rattle.environment.proofs.extend.Reads as extend-reads
 use Rattle.expand.proofs.inner.Reads as inner
@@ -11,7 +11,7 @@ use Rattle.expand.proofs.+abstraction+application+binding+defined+entry
 
 module _ (t : ℕ) where
   abbrev env : lts.Claims
-  env = (extend-reads.Asked, extend-reads.Learnt, raised-reads.Asked, raised-reads.Learnt, add-reads.Asked, add-reads.Learnt, expand-below t, expand.Post)
+  env = (extend-reads.Asked, extend-reads.Learnt, raised-reads.Asked, raised-reads.Learnt, also-prunable-reads.Asked, also-prunable-reads.Learnt, expand-below t, expand.Post)
 
   extend-requires : lts.Need-extend-requires env (inner-at t) inner.Post
   extend-requires c κs = search (laws, needs)
@@ -19,8 +19,8 @@ module _ (t : ℕ) where
   raised-requires : lts.Need-raised-requires env (inner-at t) inner.Post
   raised-requires c κs = search (laws, needs)
 
-  add-requires : lts.Need-add-requires env (inner-at t) inner.Post
-  add-requires c κs = search (laws, needs)
+  also-prunable-requires : lts.Need-also-prunable-requires env (inner-at t) inner.Post
+  also-prunable-requires c κs = search (laws, needs)
 
   expand-requires : lts.Need-expand-requires env (inner-at t) inner.Post
   expand-requires c κs = search (laws, needs)
@@ -38,7 +38,7 @@ module _ (t : ℕ) where
   closed = lts.spec env (inner-at t) inner.Post
       extend-requires
       raised-requires
-      add-requires
+      also-prunable-requires
       expand-requires
       same-length
       same-length-2

@@ -1,6 +1,7 @@
 use borrow.Author.Needs.{needs}
 use Prim.Native.Nat.{ℕ}
 use Rattle.expand.proofs.Cycle.{laws}
+use Rattle.expand.proofs.Context.also_prunable.Reads as also-prunable-reads
 use Rattle.expand.proofs.macro_use.Reads as macro-use
 use Rattle.scoping.proofs.mark_form.Reads as mark-form-reads
 use Rattle.expand.proofs.rewritten.Reads as rewritten
@@ -9,7 +10,7 @@ use Rattle.expand.proofs.+abstraction+application+binding+defined+entry
 
 module _ (t : ℕ) where
   abbrev env : lts.Claims
-  env = (mark-form-reads.Asked, mark-form-reads.Learnt, rewritten-below t, rewritten.Post)
+  env = (mark-form-reads.Asked, mark-form-reads.Learnt, also-prunable-reads.Asked, also-prunable-reads.Learnt, rewritten-below t, rewritten.Post)
 
   mark-form-requires : lts.Need-mark-form-requires env (macro-use-at t) macro-use.Post
   mark-form-requires c κs = search (laws, needs)
@@ -19,6 +20,9 @@ module _ (t : ℕ) where
 
   enum-known-m : lts.Need-enum-known-m env (macro-use-at t) macro-use.Post
   enum-known-m c = search (laws, needs)
+
+  also-prunable-requires : lts.Need-also-prunable-requires env (macro-use-at t) macro-use.Post
+  also-prunable-requires c κs = search (laws, needs)
 
   rewritten-requires : lts.Need-rewritten-requires env (macro-use-at t) macro-use.Post
   rewritten-requires c κs = search (laws, needs)
@@ -43,6 +47,7 @@ module _ (t : ℕ) where
       mark-form-requires
       enum-known-f
       enum-known-m
+      also-prunable-requires
       rewritten-requires
       same-length
       returns
