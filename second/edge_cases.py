@@ -1,4 +1,4 @@
-"""Edge cases of document 01, as request T-09 amends it, worked out by hand.
+"""Edge cases of document 01, as requests T-03 and T-09 amend it, worked out by hand.
 
 Each case is a reason, a call and the answer that document 01 asks for. The
 notation is the one of image.py. `steps` walks through the charges of a call
@@ -903,6 +903,138 @@ LOOP = "((lambda f (f f)) (lambda f (f f)))"
 case("expand: what a macro gives is expanded inside the entry of its use", "expand",
      syntax_image(f"(let-syntax n (lambda z {LOOP}) (let-syntax m (lambda z (syntax (n))) (m)))"),
      18, 866, budget=4096)
+
+# ==== expanding: the use scope is prunable in what a macro use becomes (request T-03) ====
+
+# BACK gives the first argument of its use back. It has size 10. Its value takes 25: the entry, the
+# binder, the body of 7 and its 7 entries to expand; 8 entries to parse; 1 to evaluate. Applying it takes
+# 20: three entries for the application, the body of 7, then 7 entries and 3 primitives.
+BACK = "(lambda z (#first (#rest (#stx-e z))))"
+BACK_VALUE, BACK_APPLIED = 1 + 1 + 7 + 7 + 8 + 1, 3 + 7 + 7 + 3
+
+
+def back(argument, words=("m", "z", "x"), **named):
+    """m gives its argument back. Scopes: 1 of m, 2 of z (phase 1), 3 use, 4 introduction."""
+    return syntax_image(f"(let-syntax m {BACK} (m {argument}))", words=words, **named)
+
+
+def back_units(size):
+    """Loading, entry, m, its value and the body; the use, until its argument is expanded."""
+    return (15 + size) + 1 + 1 + BACK_VALUE + (2 + size) + (1 + 2 * (2 + size) + BACK_APPLIED + size)
+
+
+def given_back(text, made=2, scopes=4, bindings=()):
+    """What back becomes, with the bindings of m and z."""
+    return syntax_image(text, words=["m", "z", "x"], made=made, scopes=scopes,
+                        bindings=[("m", [1], 7), ("z", [2], 8), *bindings])
+
+
+SYNTAX_BACK = given_back("(syntax{1,3} x){1,3}")
+steps("expand: a macro that takes (syntax x)", "expand", back("(syntax x)"),
+      [18, 1, 1] + [1, 1, 7] + [1] * 7 + [1] * 8 + [1] + [5, 1, 5, 5] + [1, 1, 1, 7] + [1] * 10 +
+      [3, 1, 1], result=SYNTAX_BACK)
+assert back_units(3) + 1 + 1 == 86
+case("expand: (syntax x) given back, an output just long enough", "expand", back("(syntax x)"), 0, 86,
+     result=SYNTAX_BACK, output=len(SYNTAX_BACK))
+case("expand: (syntax x) given back, an output one byte short", "expand", back("(syntax x)"), 20, 86,
+     output=len(SYNTAX_BACK) - 1)
+case("expand: every part of what syntax holds loses the use scope", "expand", back("(syntax (x (1)))"),
+     0, back_units(6) + 1 + 4, result=given_back("(syntax{1,3} (x (1))){1,3}"))
+case("expand: a quoted argument keeps the use scope", "expand", back("(quote x)"), 0,
+     back_units(3) + 1, result=given_back("(quote{1,3} x{1,3}){1,3}"))
+case("expand: the use scope is prunable in every part of an application", "expand",
+     back("((syntax x) (syntax x))"), 0, back_units(7) + 1 + 2 + 2,
+     result=given_back("((syntax{1,3} x){1,3} (syntax{1,3} x){1,3}){1,3}"))
+case("expand: the use scope is prunable in the body of a lambda", "expand",  # whose scope is 5
+     back("(lambda x (syntax x))"), 0, back_units(6) + 1 + 1 + 3 + 1 + 1,
+     result=given_back("(lambda{1,3} x{1,3,5} (syntax{1,3,5} x){1,3,5}){1,3}", 3, 5,
+                       [("x", [1, 3, 5], 9)]))
+case("expand: the use scope is prunable in the body of a let-syntax", "expand",
+     back("(let-syntax k 1 (syntax x))", words=["m", "z", "k", "x"]), 0,
+     back_units(7) + 1 + 1 + 3 + 3 + 1 + 1,
+     result=syntax_image("(syntax{1,3,5} x){1,3,5}", words=["m", "z", "k", "x"], made=3, scopes=5,
+                         bindings=[("m", [1], 8), ("z", [2], 9), ("k", [1, 3, 5], 10)]))
+# The right-hand side of k is expanded one phase up, where the use scope 3 is not pruned. So the x that
+# k's use brings has it still, and loses it now. It keeps 8, the introduction scope of k's use.
+case("expand: the use scope is prunable in what a macro defined inside gives", "expand",
+     back("(let-syntax k (lambda w (syntax (syntax x))) (k))", words=["m", "z", "k", "w", "x"]), 0,
+     back_units(13) + 1 + 1 + (1 + 1 + 5 + 1 + 3 + 2 + 1) + 2 + (1 + 2 + 2 + 5 + 3) + 1 + 1,
+     result=syntax_image("(syntax{1,3,8} x{8}){1,3,8}", words=["m", "z", "k", "w", "x"], made=4,
+                         scopes=8, bindings=[("m", [1], 9), ("z", [2], 10), ("k", [1, 3, 5], 11),
+                                             ("w", [6], 12)]))
+# Scopes: 1 of n, 2 of its z, 3 of m, 4 of its z, 5 and 6 of m's use, 7 and 8 of n's use.
+M_AND_N = dict(words=["n", "z", "m", "x"], made=4, scopes=8,
+               bindings=[("n", [1], 8), ("z", [2], 9), ("m", [1, 3], 10), ("z", [4], 11)])
+N_USE = 1 + 5 + 5 + BACK_APPLIED + 3
+case("expand: the use scope is prunable through a further macro use", "expand",
+     syntax_image(f"(let-syntax n {BACK} (let-syntax m {BACK} (m (n (syntax x)))))",
+                  words=["n", "z", "m", "x"]), 0,
+     33 + 1 + 1 + BACK_VALUE + 20 + 1 + 1 + BACK_VALUE + 7 + (1 + 7 + 7 + BACK_APPLIED + 5) + N_USE +
+     1 + 1, result=syntax_image("(syntax{1,3,5,7} x){1,3,5,7}", **M_AND_N))
+# What m's template brings has 6, the introduction scope of m's use, which is not prunable, and not 5.
+case("expand: a template's text loses the scope of a further use only", "expand",
+     syntax_image(f"(let-syntax n {BACK} (let-syntax m (lambda z (syntax (n (syntax x)))) (m)))",
+                  words=["n", "z", "m", "x"]), 0,
+     28 + 1 + 1 + BACK_VALUE + 15 + 1 + 1 + (1 + 1 + 7 + 1 + 5 + 2 + 1) + 2 + (1 + 2 + 2 + 5 + 5) +
+     N_USE + 1 + 1, result=syntax_image("(syntax{1,6,7} x{6}){1,6,7}", **M_AND_N))
+case("expand: the introduction scope is not prunable", "expand",
+     syntax_image("(let-syntax m (lambda z (syntax (syntax x))) (m))"), 0,
+     13 + 1 + 1 + (1 + 1 + 5 + 1 + 3 + 2 + 1) + 2 + (1 + 2 + 2 + 5 + 3) + 1 + 1,
+     result=given_back("(syntax{4} x{4}){4}"))
+# The macro's value: entry, binder, body of 13, 11 entries and a prune to expand; 12 to parse; 1 to
+# evaluate. Applied: three entries, the body of 11, 11 entries and 4 primitives.
+case("expand: the word syntax comes from the macro, what it holds from the use", "expand",
+     syntax_image("(let-syntax m (lambda z (#mk-stx (#link (syntax syntax) (#rest (#stx-e z))) z)) "
+                  "(m x))"), 0,
+     22 + 1 + 1 + (1 + 1 + 13 + 12 + 12 + 1) + 3 + (1 + 3 + 3 + (3 + 11 + 15) + 3) + 1 + 1,
+     result=given_back("(syntax{4} x){1,3}"))
+# What is around a use keeps its own set: here 1 of m and 3 of the lambda; 4 and 5 are the use's.
+case("expand: beside a macro use the set around it is still prunable", "expand",
+     syntax_image(f"(let-syntax m {BACK} (lambda x ((m (syntax x)) (syntax x))))"), 0,
+     25 + 1 + 1 + BACK_VALUE + 12 + 1 + 1 + 9 + 1 + (1 + 5 + 5 + BACK_APPLIED + 3) + 2 + 2,
+     result=given_back("(lambda{1} x{1,3} ((syntax{1,3,4} x){1,3,4} (syntax{1,3} x){1,3}){1,3}){1}",
+                       3, 5, [("x", [1, 3], 9)]))
+case("expand: two macro uses side by side, each with its use scope", "expand",
+     syntax_image(f"(let-syntax m {BACK} ((m (syntax x)) (m (syntax x))))"), 0,
+     24 + 1 + 1 + BACK_VALUE + 11 + 1 + 2 * ((1 + 5 + 5 + BACK_APPLIED + 3) + 2),
+     result=given_back("((syntax{1,3} x){1,3} (syntax{1,5} x){1,5}){1}", scopes=6))
+case("expand: a use scope at phase 1, where the image's own scopes stay", "expand",
+     back("(syntax x{1|1|1})", scopes=1), 0, 86, phase=1,
+     result=syntax_image("(syntax{|2,4} x{1|1|1}){|2,4}", words=["m", "z", "x"], made=2, scopes=5,
+                         bindings=[("m", [2], 7), ("z", [3], 8)]))
+for use in (63, 64, 65, 127, 128, 129, 191, 192, 193, 255):
+    both = f"{use - 2},{use}"
+    case(f"expand: the use scope is {use}", "expand", back("(syntax x)", scopes=use - 3), 0, 86,
+         result=syntax_image(f"(syntax{{{both}}} x){{{both}}}", words=["m", "z", "x"], made=2,
+                             scopes=use + 1, bindings=[("m", [use - 2], 7), ("z", [use - 1], 8)]))
+
+# A use at phase 1, in the right-hand side of m, tells by the code: m gives (let-syntax j (lambda X x) 1),
+# where X is what (k (syntax x)) gave. Were 5, the use scope of k's use, still on X, then X would not bind
+# the x beside it: 7 after 362 units. Scopes: 1 of m, 2 of k (phase 1), 3 of z (phase
+# 2), 4 of w, 5 and 6 of k's use (phase 1), 7 and 8 of m's use, 9 of j, 10 of X (phase 1).
+INNER = "(#mk-stx (#link (syntax lambda) (#link (k (syntax x)) (#stx-e (syntax (x))))) w)"  # size 21
+OUTER = ("(#mk-stx (#link (syntax let-syntax) (#link (syntax j) "
+         f"(#link {INNER} (#stx-e (syntax (1)))))) w)")  # size 42
+BY_CODE = syntax_image(f"(let-syntax m (let-syntax k {BACK} (lambda w {OUTER})) (m))",
+                       words=["m", "k", "z", "w", "j", "x"])
+BY_CODE_UNITS = sum([
+    63, 1, 1,  # loading, entry, m
+    1, 1, BACK_VALUE, 45,  # the inner let-syntax: entry, k, its value, body
+    1, 1, 42,  # the lambda: entry, w, body
+    20 + 5 + 7,  # expanding it without k's use: lists and atoms, syntax forms, what these hold
+    1 + 5 + 5 + BACK_APPLIED + 3 + 1 + 1,  # k's use and its (syntax x)
+    1 + 26, 1,  # parsing and evaluating the right-hand side of m
+    2, 1, 2, 2,  # the body, then m's use: entry, use scope, introduction scope
+    3, 26, 26 + 9,  # its application, the body, the body's entries and 9 primitives
+    8, 1, 1,  # what m gives: introduction scope, entry, j
+    4, 2, 1,  # its right-hand side: entry, X, body, entry; parsing; evaluating
+    1, 1])  # its body
+assert BY_CODE_UNITS == 367
+case("expand: without the use scope of its use a binder binds", "expand", BY_CODE, 0, 367, budget=367,
+     result=syntax_image("1{8,9}", words=["m", "k", "z", "w", "j", "x"], made=6, scopes=10,
+                         bindings=[("m", [1], 10), ("k", [2], 11), ("z", [3], 12), ("w", [2, 4], 13),
+                                   ("j", [8, 9], 14), ("x", [10], 15)]))
+case("expand: the same with a unit less", "expand", BY_CODE, 19, 366, budget=366)
 
 # ==== parsing ====
 

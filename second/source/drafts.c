@@ -478,6 +478,11 @@ static const PanelProgram panel[] = {
     {"(quote _1)", "(lambda x (m x))"},
     {"(_1 (syntax x) (quote x) x)", "(lambda x (m x))"},
     {"(lambda x (syntax _1))", "(lambda x (m (x x)))"},
+    /* syntax as an argument, which loses the scope of the use */
+    {"_1", "(m (syntax x))"},
+    {"(_1 (lambda x _2))", "(m (syntax x) (syntax (x y)))"},
+    {"(lambda x (_1 _2))", "(lambda x (m (syntax x) (m x (syntax x))))"},
+    {"(let-syntax n (lambda g (syntax _1)) (_1 (n)))", "(lambda x (m (syntax x)))"},
 };
 
 static const char *const whole_programs[] = {
@@ -505,6 +510,12 @@ static const char *const whole_programs[] = {
     "(let-syntax syntax (lambda z (#2 (#3 (#0 z)))) (lambda x (syntax x)))",
     "(let-syntax quote (lambda z (syntax 7)) (quote x))",
     "(let-syntax lambda (lambda z (#2 (#3 (#3 (#0 z))))) (lambda x 3))",
+    "(let-syntax n (lambda z (#2 (#3 (#0 z)))) (let-syntax m (lambda z (#2 (#3 (#0 z)))) "
+    "(m (n (syntax x)))))",
+    /* a binder that was an argument one phase up, and its word, which was not */
+    "(let-syntax m (let-syntax k (lambda z (#2 (#3 (#0 z)))) (lambda w (#1 (#4 (syntax let-syntax) "
+    "(#4 (syntax n) (#4 (#1 (#4 (syntax lambda) (#4 (k (syntax x)) (#0 (syntax (x))))) w) "
+    "(#0 (syntax (1)))))) w))) (m))",
 };
 
 static const Object *panel_program(void)

@@ -211,7 +211,9 @@ static const Object *expand_macro_use(Work *work, const Object *form, const Tree
         change_scopes(work, FLIP, value->object, phase, only_scope(introduction));
     if (result == NULL)
         return NULL;
-    return expand(work, result, phase, meanings, prunable);
+    /* The use scope is prunable in what the use becomes. Sets are handed down
+       and never back, so what stands around the use keeps its own. */
+    return expand(work, result, phase, meanings, add_scopes(prunable, only_scope(use)));
 }
 
 /* ---- everything ---- */
