@@ -242,7 +242,7 @@ module _ (image : List ℕ) (is-bytes : Bytes image) (budget : ℕ) (b : List �
   never-unowned n table output q =
       lent-fine n table output (evaluateEnding treeImage′ n (length output))
       (subst Fine (sym (evaluateEnding-is treeImage′ n (length output) ∙ with-read (readImage readTreeImage treeImage′) (evaluateWork n (length output)) tree-read [] tree-is))
-      (evaluate-fine n (length output))) .0
+      (evaluate-fine n (length output)))
       (ap (λ (z : Result). z .answer .code) (sym (evaluateJob-is treeImage′ n table output)) ∙ q)
     where
       treeImage′ : List ℕ

@@ -8,7 +8,7 @@ use lib.Dec.{leb}
 use lib.ListN.{length, take, drop}
 use Rattle.model.specs.Choice.{if_then_else_}
 use Rattle.model.specs.Limits.{mostImage, mostEntries, lastPhase}
-use Rattle.model.specs.Refusals.{Refusal, layout, overLimit, unowned, wrongKind, smallTable, ambiguous, noMeaning, noRule, noSyntax, notApplicable, wrongArgument, noPhase, noNameLeft, noScopeLeft, noBindingLeft, boundAlready, tooDeep, tooManyEntries, overBudget, tooLong, codeOf}
+use Rattle.model.specs.Refusals.{Refusal, layout, overLimit, unowned, wrongKind, smallTable, ambiguous, noMeaning, noRule, noSyntax, notApplicable, wrongArgument, noPhase, noNameLeft, noScopeLeft, noBindingLeft, tooDeep, tooManyEntries, overBudget, tooLong, codeOf}
 use Rattle.model.specs.Objects.{Stx, size}
 use Rattle.model.specs.Trees.{Tree, loadSize}
 use Rattle.model.specs.Reading.{Read, got, fault, Image, readSyntax, readTreeImage, readImage}
@@ -165,7 +165,6 @@ code-some noPhase e = omega arith
 code-some noNameLeft e = omega arith
 code-some noScopeLeft e = omega arith
 code-some noBindingLeft e = omega arith
-code-some boundAlready e = omega arith
 code-some tooDeep e = omega arith
 code-some tooManyEntries e = omega arith
 code-some overBudget e = omega arith

@@ -10,7 +10,7 @@ use lib.Dec.{leb}
 use lib.ListN.{length}
 use Rattle.model.specs.Choice.{if_then_else_}
 use Rattle.model.specs.Limits.{coreNames, mostEntries, mostImage, lastPhase}
-use Rattle.model.specs.Refusals.{Refusal, layout, overLimit, unowned, wrongKind, smallTable, ambiguous, noMeaning, noRule, noSyntax, notApplicable, wrongArgument, noPhase, noNameLeft, noScopeLeft, noBindingLeft, boundAlready, tooDeep, tooManyEntries, overBudget, tooLong, codeOf}
+use Rattle.model.specs.Refusals.{Refusal, layout, overLimit, unowned, wrongKind, smallTable, ambiguous, noMeaning, noRule, noSyntax, notApplicable, wrongArgument, noPhase, noNameLeft, noScopeLeft, noBindingLeft, tooDeep, tooManyEntries, overBudget, tooLong, codeOf}
 use Rattle.model.specs.Objects.{Stx, size}
 use Rattle.model.specs.Reading.{Read, got, symbols, Image, readSyntax, readImage}
 use Rattle.model.specs.Writing.{syntaxBytes}
@@ -94,7 +94,7 @@ pub expand-keeps-limits : (ph budget : ℕ) (i : Image Stx) (r : Stx) (s : State
 expand-keeps-limits ph budget i r s f e n =
     limits-kept ph budget i r s f (outcome-ok (subst (Outcome Stx _) e (expand-root-good ph budget i f))) n
 
--- ---- no job of expansion ends with 3 or 16
+-- ---- no job of expansion ends with 3
 
 abbrev pub Fine : Ending → Type 0
 Fine (refused r u) = Possible r
@@ -138,48 +138,41 @@ expand-fine image b ph budget room =
     worked-fine budget _ (λ r s. fitted-fine room (syntaxBytes (reached (i .head) s) (s .binds) r) (budget - s .left))
     (expand-root-good ph budget i (syntax-read-keeps-limits image rest i b e)))))
 
-possible-code : (r : Refusal) → Possible r → (codeOf r ≡ 3 → ⊥) × (codeOf r ≡ 16 → ⊥)
-possible-code layout p = ((λ e. omega arith), (λ e. omega arith))
-possible-code overLimit p = ((λ e. omega arith), (λ e. omega arith))
-possible-code unowned p = absurd p
-possible-code wrongKind p = ((λ e. omega arith), (λ e. omega arith))
-possible-code smallTable p = ((λ e. omega arith), (λ e. omega arith))
-possible-code ambiguous p = ((λ e. omega arith), (λ e. omega arith))
-possible-code noMeaning p = ((λ e. omega arith), (λ e. omega arith))
-possible-code noRule p = ((λ e. omega arith), (λ e. omega arith))
-possible-code noSyntax p = ((λ e. omega arith), (λ e. omega arith))
-possible-code notApplicable p = ((λ e. omega arith), (λ e. omega arith))
-possible-code wrongArgument p = ((λ e. omega arith), (λ e. omega arith))
-possible-code noPhase p = ((λ e. omega arith), (λ e. omega arith))
-possible-code noNameLeft p = ((λ e. omega arith), (λ e. omega arith))
-possible-code noScopeLeft p = ((λ e. omega arith), (λ e. omega arith))
-possible-code noBindingLeft p = ((λ e. omega arith), (λ e. omega arith))
-possible-code boundAlready p = absurd p
-possible-code tooDeep p = ((λ e. omega arith), (λ e. omega arith))
-possible-code tooManyEntries p = ((λ e. omega arith), (λ e. omega arith))
-possible-code overBudget p = ((λ e. omega arith), (λ e. omega arith))
-possible-code tooLong p = ((λ e. omega arith), (λ e. omega arith))
+possible-code : (r : Refusal) → Possible r → codeOf r ≡ 3 → ⊥
+possible-code layout p e = omega arith
+possible-code overLimit p e = omega arith
+possible-code unowned p e = absurd p
+possible-code wrongKind p e = omega arith
+possible-code smallTable p e = omega arith
+possible-code ambiguous p e = omega arith
+possible-code noMeaning p e = omega arith
+possible-code noRule p e = omega arith
+possible-code noSyntax p e = omega arith
+possible-code notApplicable p e = omega arith
+possible-code wrongArgument p e = omega arith
+possible-code noPhase p e = omega arith
+possible-code noNameLeft p e = omega arith
+possible-code noScopeLeft p e = omega arith
+possible-code noBindingLeft p e = omega arith
+possible-code tooDeep p e = omega arith
+possible-code tooManyEntries p e = omega arith
+possible-code overBudget p e = omega arith
+possible-code tooLong p e = omega arith
 
-fine-code : (e : Ending) → Fine e → ((answerOf e) .code ≡ 3 → ⊥) × ((answerOf e) .code ≡ 16 → ⊥)
+fine-code : (e : Ending) → Fine e → (answerOf e) .code ≡ 3 → ⊥
 unfolding answerOf
-fine-code (refused r u) p = possible-code r p
-fine-code (named n u) p = ((λ e. omega arith), (λ e. omega arith))
-fine-code (written b u) p = ((λ e. omega arith), (λ e. omega arith))
+fine-code (refused r u) p e = possible-code r p e
+fine-code (named n u) p e = omega arith
+fine-code (written b u) p e = omega arith
 
 pub lent-fine : (budget : ℕ) (table output : List ℕ) (e : Ending) → Fine e
-    → ((lent budget table output e) .answer .code ≡ 3 → ⊥) × ((lent budget table output e) .answer .code ≡ 16 → ⊥)
+    → (lent budget table output e) .answer .code ≡ 3 → ⊥
 lent-fine budget table output e p =
-    lent-cases (λ (z : Result). (z .answer .code ≡ 3 → ⊥) × (z .answer .code ≡ 16 → ⊥)) budget table output e
+    lent-cases (λ (z : Result). z .answer .code ≡ 3 → ⊥) budget table output e
     (fine-code e p) (fine-code (refused smallTable 0) tt)
 
 -- evaluating inside expand never meets a free variable
 pub expand-never-3 : (image : List ℕ) → Bytes image → (ph budget : ℕ) (table output : List ℕ) → (expandJob image ph budget table output) .answer .code ≡ 3 → ⊥
 expand-never-3 image b ph budget table output q =
-    lent-fine budget table output (expandEnding image ph budget (length output)) (expand-fine image b ph budget (length output)) .0
-    (ap (λ (z : Result). z .answer .code) (sym (expandJob-is image ph budget table output)) ∙ q)
-
--- a binder's fresh scope is in no set made before, so its symbol and set are never bound already
-pub expand-never-16 : (image : List ℕ) → Bytes image → (ph budget : ℕ) (table output : List ℕ) → (expandJob image ph budget table output) .answer .code ≡ 16 → ⊥
-expand-never-16 image b ph budget table output q =
-    lent-fine budget table output (expandEnding image ph budget (length output)) (expand-fine image b ph budget (length output)) .1
+    lent-fine budget table output (expandEnding image ph budget (length output)) (expand-fine image b ph budget (length output))
     (ap (λ (z : Result). z .answer .code) (sym (expandJob-is image ph budget table output)) ∙ q)

@@ -16,5 +16,6 @@ pub mod Faults
 pub mod Endings
 pub mod ParseLimits
 pub mod ExpandJob
+pub mod FreshBinders
 pub mod Readable
 pub mod Condition3

@@ -1,4 +1,4 @@
--- What a step gives or refuses: what holds where it succeeds, and that it is refused neither by 3 nor by 16.
+-- What a step gives or refuses: what holds where it succeeds, and that it is not refused by 3.
 use mathlib.Core.Path.{_≡_, refl, _∙_, subst}
 use Prim.Native.Nat.{ℕ, _≤_}
 use native.Mathlib.Nat.{le-refl, le-trans, sub-le}
@@ -6,7 +6,7 @@ use mathlib.Core.Bool.{Bool, true, false}
 use lib.Dec.{leb}
 use Rattle.model.specs.Choice.{if_then_else_}
 use Rattle.model.specs.Limits.{mostNesting}
-use Rattle.model.specs.Refusals.{Refusal, layout, overLimit, unowned, wrongKind, smallTable, ambiguous, noMeaning, noRule, noSyntax, notApplicable, wrongArgument, noPhase, noNameLeft, noScopeLeft, noBindingLeft, boundAlready, tooDeep, tooManyEntries, overBudget, tooLong}
+use Rattle.model.specs.Refusals.{Refusal, layout, overLimit, unowned, wrongKind, smallTable, ambiguous, noMeaning, noRule, noSyntax, notApplicable, wrongArgument, noPhase, noNameLeft, noScopeLeft, noBindingLeft, tooDeep, tooManyEntries, overBudget, tooLong}
 use Rattle.model.specs.Scopes.{Scopes}
 use Rattle.model.specs.Objects.{symbol, number, point, prim, rung, Sets, setAt, Stx, atom, list, Stxs, nil, cons, size, nesting, addScope, flipScope, pruneScopes}
 use Rattle.model.specs.Trees.{Tree, tnesting}
@@ -15,7 +15,7 @@ use Rattle.model.specs.Steps.{State, Out, ok, no, Step, after, unless, charge, 
 use Rattle.laws.proofs.Tests.{leb-le}
 use Rattle.laws.proofs.StepLaws.{spend}
 
--- all but 3 and 16
+-- all but 3
 abbrev pub Possible : Refusal → Type 0
 Possible layout = Unit {0}
 Possible overLimit = Unit {0}
@@ -32,7 +32,6 @@ Possible noPhase = Unit {0}
 Possible noNameLeft = Unit {0}
 Possible noScopeLeft = Unit {0}
 Possible noBindingLeft = Unit {0}
-Possible boundAlready = ⊥
 Possible tooDeep = Unit {0}
 Possible tooManyEntries = Unit {0}
 Possible overBudget = Unit {0}

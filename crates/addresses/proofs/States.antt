@@ -12,10 +12,10 @@ use lib.Dec.{eqb, leb, ltb}
 use lib.ListN.{length}
 use Rattle.model.specs.Choice.{if_then_else_}
 use Rattle.model.specs.Limits.{mostNames, mostScopes, mostBindings}
-use Rattle.model.specs.Refusals.{noNameLeft, noScopeLeft, noBindingLeft, overBudget, boundAlready}
+use Rattle.model.specs.Refusals.{noNameLeft, noScopeLeft, noBindingLeft, overBudget}
 use Rattle.model.specs.Scopes.{Scopes, has, add}
 use Rattle.model.specs.Objects.{Sets, setAt, changeAt}
-use Rattle.model.specs.Resolving.{Bind, bindBefore, bound, insert}
+use Rattle.model.specs.Resolving.{Bind, bindBefore, insert}
 use Rattle.model.specs.Steps.{State, ok, no, Step, after, charge, freshName, freshScope, bind}
 use Rattle.model.specs.Expanding.{Binder, bindFresh}
 use Rattle.laws.specs.Ordered.{SetsIn, Sorted}
@@ -25,7 +25,7 @@ use Rattle.laws.proofs.ScopeSets.{has-add, eqb-true}
 use Rattle.laws.proofs.ResolveRule.{In}
 use Rattle.laws.proofs.Order.{sorted-keys}
 use Rattle.laws.proofs.Store.{insert-sorted}
-use Rattle.laws.proofs.Stable.{New, Later, same, more, later-trans, insert-new, unbound, fresh-unbound, Keys}
+use Rattle.laws.proofs.Stable.{New, Unbound, Later, same, more, later-trans, insert-new, fresh-unbound, Keys}
 use Rattle.laws.proofs.StepLaws.{spend}
 use Rattle.codec_laws.specs.WellFormed.{BindFits, BindsFit}
 use Rattle.addresses.proofs.Outcomes.{Outcome, gives, stops, Kept}
@@ -151,7 +151,7 @@ freshScope-out k s = go (ltb (s .scopes) mostScopes) refl
 -- ---- a fresh binder
 
 -- the binding of symbol x with sets c, and the state in which it is made
-newBind : ℕ → Sets → ℕ → State → Bind
+unfoldable pub newBind : ℕ → Sets → ℕ → State → Bind
 newBind ph c x s = record { symb = x; target = s .names; set = setAt ph (changeAt (add (s .scopes + 1)) ph c) }
 
 withBind : ℕ → Sets → ℕ → State → State
@@ -177,6 +177,10 @@ or-first false b p = absurd (false≢true p)
 has-own : (j : ℕ) (a : Scopes) → has (suc j) (add (suc j) a) ≡ true
 has-own j a = has-add (suc j) j a ∙ or-first (eqb (suc j) (suc j)) (has (suc j) a) (eqb-true (suc j) (suc j) refl)
 
+pub binder-set : (ph : ℕ) (c : Sets) (x : ℕ) (s : State) → newBind ph c x s .set ≡ add (s .scopes + 1) (setAt ph c)
+unfolding newBind
+binder-set ph c x s = set-changed (add (s .scopes + 1)) ph c
+
 -- its set holds the fresh scope, which no set made before has
 bind-new : (ph : ℕ) (c : Sets) (x : ℕ) (s : State) → New (s .scopes) (newBind ph c x s)
 unfolding newBind
@@ -192,8 +196,8 @@ binder-sets ph c s i =
     changeAt-in (s .scopes + 1) (add (s .scopes + 1)) (add-in (s .scopes + 1) (s .scopes + 1) (le-refl (s .scopes + 1))) ph c
     (sets-more (up (s .scopes)) c i)
 
--- so it is never bound already: code 16 is not given
-bind-unbound : (k ph : ℕ) (c : Sets) (x : ℕ) (s : State) → StateFits k s → bound (newBind ph c x s) (s .binds) ≡ false
+-- so its symbol and set are not bound yet
+pub bind-unbound : (k ph : ℕ) (c : Sets) (x : ℕ) (s : State) → StateFits k s → Unbound (newBind ph c x s) (s .binds)
 bind-unbound k ph c x s f =
     fresh-unbound (s .scopes) (newBind ph c x s) (bind-new ph c x s) (s .binds)
     (λ d i. binds-in k (s .names) (s .scopes) (s .binds) (f .binds-fit) d i .2)
@@ -221,7 +225,7 @@ bind-fits k ph c x s hx i hn hs hb f = record {
     unlike : (d : Bind) → In d (s .binds) → Small (d .set) × (B .symb ≡ d .symb → B .set ≡ d .set → ⊥)
     unlike d j = (
       set-more (f .scopes-to) (d .set) (binds-in k (s .names) (s .scopes) (s .binds) (f .binds-fit) d j .2),
-      unbound B (s .binds) (bind-unbound k ph c x s f) d j,
+      bind-unbound k ph c x s f d j,
     )
 
 -- what a fresh binder says
@@ -286,25 +290,23 @@ charge-then {B} {Q} n f s h = go (leb n (s .left))
     go true = h
     go false = stops overBudget (s .left) tt
 
-bind-then : {B : Type 0} {Q : B → State → Type 0} (b : Bind) (f : Unit {0} → Step B) (s : State) → bound b (s .binds) ≡ false
+bind-then : {B : Type 0} {Q : B → State → Type 0} (b : Bind) (f : Unit {0} → Step B) (s : State)
     → (length (s .binds) < mostBindings → Outcome B Q (f tt (record { left = s .left; names = s .names; scopes = s .scopes; binds = insert b (s .binds) })))
     → Outcome B Q (after (bind b s) f)
 unfolding bind
-bind-then {B} {Q} b f s u h = go (ltb (length (s .binds)) mostBindings) refl (bound b (s .binds)) u
+bind-then {B} {Q} b f s h = go (ltb (length (s .binds)) mostBindings) refl
   where
     t : State
     t = record { left = s .left; names = s .names; scopes = s .scopes; binds = insert b (s .binds) }
 
-    go : (x : Bool) → ltb (length (s .binds)) mostBindings ≡ x → (y : Bool) → y ≡ false
-        → Outcome B Q (after (if x then (if y then no boundAlready (s .left) else ok tt t) else no noBindingLeft (s .left)) f)
-    go true e true q = absurd (true≢false q)
-    go true e false q = h (ltb-lt (length (s .binds)) mostBindings e)
-    go false e y q = stops noBindingLeft (s .left) tt
+    go : (x : Bool) → ltb (length (s .binds)) mostBindings ≡ x → Outcome B Q (after (if x then ok tt t else no noBindingLeft (s .left)) f)
+    go true e = h (ltb-lt (length (s .binds)) mostBindings e)
+    go false e = stops noBindingLeft (s .left) tt
 
 pub bindFresh-out : (k ph : ℕ) (c : Sets) (x : ℕ) (s : State) → StateFits k s → x < k → SetsIn (s .scopes) c
     → Outcome Binder (Bound k ph x s) (bindFresh ph c x s)
 unfolding bindFresh withName withScope spend binder withBind newBind
 bindFresh-out k ph c x s f hx i =
     name-then _ s (λ hn. scope-then _ (withName s) (λ hs. charge-then 1 _ (withScope (withName s))
-    (bind-then (newBind ph c x s) _ (spend 1 (withScope (withName s))) (bind-unbound k ph c x s f)
+    (bind-then (newBind ph c x s) _ (spend 1 (withScope (withName s)))
     (λ hb. gives (binder ph c s) (withBind ph c x s) (binder-bound k ph c x s f hx i hn hs hb)))))

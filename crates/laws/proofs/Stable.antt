@@ -10,7 +10,7 @@ use lib.Dec.{eqb}
 use lib.Arith.{lt-one}
 use Rattle.model.specs.Choice.{if_then_else_}
 use Rattle.model.specs.Scopes.{Scopes, digit, has, within}
-use Rattle.model.specs.Resolving.{Bind, means, bindBefore, sameKey, bound, insert, candidate, candidates, choose, resolve}
+use Rattle.model.specs.Resolving.{Bind, means, bindBefore, insert, candidate, candidates, choose, resolve}
 use Rattle.laws.proofs.ScopeSets.{digit-zero, within→sub, within-refl, eqb-true, eqb-eq}
 use Rattle.laws.proofs.ResolveRule.{In, Largest, found, rule-one, resolve-is, candidates-sound, candidates-complete}
 
@@ -64,9 +64,13 @@ candidates-insert x s b (c ∷ l) e = go (bindBefore b c) (candidates-insert x s
 
 -- ---- stores that grow by bindings with scopes above n
 
+-- no binding of the store has b's symbol and set
+abbrev pub Unbound : Bind → List Bind → Type 0
+Unbound b l = (c : Bind) → In c l → b .symb ≡ c .symb → b .set ≡ c .set → ⊥
+
 pub data Later (n : ℕ) (from : List Bind) : List Bind → Type 0 where
   same : Later n from from
-  more : {l : List Bind} (b : Bind) → New n b → bound b l ≡ false → Later n from l → Later n from (insert b l)
+  more : {l : List Bind} (b : Bind) → New n b → Unbound b l → Later n from l → Later n from (insert b l)
 
 pub later-trans : (n m : ℕ) (a b c : List Bind) → n ≤ m → Later n a b → Later m b c → Later n a c
 later-trans n m a b c h p same = p
@@ -133,32 +137,15 @@ later-in n a b (more {l} c w u q) d i = insert-old c d l (later-in n a l q d i)
 abbrev pub Keys : List Bind → Type 0
 Keys l = (b c : Bind) → In b l → In c l → b .symb ≡ c .symb → b .set ≡ c .set → b ≡ c
 
-or-false : (x y : Bool) → (x || y) ≡ false → (x ≡ false) × (y ≡ false)
-or-false true y e = absurd (true≢false e)
-or-false false y e = (refl, e)
-
-pub unbound : (b : Bind) (l : List Bind) → bound b l ≡ false → (c : Bind) → In c l → b .symb ≡ c .symb → b .set ≡ c .set → ⊥
-unfolding bound sameKey
-unbound b [] e c i p q = i
-unbound b (d ∷ l) e c (inl r) p q =
-    true≢false (sym (key (eqb (b .symb) (d .symb)) (eqb (b .set) (d .set)) (eqb-true (b .symb) (d .symb) (p ∙ ap (λ (z : Bind). z .symb) r)) (eqb-true (b .set) (d .set) (q ∙ ap (λ (z : Bind). z .set) r)))
-    ∙ or-false (eqb (b .symb) (d .symb) && eqb (b .set) (d .set)) (bound b l) e .0)
-  where
-    key : (x y : Bool) → x ≡ true → y ≡ true → (x && y) ≡ true
-    key true y p q = q
-    key false y p q = absurd (false≢true p)
-unbound b (d ∷ l) e c (inr i) p q =
-    unbound b l (or-false (eqb (b .symb) (d .symb) && eqb (b .set) (d .set)) (bound b l) e .1) c i p q
-
-keys-insert : (b : Bind) (l : List Bind) → bound b l ≡ false → Keys l → Keys (insert b l)
+keys-insert : (b : Bind) (l : List Bind) → Unbound b l → Keys l → Keys (insert b l)
 keys-insert b l u k c d i j p q = go (insert-cases b c l i) (insert-cases b d l j)
   where
     go : (c ≡ b) ⊎ In c l → (d ≡ b) ⊎ In d l → c ≡ d
     go (inl x) (inl y) = x ∙ sym y
     go (inl x) (inr y) =
-        absurd (unbound b l u d y (ap (λ (z : Bind). z .symb) (sym x) ∙ p) (ap (λ (z : Bind). z .set) (sym x) ∙ q))
+        absurd (u d y (ap (λ (z : Bind). z .symb) (sym x) ∙ p) (ap (λ (z : Bind). z .set) (sym x) ∙ q))
     go (inr x) (inl y) =
-        absurd (unbound b l u c x (ap (λ (z : Bind). z .symb) (sym y) ∙ sym p) (ap (λ (z : Bind). z .set) (sym y) ∙ sym q))
+        absurd (u c x (ap (λ (z : Bind). z .symb) (sym y) ∙ sym p) (ap (λ (z : Bind). z .set) (sym y) ∙ sym q))
     go (inr x) (inr y) = k c d x y p q
 
 pub keys-later : (n : ℕ) (a b : List Bind) → Later n a b → Keys a → Keys b
@@ -186,18 +173,10 @@ resolve-own b l k i =
       above = λ c x. candidates-sound (b .symb) (b .set) l c x .contained;
     }
 
--- ---- a binder with a fresh scope is never bound already: code 16 is never given
+-- ---- what holds a fresh scope is not bound yet
 
 abbrev pub SetsBelow : ℕ → List Bind → Type 0
 SetsBelow n l = (c : Bind) → In c l → c .set < 2 ^ n
 
-pub fresh-unbound : (n : ℕ) (b : Bind) → New n b → (l : List Bind) → SetsBelow n l → bound b l ≡ false
-unfolding bound sameKey
-fresh-unbound n b w [] h = refl
-fresh-unbound n b w (c ∷ l) h = go (eqb (b .symb) (c .symb)) (eqb (b .set) (c .set)) refl (fresh-unbound n b w l (λ d i. h d (inr i)))
-  where
-    go : (x y : Bool) → eqb (b .set) (c .set) ≡ y → bound b l ≡ false → ((x && y) || bound b l) ≡ false
-    go true true e r =
-        absurd (false≢true (sym (has-above n (w .scope) (c .set) (h c (inl refl)) (w .above)) ∙ ap (has (w .scope)) (sym (eqb-eq (b .set) (c .set) e)) ∙ w .has-it))
-    go true false e r = r
-    go false y e r = r
+pub fresh-unbound : (n : ℕ) (b : Bind) → New n b → (l : List Bind) → SetsBelow n l → Unbound b l
+fresh-unbound n b w l h c i p q = false≢true (sym (has-above n (w .scope) (c .set) (h c i) (w .above)) ∙ ap (has (w .scope)) (sym q) ∙ w .has-it)

@@ -8,12 +8,12 @@ use mathlib.Core.Option.{Option, none, some}
 use lib.Dec.{leb, ltb}
 use lib.ListN.{length}
 use Rattle.model.specs.Limits.{mostNames, mostScopes, mostBindings, mostNesting, lastPhase}
-use Rattle.model.specs.Refusals.{Refusal, noRule, noPhase, tooManyEntries, overBudget, noNameLeft, noScopeLeft, noBindingLeft, boundAlready, notApplicable, tooDeep, ambiguous}
+use Rattle.model.specs.Refusals.{Refusal, noRule, noPhase, tooManyEntries, overBudget, noNameLeft, noScopeLeft, noBindingLeft, notApplicable, tooDeep, ambiguous}
 use Rattle.model.specs.Choice.{if_then_else_}
 use Rattle.model.specs.Scopes.{Scopes, add}
 use Rattle.model.specs.Objects.{Atom, symbol, number, point, prim, rung, Sets, setAt, changeAt, Stx, atom, list, Stxs, nil, cons, size, nesting}
 use Rattle.model.specs.Trees.{Tree, var, app, fun, datum, lst, stx, Trees, tnil, tcons, tcount, tsize, tnesting, substitute, asStx, strip}
-use Rattle.model.specs.Resolving.{Bind, bound, insert, Found, means, several, resolve}
+use Rattle.model.specs.Resolving.{Bind, insert, Found, means, several, resolve}
 use Rattle.model.specs.Steps.{State, Out, ok, no, Step, after, done, refuse, unless, charge, made, madeTree, addTo, flipIn, pruneFrom, freshName, freshScope, bind, nameOf, resolveAt, parts1, parts2, parts3, identifier}
 use Rattle.model.specs.Evaluating.{evaluate, evalEntry, applicable, eachTree, argument, apply, primitive, orWrongKind}
 use Rattle.model.specs.Parsing.{Form, lambda, letSyntax, quote, syntax, formOf, headForm, parseAll, parseForm, parseEntry, parse}
@@ -159,35 +159,19 @@ bind-no-rise b =
           λ s.
           choice-left
           (ltb (length (s .binds)) mostBindings)
-          (if bound b (s .binds)
-          then no boundAlready (s .left)
-          else ok tt (record { left = s .left; names = s .names; scopes = s .scopes; binds = insert b (s .binds) }))
+          (ok tt (record { left = s .left; names = s .names; scopes = s .scopes; binds = insert b (s .binds) }))
           (no noBindingLeft (s .left))
           (s .left)
-          (choice-left
-          (bound b (s .binds))
-          (no boundAlready (s .left))
-          (ok tt (record { left = s .left; names = s .names; scopes = s .scopes; binds = insert b (s .binds) }))
-          (s .left)
           (le-refl (s .left))
-          (le-refl (s .left)))
           (le-refl (s .left));
       names-from =
           λ s.
           choice-names
           (ltb (length (s .binds)) mostBindings)
-          (if bound b (s .binds)
-          then no boundAlready (s .left)
-          else ok tt (record { left = s .left; names = s .names; scopes = s .scopes; binds = insert b (s .binds) }))
+          (ok tt (record { left = s .left; names = s .names; scopes = s .scopes; binds = insert b (s .binds) }))
           (no noBindingLeft (s .left))
           (s .names)
-          (choice-names
-          (bound b (s .binds))
-          (no boundAlready (s .left))
-          (ok tt (record { left = s .left; names = s .names; scopes = s .scopes; binds = insert b (s .binds) }))
-          (s .names)
           (le-refl (s .names))
-          (le-refl (s .names)))
           (le-refl (s .names));
     }
 

@@ -1,4 +1,5 @@
--- Document 01, 'Numbers given back': the refusals and their numbers. Code 0 is success.
+-- Document 01, 'Numbers given back': the refusals and their numbers. Code 0 is success. Number 16 was for a binder whose symbol and set are bound
+-- already, which cannot be (request T-07); it stays unused.
 use Prim.Native.Nat.{ℕ}
 
 pub data Refusal : Type 0 where
@@ -29,8 +30,6 @@ pub data Refusal : Type 0 where
   noNameLeft : Refusal
   noScopeLeft : Refusal
   noBindingLeft : Refusal
-  -- the binder's symbol and set are bound already
-  boundAlready : Refusal
   -- something made has nesting over 64
   tooDeep : Refusal
   -- a 129th entry in progress
@@ -56,7 +55,6 @@ codeOf noPhase = 12
 codeOf noNameLeft = 13
 codeOf noScopeLeft = 14
 codeOf noBindingLeft = 15
-codeOf boundAlready = 16
 codeOf tooDeep = 17
 codeOf tooManyEntries = 18
 codeOf overBudget = 19

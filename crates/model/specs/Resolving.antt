@@ -1,6 +1,6 @@
 -- Document 01, 'Resolving': bindings, their order, and what an identifier's name is.
 use Prim.Native.Nat.{ℕ, zero, suc}
-use mathlib.Core.Bool.{Bool, true, false, _&&_, _||_}
+use mathlib.Core.Bool.{Bool, true, false, _&&_}
 use mathlib.Core.List.{List, [], _∷_}
 use lib.Dec.{eqb, ltb}
 use Rattle.model.specs.Choice.{if_then_else_}
@@ -15,14 +15,6 @@ pub record Bind : Type 0 where
 unfoldable pub bindBefore : Bind → Bind → Bool
 unfolding setBefore lessThen
 bindBefore a b = lessThen (ltb (a .symb) (b .symb)) (eqb (a .symb) (b .symb)) (setBefore (a .set) (b .set))
-
-unfoldable pub sameKey : Bind → Bind → Bool
-sameKey a b = eqb (a .symb) (b .symb) && eqb (a .set) (b .set)
-
-unfoldable pub bound : Bind → List Bind → Bool
-unfolding sameKey
-bound b [] = false
-bound b (c ∷ l) = sameKey b c || bound b l
 
 -- b put in its place in an ascending list
 unfoldable pub insert : Bind → List Bind → List Bind

@@ -7,11 +7,11 @@ use lib.Dec.{eqb, ltb, leb}
 use lib.ListN.{length}
 use Rattle.model.specs.Choice.{if_then_else_}
 use Rattle.model.specs.Limits.{mostNames, mostScopes, mostBindings, mostNesting}
-use Rattle.model.specs.Refusals.{Refusal, ambiguous, noRule, noNameLeft, noScopeLeft, noBindingLeft, boundAlready, tooDeep, overBudget}
+use Rattle.model.specs.Refusals.{Refusal, ambiguous, noRule, noNameLeft, noScopeLeft, noBindingLeft, tooDeep, overBudget}
 use Rattle.model.specs.Scopes.{Scopes, add, flip, prune}
 use Rattle.model.specs.Objects.{Sets, setAt, changeAt, Atom, symbol, Stx, atom, list, Stxs, nil, cons, size, nesting, addScope, flipScope, pruneScopes}
 use Rattle.model.specs.Trees.{Tree, tnesting}
-use Rattle.model.specs.Resolving.{Bind, bound, insert, Found, means, several, resolve}
+use Rattle.model.specs.Resolving.{Bind, insert, Found, means, several, resolve}
 
 -- units not yet charged; names and scopes reached: the next name is `names`, the next scope is `scopes + 1`; the bindings,
 -- ascending
@@ -112,13 +112,12 @@ freshScope = λ s.
 
 -- ---- bindings
 
+-- the symbol and set of a binder are not bound yet, since it has just received a fresh scope: `no-binder-is-bound` (crate `addresses`)
 unfoldable pub bind : Bind → Step (Unit {0})
-unfolding mostBindings bound insert
+unfolding mostBindings insert
 bind b = λ s.
     if ltb (length (s .binds)) mostBindings
-    then (if bound b (s .binds)
-    then no boundAlready (s .left)
-    else ok tt (record { left = s .left; names = s .names; scopes = s .scopes; binds = insert b (s .binds) }))
+    then ok tt (record { left = s .left; names = s .names; scopes = s .scopes; binds = insert b (s .binds) })
     else no noBindingLeft (s .left)
 
 unfoldable pub nameOf : Found → Step ℕ

@@ -9,7 +9,7 @@ use mathlib.Core.List.{List, [], _++_}
 use lib.Dec.{leb}
 use lib.ListN.{length, drop, replicate, length-append, length-drop, length-replicate}
 use Rattle.model.specs.Choice.{if_then_else_}
-use Rattle.model.specs.Refusals.{Refusal, unowned, tooLong, noPhase}
+use Rattle.model.specs.Refusals.{Refusal, layout, overLimit, unowned, wrongKind, smallTable, ambiguous, noMeaning, noRule, noSyntax, notApplicable, wrongArgument, noPhase, noNameLeft, noScopeLeft, noBindingLeft, tooDeep, tooManyEntries, overBudget, tooLong, codeOf}
 use Rattle.model.specs.Reading.{Read, got, fault, Image, readSyntax, readTreeImage, readImage}
 use Rattle.model.specs.Writing.{syntaxBytes, treeImageBytes}
 use Rattle.model.specs.Steps.{State, Out, ok, no}
@@ -32,6 +32,39 @@ unfolding answerOf outputAfter
 refusals-leave-the-output budget table output r u =
     lent-cases (λ (z : Result). (z .output ≡ output) × (z .answer .name ≡ 0) × (z .answer .len ≡ 0)) budget table output (refused r u)
     (refl, refl, refl) (refl, refl, refl)
+
+-- ---- number 16 is no refusal's, and no job answers it
+
+pub no-refusal-has-16 : (r : Refusal) → codeOf r ≡ 16 → ⊥
+no-refusal-has-16 layout e = omega arith
+no-refusal-has-16 overLimit e = omega arith
+no-refusal-has-16 unowned e = omega arith
+no-refusal-has-16 wrongKind e = omega arith
+no-refusal-has-16 smallTable e = omega arith
+no-refusal-has-16 ambiguous e = omega arith
+no-refusal-has-16 noMeaning e = omega arith
+no-refusal-has-16 noRule e = omega arith
+no-refusal-has-16 noSyntax e = omega arith
+no-refusal-has-16 notApplicable e = omega arith
+no-refusal-has-16 wrongArgument e = omega arith
+no-refusal-has-16 noPhase e = omega arith
+no-refusal-has-16 noNameLeft e = omega arith
+no-refusal-has-16 noScopeLeft e = omega arith
+no-refusal-has-16 noBindingLeft e = omega arith
+no-refusal-has-16 tooDeep e = omega arith
+no-refusal-has-16 tooManyEntries e = omega arith
+no-refusal-has-16 overBudget e = omega arith
+no-refusal-has-16 tooLong e = omega arith
+
+ending-not-16 : (e : Ending) → (answerOf e) .code ≡ 16 → ⊥
+unfolding answerOf
+ending-not-16 (refused r u) q = no-refusal-has-16 r q
+ending-not-16 (named n u) q = omega arith
+ending-not-16 (written b u) q = omega arith
+
+pub no-job-answers-16 : (budget : ℕ) (table output : List ℕ) (e : Ending) → (lent budget table output e) .answer .code ≡ 16 → ⊥
+no-job-answers-16 budget table output e =
+    lent-cases (λ (z : Result). z .answer .code ≡ 16 → ⊥) budget table output e (ending-not-16 e) (ending-not-16 (refused smallTable 0))
 
 -- ---- the table
 
