@@ -2,7 +2,7 @@
 use mathlib.Core.Path.{_≡_, refl}
 use Rattle.model.specs.Refusals as m
 use Rattle.refusals.specs.declared.Refusal.{Refusal}
-use Rattle.refusals.specs.declared.Refusal.the-variants.{Layout, OverLimit, Unowned, WrongKind, SmallTable, Ambiguous, NoMeaning, NoRule, NoSyntax, NotApplicable, WrongArgument, NoPhase, NoNameLeft, NoScopeLeft, NoBindingLeft, BoundAlready, TooDeep, TooManyEntries, OverBudget, TooLong}
+use Rattle.refusals.specs.declared.Refusal.the-variants.{Layout, OverLimit, Unowned, WrongKind, SmallTable, Ambiguous, NoMeaning, NoRule, NoSyntax, NotApplicable, WrongArgument, NoPhase, NoNameLeft, NoScopeLeft, NoBindingLeft, TooDeep, TooManyEntries, OverBudget, TooLong}
 use Rattle.refusals.specs.Refusing.{refusalOf, caseOf}
 
 pub case-back : (r : Refusal) → caseOf (refusalOf r) ≡ r
@@ -21,7 +21,6 @@ case-back NoPhase = refl
 case-back NoNameLeft = refl
 case-back NoScopeLeft = refl
 case-back NoBindingLeft = refl
-case-back BoundAlready = refl
 case-back TooDeep = refl
 case-back TooManyEntries = refl
 case-back OverBudget = refl
@@ -43,7 +42,6 @@ refusal-back m.noPhase = refl
 refusal-back m.noNameLeft = refl
 refusal-back m.noScopeLeft = refl
 refusal-back m.noBindingLeft = refl
-refusal-back m.boundAlready = refl
 refusal-back m.tooDeep = refl
 refusal-back m.tooManyEntries = refl
 refusal-back m.overBudget = refl

@@ -1,7 +1,7 @@
 -- The code's refusals as document 01's, and back.
 use Rattle.model.specs.Refusals as m
 use Rattle.refusals.specs.declared.Refusal.{Refusal}
-use Rattle.refusals.specs.declared.Refusal.the-variants.{Layout, OverLimit, Unowned, WrongKind, SmallTable, Ambiguous, NoMeaning, NoRule, NoSyntax, NotApplicable, WrongArgument, NoPhase, NoNameLeft, NoScopeLeft, NoBindingLeft, BoundAlready, TooDeep, TooManyEntries, OverBudget, TooLong}
+use Rattle.refusals.specs.declared.Refusal.the-variants.{Layout, OverLimit, Unowned, WrongKind, SmallTable, Ambiguous, NoMeaning, NoRule, NoSyntax, NotApplicable, WrongArgument, NoPhase, NoNameLeft, NoScopeLeft, NoBindingLeft, TooDeep, TooManyEntries, OverBudget, TooLong}
 
 abbrev pub refusalOf : Refusal → m.Refusal
 refusalOf Layout = m.layout
@@ -19,7 +19,6 @@ refusalOf NoPhase = m.noPhase
 refusalOf NoNameLeft = m.noNameLeft
 refusalOf NoScopeLeft = m.noScopeLeft
 refusalOf NoBindingLeft = m.noBindingLeft
-refusalOf BoundAlready = m.boundAlready
 refusalOf TooDeep = m.tooDeep
 refusalOf TooManyEntries = m.tooManyEntries
 refusalOf OverBudget = m.overBudget
@@ -41,7 +40,6 @@ caseOf m.noPhase = NoPhase
 caseOf m.noNameLeft = NoNameLeft
 caseOf m.noScopeLeft = NoScopeLeft
 caseOf m.noBindingLeft = NoBindingLeft
-caseOf m.boundAlready = BoundAlready
 caseOf m.tooDeep = TooDeep
 caseOf m.tooManyEntries = TooManyEntries
 caseOf m.overBudget = OverBudget

@@ -80,19 +80,6 @@ module _ {n : ℕ} {a b : List ℕ} {i : ℕ} (w : ℕ) where
   unfolding model.within
   within-all v h s t = eq-eqb _ _ (sym (by-words bitAnd refl and-block w n a a b 0 s t (λ k g. sym (v .held k (omega arith)))))
 
-  pub same-all : Each (λ x y. x ≡ y) n a b i → n ≤ i → eqb (wordsFrom w n a 0) (wordsFrom w n b 0) ≡ true
-  same-all v h = eq-eqb _ _ (words-same w n a b 0 0 (λ k g. rw (zero-add k) (v .held k (omega arith))))
-
-  -- of two numbers that are equal, so are the words
-  words-equal : i < n → Words w a → Words w b → wordsFrom w n a 0 ≡ wordsFrom w n b 0 → getD a i 0 ≡ getD b i 0
-  words-equal h s t e =
-      sym (word-at w i (n - suc i) a s)
-      ∙ ap (λ (x : ℕ). x / 2 ^ (i * w) % 2 ^ w) (ap (λ (m : ℕ). wordsFrom w m a 0) (sym (above n i h)) ∙ e ∙ ap (λ (m : ℕ). wordsFrom w m b 0) (above n i h))
-      ∙ word-at w i (n - suc i) b t
-
-  pub same-not : i < n → Words w a → Words w b → (getD a i 0 ≡ getD b i 0 → ⊥) → eqb (wordsFrom w n a 0) (wordsFrom w n b 0) ≡ false
-  same-not h s t d = ne-eqb _ _ (λ e. d (words-equal h s t e))
-
   pub within-not : i < n → Words w a → Words w b → (bitAnd (getD a i 0) (getD b i 0) ≡ getD a i 0 → ⊥) → model.within (wordsFrom w n a 0) (wordsFrom w n b 0) ≡ false
   unfolding model.within
   within-not h s t d = ne-eqb _ _ (λ e. d (go e))

@@ -161,19 +161,6 @@ impl ScopeSet {
         n
     }
 
-    pub fn same(self, other: ScopeSet) -> bool
-        ensures { λ r. ⌜ r ≡ eqb (scopesOf self) (scopesOf other) ⌝ }
-    {
-        let mut i: usize = 0;
-        while i < ScopeSet::WORDS {
-            if self.words[i] != other.words[i] {
-                return false;
-            }
-            i += 1;
-        }
-        true
-    }
-
     // A member has digit q of word i or a higher one.
     fn reaches(self, i: usize, q: u32) -> bool
         requires { ⌜ (i < setWords) × (q < 64) ⌝ }

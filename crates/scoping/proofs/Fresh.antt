@@ -13,12 +13,12 @@ use Rattle.model.specs.Refusals as ref
 use Rattle.model.specs.Scopes.{add}
 use Rattle.model.specs.Objects.{size, Sets, setAt, changeAt, Atom, symbol, number, point, prim, rung, tagOf, contentOf, Stx, atom, list, addScope, flipScope, onSets}
 use Rattle.model.specs.Trees.{stx}
-use Rattle.model.specs.Resolving.{Bind, bound, insert}
+use Rattle.model.specs.Resolving.{Bind, insert}
 use Rattle.model.specs.Steps as ms
 use Rattle.model.specs.Steps.{ok, no, after, charge, freshName, freshScope, bind}
 use Rattle.model.specs.Expanding as m
 use Rattle.model.specs.Expanding.{bindFresh}
-use Rattle.refusals.specs.declared.Refusal.the-variants.{NoNameLeft, NoScopeLeft, NoBindingLeft, BoundAlready}
+use Rattle.refusals.specs.declared.Refusal.the-variants.{NoNameLeft, NoScopeLeft, NoBindingLeft}
 use Rattle.scopes.specs.Sets.{scopesOf, Declared}
 use Rattle.scopes.specs.declared.Name.{Name}
 use Rattle.scopes.specs.declared.Scope.{Scope}
@@ -159,24 +159,19 @@ module _ (st : List ℕ) (s : State) (b : Binding) where
     pub put-fits : storeSize ≤ length st → s .bindings * bindingSize + bindingSize ≤ length st
     put-fits w = omega arith
 
-    module _ {z : Bool} (e : z ≡ bound (bindOf b) (bindsOf st (s .bindings))) where
-      pub put-bound : z ≡ true → Puts st st s b (charged.Refused (record { refusal = BoundAlready; units = s .units }))
-      unfolding bind mostBindings
-      put-bound y = record { means = λ l. stops (record { refusal = BoundAlready; units = s .units }) (rw (room-yet, sym e ∙ y) refl) }
-
-      pub put-done : {st1 : List ℕ} → z ≡ false → bindsOf st1 (s .bindings + 1) ≡ insert (bindOf b) (bindsOf st (s .bindings))
-          → Puts st st1 s b (charged.Paid (record { top = s .top; units = s .units; names = s .names; scopes = s .scopes; bindings = s .bindings + 1 }))
-      unfolding bind mostBindings
-      put-done {st1} y f =
-          let t : State = record { top = s .top; units = s .units; names = s .names; scopes = s .scopes; bindings = s .bindings + 1 } in
-          record {
-            means = λ l. gives t (record {
-              value = tt;
-              is = rw (room-yet, sym e ∙ y, f) refl;
-              shown = record { few = omega arith };
-              later = record { kept = later-refl l s .kept; grows = omega arith; fits = omega arith; spent = omega arith };
-            });
-          }
+    pub put-done : {st1 : List ℕ} → bindsOf st1 (s .bindings + 1) ≡ insert (bindOf b) (bindsOf st (s .bindings))
+        → Puts st st1 s b (charged.Paid (record { top = s .top; units = s .units; names = s .names; scopes = s .scopes; bindings = s .bindings + 1 }))
+    unfolding bind mostBindings
+    put-done {st1} f =
+        let t : State = record { top = s .top; units = s .units; names = s .names; scopes = s .scopes; bindings = s .bindings + 1 } in
+        record {
+          means = λ l. gives t (record {
+            value = tt;
+            is = rw (room-yet, f) refl;
+            shown = record { few = omega arith };
+            later = record { kept = later-refl l s .kept; grows = omega arith; fits = omega arith; spent = omega arith };
+          });
+        }
 
 -- ---- a binder
 
@@ -451,7 +446,6 @@ pub ruleset laws = (
   put-full,
   put-holds,
   put-fits,
-  put-bound,
   put-done,
   bind-copy-ready,
   bind-wide,

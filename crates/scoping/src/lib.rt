@@ -140,12 +140,6 @@ fn put(store: &mut [u64], s: State, b: Binding) -> Charged
         });
     }
     let count = n as usize;
-    if bindings::bound(store, count, b) {
-        return Charged::Refused(Stop {
-            refusal: Refusal::BoundAlready,
-            units: s.units,
-        });
-    }
     bindings::insert(store, count, b);
     let mut t = s;
     t.bindings = n + 1;

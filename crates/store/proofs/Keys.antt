@@ -1,12 +1,12 @@
 -- Two bindings compared by symbol first, then by set.
 use mathlib.Core.Path.{_≡_, refl, sym, ap, _∙_}
-use mathlib.Core.Bool.{Bool, true, false, _&&_}
+use mathlib.Core.Bool.{Bool, true, false}
 use Prim.Native.Nat.{ℕ}
 use native.Mathlib.Omega.{arith}
-use lib.Dec.{eqb, ltb}
+use lib.Dec.{ltb}
 use borrow.Author.Tests.{eq-eqb, ne-eqb, le-ltb}
 use Rattle.model.specs.Scopes.{lessThen, setBefore}
-use Rattle.model.specs.Resolving.{Bind, bindBefore, sameKey}
+use Rattle.model.specs.Resolving.{Bind, bindBefore}
 
 differs : (t r : Bool) → t ≡ lessThen t false r
 unfolding lessThen
@@ -21,11 +21,3 @@ module _ (a b : Bind) where
   pub before-alike : a .symb ≡ b .symb → setBefore (a .set) (b .set) ≡ bindBefore a b
   unfolding bindBefore lessThen
   before-alike e = rw (le-ltb (a .symb) (b .symb) (omega arith), eq-eqb (a .symb) (b .symb) e)
-
-  pub key-differs : (a .symb ≡ b .symb → ⊥) → false ≡ sameKey a b
-  unfolding sameKey
-  key-differs h = rw (ne-eqb (a .symb) (b .symb) h)
-
-  pub key-alike : a .symb ≡ b .symb → eqb (a .set) (b .set) ≡ sameKey a b
-  unfolding sameKey
-  key-alike e = rw (eq-eqb (a .symb) (b .symb) e)

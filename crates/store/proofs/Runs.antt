@@ -1,7 +1,7 @@
 -- Runs of bindings in a store, by its words.
 use mathlib.Core.Path.{_≡_, refl, sym, ap, ap₂, _∙_, subst}
 use mathlib.Core.Logic.{⊎-elim}
-use mathlib.Core.Bool.{Bool, true, false, _||_}
+use mathlib.Core.Bool.{Bool, true, false}
 use mathlib.Core.List.{List, [], _∷_, _++_, append-assoc}
 use Prim.Native.Nat.{ℕ, zero, suc, _+_, _-_, _*_, _%_, _≤_, _<_}
 use native.Mathlib.Nat.{mod-eq-of-lt, eq-or-lt-of-le}
@@ -11,7 +11,7 @@ use lib.Seq.{sets, length-sets, getD-set-same, getD-set-other}
 use Rattle.model.specs.Limits.{mostBindings}
 use Rattle.model.specs.Choice.{if_then_else_}
 use Rattle.model.specs.Scopes.{Scopes}
-use Rattle.model.specs.Resolving.{Bind, bindBefore, sameKey, bound, insert}
+use Rattle.model.specs.Resolving.{Bind, bindBefore, insert}
 use Rattle.scopes.specs.Sets.{wordsFrom, setWords}
 use Rattle.scopes.proofs.Stores.{stores-before, stores-after, stores-at}
 use Rattle.scopes.proofs.Words.{words-same}
@@ -86,25 +86,6 @@ run-step l n i h =
 pub run-end : (l : List ℕ) (n i : ℕ) → n ≤ i → bindsFrom l i (n - i) ≡ []
 unfolding bindsFrom
 run-end l n i h = ap (bindsFrom l i) (let e : n - i ≡ 0 = omega arith in e)
-
--- ---- bound
-
-pub bound-start : (b : Bind) (l : List ℕ) (n : ℕ) → bound b (bindsOf l n) ≡ bound b (bindsFrom l 0 (n - 0))
-unfolding bindsOf
-bound-start b l n = ap (λ (k : ℕ). bound b (bindsFrom l 0 k)) (let e : n ≡ n - 0 = omega arith in e)
-
-module _ (b : Bind) (l : List ℕ) (n i : ℕ) (h : i < n) where
-  pub bound-here : sameKey b (bindAt l i) ≡ true → bound b (bindsFrom l i (n - i)) ≡ true
-  unfolding bound
-  bound-here e = ap (bound b) (run-step l n i h) ∙ ap (λ (t : Bool). t || bound b (bindsFrom l (i + 1) (n - (i + 1)))) e
-
-  pub bound-on : sameKey b (bindAt l i) ≡ false → bound b (bindsFrom l i (n - i)) ≡ bound b (bindsFrom l (i + 1) (n - (i + 1)))
-  unfolding bound
-  bound-on e = ap (bound b) (run-step l n i h) ∙ ap (λ (t : Bool). t || bound b (bindsFrom l (i + 1) (n - (i + 1)))) e
-
-pub bound-end : (b : Bind) (l : List ℕ) (n i : ℕ) → n ≤ i → bound b (bindsFrom l i (n - i)) ≡ false
-unfolding bound
-bound-end b l n i h = ap (bound b) (run-end l n i h)
 
 -- ---- the place of a binding: it is not before the first i
 

@@ -31,18 +31,6 @@ impl Binding {
         let set = self.set;
         set.before(other.set)
     }
-
-    pub fn same_key(self, other: Binding) -> bool
-        ensures { λ r. ⌜ r ≡ model.sameKey (bindOf self) (bindOf other) ⌝ }
-    {
-        let mine = self.symbol.0;
-        let its = other.symbol.0;
-        if mine != its {
-            return false;
-        }
-        let set = self.set;
-        set.same(other.set)
-    }
 }
 
 fn half(word: u64) -> u32
@@ -84,21 +72,6 @@ pub fn put(store: &mut [u64], i: usize, b: Binding)
     store[at + 5] = set.words[3];
 }
 
-// Whether the symbol and set of b are bound already by one of the first count.
-pub fn bound(store: &[u64], count: usize, b: Binding) -> bool
-    requires { ⌜ count * bindingSize ≤ length (now store) ⌝ }
-    ensures { λ r. ⌜ r ≡ model.bound (bindOf b) (bindsOf (now (store .entry)) count) ⌝ }
-{
-    let mut i = 0;
-    while i < count {
-        if b.same_key(get(store, i)) {
-            return true;
-        }
-        i += 1;
-    }
-    false
-}
-
 // The place of b among the first count: that of the first binding that it comes before.
 fn place(store: &[u64], count: usize, b: Binding) -> usize
     requires { ⌜ count * bindingSize ≤ length (now store) ⌝ }
@@ -126,8 +99,7 @@ fn shift(store: &mut [u64], lo: usize, hi: usize)
     }
 }
 
-// b put in its place among the first count, which are one more then. That there is room for it and that its symbol and set
-// are not bound yet is for the caller to judge.
+// b put in its place among the first count, which are one more then. That there is room for it is for the caller to judge.
 pub fn insert(store: &mut [u64], count: usize, b: Binding)
     requires { ⌜ count * bindingSize + bindingSize ≤ length (now store) ⌝ }
     ensures { λ r. ⌜ bindsOf (now (store .exit)) (count + 1) ≡ model.insert (bindOf b) (bindsOf (now (store .entry)) count) ⌝ }

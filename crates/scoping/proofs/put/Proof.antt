@@ -9,8 +9,11 @@ returns c = search (laws, needs)
 cast-count : tie.Need-cast-count
 cast-count c = search (laws, needs)
 
-bound-requires : tie.Need-bound-requires
-bound-requires c κs = search (laws, needs)
+insert-requires : tie.Need-insert-requires
+insert-requires c κs = search (laws, needs)
+
+add-t : tie.Need-add-t
+add-t c = search (laws, needs)
 
 same-length : tie.Need-same-length
 same-length c = search (laws, needs)
@@ -18,28 +21,13 @@ same-length c = search (laws, needs)
 returns-2 : tie.Need-returns-2
 returns-2 c = search (laws, needs)
 
-insert-requires : tie.Need-insert-requires
-insert-requires c κs = search (laws, needs)
-
-add-t : tie.Need-add-t
-add-t c = search (laws, needs)
-
-same-length-2 : tie.Need-same-length-2
-same-length-2 c = search (laws, needs)
-
-returns-3 : tie.Need-returns-3
-returns-3 c = search (laws, needs)
-
 pub put-spec : {M : Type 1} → statement M
 put-spec =
     tie.close
     (tie.spec
     returns
     cast-count
-    bound-requires
-    same-length
-    returns-2
     insert-requires
     add-t
-    same-length-2
-    returns-3)
+    same-length
+    returns-2)
