@@ -1,4 +1,4 @@
-"""Edge cases of document 01, as requests T-03 and T-09 amend it, worked out by hand.
+"""Edge cases of document 01, as requests T-03, T-07 and T-09 amend it, worked out by hand.
 
 Each case is a reason, a call and the answer that document 01 asks for. The
 notation is the one of image.py. `steps` walks through the charges of a call
@@ -688,6 +688,35 @@ case("expand: the inner of two binders", "expand", syntax_image("(lambda x (lamb
                          bindings=[("x", [1], 5), ("x", [1, 2], 6)]))
 case("expand: a variable has no meaning outside its lambda", "expand",
      syntax_image("((lambda x x) x)"), 7, 6 + 1 + 4 + 1)
+
+# A binder is never bound already: the image may bind its symbol and set, but not with the fresh scope
+# that the binder gets first (request T-07).
+case("expand: what was expanded is expanded again", "expand", IDENTITY_EXPANDED, 0, 8,
+     result=syntax_image("(lambda x{1,2} x{1,2})", made=2, scopes=2,
+                         bindings=[("x", [1], 5), ("x", [1, 2], 6)]))
+case("expand: what was expanded is expanded again, at phase 1", "expand",
+     syntax_image("(lambda x{|1} x{|1})", made=1, scopes=1, bindings=[("x", [1], 5)]), 0, 8, phase=1,
+     result=syntax_image("(lambda x{|1,2} x{|1,2})", made=2, scopes=2,
+                         bindings=[("x", [1], 5), ("x", [1, 2], 6)]))
+case("expand: a let-syntax whose word and set are bound in the image", "expand",
+     syntax_image("(let-syntax m{1} 1 1)", scopes=1, bindings=[("m", [1], 4)]), 0, 5 + 1 + 1 + 3 + 1 + 1,
+     result=syntax_image("1{2}", words=["m"], made=1, scopes=2,
+                         bindings=[("m", [1], 4), ("m", [1, 2], 5)]))
+SUBSETS = [("x", s, 4) for s in ([], [1], [1, 2], [1, 2, 3], [1, 3], [2], [2, 3], [3])]
+case("expand: the image binds the binder's symbol with every set there is", "expand",
+     syntax_image("(lambda x{1,2,3} x{1,2,3})", scopes=3, bindings=SUBSETS), 0, 8,
+     result=syntax_image("(lambda x{1,2,3,4} x{1,2,3,4})", made=1, scopes=4,
+                         bindings=SUBSETS + [("x", [1, 2, 3, 4], 5)]))
+ALL_BUT_LAST = "{" + ",".join(map(str, EVERY[:-1])) + "}"
+case("expand: the binder has all scopes but the last, and is bound with them", "expand",
+     syntax_image(f"(lambda x{ALL_BUT_LAST} x{ALL_BUT_LAST})", scopes=255,
+                  bindings=[("x", EVERY[:-1], 4)]), 0, 8,
+     result=syntax_image(f"(lambda x{EVERY_SCOPE} x{EVERY_SCOPE})", made=1, scopes=256,
+                         bindings=[("x", EVERY[:-1], 4), ("x", EVERY, 5)]))
+case("expand: two binders the same, side by side", "expand",
+     syntax_image("((lambda x x) (lambda x x))"), 0, 9 + 1 + 4 + 4,
+     result=syntax_image("((lambda x{1} x{1}) (lambda x{2} x{2}))", made=2, scopes=2,
+                         bindings=[("x", [1], 5), ("x", [2], 6)]))
 
 # ==== expanding: quote and syntax ====
 

@@ -61,7 +61,9 @@ static bool fresh_scope(Work *work, uint32_t *scope)
     return true;
 }
 
-/* The bindings stay ascending. */
+/* The bindings stay ascending. None is the same as the new one: its set holds
+   a scope just made, which neither the image's own bindings have nor those made
+   before it. */
 static bool bind(Work *work, Binding binding)
 {
     Image *image = work->image;
@@ -70,12 +72,8 @@ static bool bind(Work *work, Binding binding)
         return false;
     }
     uint32_t place = image->binding_count;
-    while (place > 0 && compare_bindings(&image->bindings[place - 1], &binding) >= 0)
+    while (place > 0 && compare_bindings(&image->bindings[place - 1], &binding) > 0)
         place--;
-    if (place < image->binding_count && compare_bindings(&image->bindings[place], &binding) == 0) {
-        refuse(work, BOUND_ALREADY);
-        return false;
-    }
     for (uint32_t i = image->binding_count; i > place; i--)
         image->bindings[i] = image->bindings[i - 1];
     image->bindings[place] = binding;

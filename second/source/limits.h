@@ -1,5 +1,5 @@
-/* The limits and codes of document 01 as request T-09 amends it, each with its
-   number. */
+/* The limits and codes of document 01 as requests T-07 and T-09 amend it, each
+   with its number. */
 #ifndef LIMITS_H
 #define LIMITS_H
 
@@ -42,7 +42,8 @@ typedef enum {
     NO_NAME_ROOM = 13,
     NO_SCOPE_ROOM = 14,
     NO_BINDING_ROOM = 15,
-    BOUND_ALREADY = 16,
+    /* 16 was for a binder bound already, which cannot be. It stays unused for
+       ever, so that it never means two things. */
     TOO_NESTED = 17,
     TOO_MANY_ENTRIES = 18,
     CHARGE_TOO_LARGE = 19,
