@@ -49,7 +49,7 @@ enum meirhuppa_code {
     MEIRHUPPA_NO_NAME_LEFT = 13,     /* no name left */
     MEIRHUPPA_NO_SCOPE_LEFT = 14,    /* no scope left */
     MEIRHUPPA_NO_BINDING_LEFT = 15,  /* no binding room left */
-    MEIRHUPPA_BOUND_ALREADY = 16,    /* the binder's symbol and set are bound already */
+    /* 16 is given by no job and stays unused */
     MEIRHUPPA_TOO_DEEP = 17,         /* something made has nesting over 64 */
     MEIRHUPPA_TOO_MANY_ENTRIES = 18, /* a 129th entry in progress */
     MEIRHUPPA_OVER_BUDGET = 19,      /* a charge is larger than what remains */
@@ -61,6 +61,34 @@ enum {
     MEIRHUPPA_WORDS_PER_UNIT = 40,
     MEIRHUPPA_MOST_IMAGE = 65536
 };
+
+/* What a code means, in words, for people. */
+static inline const char *meirhuppa_meaning(uint32_t code)
+{
+    switch (code) {
+    case MEIRHUPPA_SUCCESS: return "done";
+    case MEIRHUPPA_LAYOUT: return "the image breaks the layout";
+    case MEIRHUPPA_OVER_LIMIT: return "a count, value or nesting is over its limit";
+    case MEIRHUPPA_UNOWNED: return "a variable has no enclosing function of its name";
+    case MEIRHUPPA_WRONG_KIND: return "the image is not of the kind that the job takes";
+    case MEIRHUPPA_SMALL_TABLE: return "the budget is over 4,096, or the table too small for it";
+    case MEIRHUPPA_AMBIGUOUS: return "several bindings fit and none contains the others";
+    case MEIRHUPPA_NO_MEANING: return "a name has no meaning";
+    case MEIRHUPPA_NO_RULE: return "a form has no rule";
+    case MEIRHUPPA_NO_SYNTAX: return "a macro gave back no syntax object";
+    case MEIRHUPPA_NOT_APPLICABLE: return "what is applied takes no arguments, or not that many";
+    case MEIRHUPPA_WRONG_ARGUMENT: return "a primitive's argument is of the wrong kind";
+    case MEIRHUPPA_NO_PHASE: return "the phase is over 2";
+    case MEIRHUPPA_NO_NAME_LEFT: return "no name is left";
+    case MEIRHUPPA_NO_SCOPE_LEFT: return "no scope is left";
+    case MEIRHUPPA_NO_BINDING_LEFT: return "no room for a binding is left";
+    case MEIRHUPPA_TOO_DEEP: return "something is nested deeper than 64";
+    case MEIRHUPPA_TOO_MANY_ENTRIES: return "more than 128 entries are in progress";
+    case MEIRHUPPA_OVER_BUDGET: return "the budget is used up";
+    case MEIRHUPPA_TOO_LONG: return "the result is longer than the output, or than 65,536 bytes";
+    default: return "unknown code";
+    }
+}
 
 /* The name of the identifier that a syntax image holds, at a phase. */
 meirhuppa_answer meirhuppa_resolve(const uint8_t *image, size_t image_length, uint32_t phase, uint32_t budget,

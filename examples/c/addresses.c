@@ -78,7 +78,8 @@ static void skip_head(void)
 
 static int refused(const char *job, meirhuppa_answer answer)
 {
-    fprintf(stderr, "%s: refused with code %u after %u units\n", job, (unsigned)answer.code, (unsigned)answer.units);
+    fprintf(stderr, "%s: refused with code %u after %u units: %s\n", job, (unsigned)answer.code, (unsigned)answer.units,
+            meirhuppa_meaning(answer.code));
     return 1;
 }
 

@@ -20,54 +20,88 @@ pub struct Refusal {
     pub units: u32,
 }
 
-/// The refusals, numbered as document 01 numbers them.
+/// The refusals of document 01. Number 16 is none of them and stays unused.
 #[derive(Clone, Copy, Debug, PartialEq, Eq)]
-#[repr(u32)]
+#[non_exhaustive]
 pub enum Code {
-    Layout = 1,
+    /// 1: the image breaks the layout.
+    Layout,
+    /// 2: a count, value or nesting is over its limit.
     OverLimit,
+    /// 3: a variable of the tree has no enclosing function of its name.
     Unowned,
+    /// 4: the image's kind is not the job's.
     WrongKind,
+    /// 5: budget over 4,096, or too few table words for it.
     SmallTable,
+    /// 6: several bindings fit and none contains the others.
     Ambiguous,
+    /// 7: an identifier whose name has no meaning.
     NoMeaning,
+    /// 8: a form with no rule.
     NoRule,
+    /// 9: a macro use evaluates to no syntax object.
     NoSyntax,
+    /// 10: what is applied is no function or primitive, or the argument count is wrong.
     NotApplicable,
+    /// 11: a primitive's argument is of the wrong kind.
     WrongArgument,
+    /// 12: phase over 2.
     NoPhase,
+    /// 13: no name left.
     NoNameLeft,
+    /// 14: no scope left.
     NoScopeLeft,
+    /// 15: no binding room left.
     NoBindingLeft,
-    BoundAlready,
+    /// 17: something made has nesting over 64.
     TooDeep,
+    /// 18: a 129th entry in progress.
     TooManyEntries,
+    /// 19: a charge is larger than what remains.
     OverBudget,
+    /// 20: the result is longer than the output or 65,536 bytes.
     TooLong,
+    /// A number that this crate has no name for.
+    Unknown(u32),
 }
 
-const CODES: [Code; 20] = [
-    Code::Layout,
-    Code::OverLimit,
-    Code::Unowned,
-    Code::WrongKind,
-    Code::SmallTable,
-    Code::Ambiguous,
-    Code::NoMeaning,
-    Code::NoRule,
-    Code::NoSyntax,
-    Code::NotApplicable,
-    Code::WrongArgument,
-    Code::NoPhase,
-    Code::NoNameLeft,
-    Code::NoScopeLeft,
-    Code::NoBindingLeft,
-    Code::BoundAlready,
-    Code::TooDeep,
-    Code::TooManyEntries,
-    Code::OverBudget,
-    Code::TooLong,
+const NUMBERED: [(u32, Code); 19] = [
+    (1, Code::Layout),
+    (2, Code::OverLimit),
+    (3, Code::Unowned),
+    (4, Code::WrongKind),
+    (5, Code::SmallTable),
+    (6, Code::Ambiguous),
+    (7, Code::NoMeaning),
+    (8, Code::NoRule),
+    (9, Code::NoSyntax),
+    (10, Code::NotApplicable),
+    (11, Code::WrongArgument),
+    (12, Code::NoPhase),
+    (13, Code::NoNameLeft),
+    (14, Code::NoScopeLeft),
+    (15, Code::NoBindingLeft),
+    (17, Code::TooDeep),
+    (18, Code::TooManyEntries),
+    (19, Code::OverBudget),
+    (20, Code::TooLong),
 ];
+
+impl Code {
+    /// The refusal with document 01's number.
+    pub fn of(number: u32) -> Code {
+        NUMBERED.iter().find(|entry| entry.0 == number).map_or(Code::Unknown(number), |entry| entry.1)
+    }
+
+    /// Document 01's number.
+    pub fn number(self) -> u32 {
+        match self {
+            Code::Unknown(number) => number,
+            named => NUMBERED.iter().find(|entry| entry.1 == named).map_or(0, |entry| entry.0),
+        }
+    }
+}
 
 /// Words of the table per unit of budget.
 pub const WORDS_PER_UNIT: usize = 40;
@@ -125,7 +159,7 @@ mod library {
         if raw.code == 0 {
             return Ok(super::Answer { units: raw.units, name: raw.name, length: raw.length as usize });
         }
-        Err(super::Refusal { code: super::CODES[raw.code as usize - 1], units: raw.units })
+        Err(super::Refusal { code: super::Code::of(raw.code), units: raw.units })
     }
 }
 
