@@ -1,110 +1,155 @@
--- Building so many things, whichever they are: one law for each way out.
-use mathlib.Core.Path.{_≡_, ap, _∙_, subst}
+-- Building so many things, whichever they are: what the loop knows, and one law for each of its needs.
+use mathlib.Core.Path.{_≡_, refl, sym, ap, _∙_, subst}
 use mathlib.Core.List.{List}
-use Prim.Native.Nat.{ℕ, _+_, _-_, _*_, _<_}
+use Prim.Native.Nat.{ℕ, _+_, _-_, _*_, _≤_, _<_}
 use native.Mathlib.Omega.{arith}
 use lib.ListN.{length, drop}
-use Rattle.model.specs.Trees.{Tree, Trees, loadSize}
+use Rattle.model.specs.Trees.{Tree, Trees, tnil, tcons, loadSize}
+use Rattle.table.specs.Sizes.{cellSize, turnedSize}
 use Rattle.table.specs.Words.{Same}
 use Rattle.table.proofs.Laws.{same-refl, same-trans}
 use Rattle.things.specs.Making.{Linkable, Linked}
-use Rattle.things.specs.Rep.{is-none}
-use Rattle.things.proofs.Frame.{carry}
+use Rattle.things.specs.Rep.{RepP, is-none}
+use Rattle.things.specs.Turning.{turnOnto, counts, Turnable, Turned}
+use Rattle.things.proofs.Frame.{carryP}
+use Rattle.things.proofs.Turning.{count-more, turn-more}
+use Rattle.builder.specs.Fronts.{Within}
 use Rattle.builder.specs.declared.Built.{Built}
 use Rattle.builder.specs.Building.{loadSizes, Judged, JudgedAll, Stands, Builds, BuildsAll}
 use Rattle.builder.proofs.Inverting.{Part, Ends, Steps, object-steps, objects-end, tree-steps, trees-end}
 use Rattle.builder.proofs.Sizes.{loads-none, loads-cons}
 
-pub none-builds : {RP : ℕ → List ℕ → Trees → List ℕ → Type 0} {n : ℕ} {l : List ℕ} {top : ℕ} {image : List ℕ} {at scopes : ℕ} → Ends RP → n ≡ 0 → JudgedAll RP n l top image at scopes
-    → BuildsAll RP n l l top image at (record { at = 0; top = top; past = at })
-none-builds {l = l} {top = top} S h s =
-    record {
-      kept = same-refl top l;
-      rises = omega arith;
-      means = λ ts rest x.
-          let q = S .none h x in
-          rw (q .0) (record {
-            shown = is-none;
-            grows = omega (arith, loads-none);
-            left = record { moved = omega arith; inside = s .room .place .inside; is = q .1 };
-          });
-    }
+-- of ts the things `todo` still stand in the image, and `turned` is what was built of the others, the last first
+pub record Half (RP : ℕ → List ℕ → Trees → List ℕ → Type 0) (l : List ℕ) (top end : ℕ) (image : List ℕ) (past left turned : ℕ) (ts : Trees) (rest : List ℕ) : Type 0 where
+  pub todo : Trees
+  pub done : Trees
+  pub read : RP left (drop past image) todo rest
+  pub made : RepP l end turned done
+  pub whole : turnOnto done todo ≡ ts
+  pub room : end + turnedSize * loadSizes todo + cellSize * counts done ≤ top + turnedSize * loadSizes ts
 
-module _ {R : List ℕ → Tree → List ℕ → Type 0} {RP : ℕ → List ℕ → Trees → List ℕ → Type 0} (S : Steps R RP) {n : ℕ} {l : List ℕ} {top : ℕ} {image : List ℕ} {at : ℕ} where
-  module _ (h : ¬ (n ≡ 0)) where
-    module _ {scopes : ℕ} (s : JudgedAll RP n l top image at scopes) where
-      part : Part R RP n (drop at image) (s .thing) (s .rest)
-      part = S .some h (s .read)
+pub record Going (RP : ℕ → List ℕ → Trees → List ℕ → Type 0) (count : ℕ) (l : List ℕ) (top : ℕ) (image : List ℕ) (at : ℕ) (l′ : List ℕ) (end past left turned : ℕ) : Type 0 where
+  pub kept : Same top l l′
+  pub grows : top ≤ end
+  pub long : length l′ ≡ length l
+  pub from : at ≤ past
+  pub place : Within image past
+  pub means : (ts : Trees) (rest : List ℕ) → RP count (drop at image) ts rest → Half RP l′ top end image past left turned ts rest
 
-      sum : loadSizes (s .thing) ≡ loadSize (part .first) + loadSizes (part .others)
+pub going-start : {RP : ℕ → List ℕ → Trees → List ℕ → Type 0} {count : ℕ} {l : List ℕ} {top : ℕ} {image : List ℕ} {at scopes : ℕ} → JudgedAll RP count l top image at scopes
+    → Going RP count l top image at l top at count 0
+unfolding turnOnto counts
+going-start {l = l} {top = top} s = record {
+  kept = same-refl top l;
+  grows = omega arith;
+  long = refl;
+  from = omega arith;
+  place = s .room .place;
+  means = λ ts rest x. record { todo = ts; done = tnil; read = x; made = is-none; whole = refl; room = omega arith };
+}
+
+module _ {R : List ℕ → Tree → List ℕ → Type 0} {RP : ℕ → List ℕ → Trees → List ℕ → Type 0} (S : Steps R RP) {count : ℕ} {l : List ℕ} {top : ℕ} {image : List ℕ} {at : ℕ} {l1 : List ℕ} {end past left turned : ℕ}
+    (g : Going RP count l top image at l1 end past left turned) where
+  module _ {scopes : ℕ} (s : JudgedAll RP count l top image at scopes) where
+    half : Half RP l1 top end image past left turned (s .thing) (s .rest)
+    half = g .means (s .thing) (s .rest) (s .read)
+
+    module _ (h : ¬ (left ≡ 0)) where
+      part : Part R RP left (drop past image) (half .todo) (s .rest)
+      part = S .some h (half .read)
+
+      sum : loadSizes (half .todo) ≡ loadSize (part .first) + loadSizes (part .others)
       sum = ap loadSizes (part .is) ∙ loads-cons (part .first) (part .others)
 
-      pub first-judged : Judged R l top image at scopes
-      first-judged =
+      pub one-judged : Judged R l1 end image past scopes
+      one-judged =
           record {
             thing = part .first;
             rest = part .between;
             read = part .first-read;
-            room = record { fits = omega (arith, s .room .fits, sum); small = s .room .small; low = s .room .low; place = s .room .place; few = s .room .few };
+            room = record {
+              fits = omega (arith, s .room .fits, sum, half .room, g .long);
+              small = omega (arith, s .room .small, g .long);
+              low = omega (arith, s .room .low, g .grows);
+              place = g .place;
+              few = s .room .few;
+            };
           }
 
-      module _ {l1 : List ℕ} {r : Built} (b : Builds R l l1 top image at (at + 1) r) where
-        built : Stands l1 top image (at + 1) r (part .first) (part .between)
-        built = b .means (part .first) (part .between) (part .first-read)
+      pub one-later : {t : ℕ} → (length image - at) * 3 + 1 ≡ t → (length image - past) * 3 < t
+      one-later z = omega (arith, g .from, g .place .inside)
 
-        pub others-later : {t : ℕ} → (length image - at) * 3 + 1 ≡ t → (length image - r .past) * 3 + 1 < t
-        others-later z = omega (arith, built .left .moved, built .left .inside)
+      pub one-linkable : {l2 : List ℕ} {r : Built} → Builds R l1 l2 end image past (past + 1) r → length l2 ≡ length l1 → Linkable l2 (r .top) (r .at) turned
+      one-linkable {l2} {r} b q =
+          let w = b .means (part .first) (part .between) (part .first-read) in
+          record {
+            thing = part .first;
+            others = half .done;
+            shown = w .shown;
+            shown-others = carryP (half .made) (b .kept) (b .rises);
+            room = record {
+              fits = omega (arith, s .room .fits, sum, half .room, w .grows, g .long, q);
+              small = omega (arith, s .room .small, g .long, q);
+              low = omega (arith, s .room .low, g .grows, b .rises);
+            };
+          }
 
-        others : RP (n - 1) (drop (r .past) image) (part .others) (s .rest)
-        others = subst (λ (u : List ℕ). RP (n - 1) u (part .others) (s .rest)) (built .left .is) (part .others-read)
-
-        module _ (q : length l1 ≡ length l) where
-          pub others-judged : JudgedAll RP (n - 1) l1 (r .top) image (r .past) scopes
-          others-judged =
-              record {
-                thing = part .others;
-                rest = s .rest;
-                read = others;
-                room = record {
-                  fits = omega (arith, s .room .fits, sum, built .grows, q);
-                  small = omega (arith, s .room .small, q);
-                  low = omega (arith, s .room .low, b .rises);
-                  place = record { inside = built .left .inside; short = s .room .place .short };
-                  few = s .room .few;
+      pub one-more : {l2 l3 : List ℕ} {r : Built} {at3 top3 : ℕ} → Builds R l1 l2 end image past (past + 1) r → length l2 ≡ length l1
+          → Linked l2 l3 (r .top) (r .at) turned at3 top3 → length l3 ≡ length l2 → Going RP count l top image at l3 top3 (r .past) (left - 1) at3
+      one-more {l2} {l3} {r} {at3} {top3} b q k q3 =
+          let v = b .means (part .first) (part .between) (part .first-read) in
+          record {
+            kept = same-trans top end l l1 l3 (g .grows) (g .kept) (same-trans end (r .top) l1 l2 l3 (b .rises) (b .kept) (k .kept));
+            grows = omega (arith, g .grows, b .rises, k .grows);
+            long = q3 ∙ q ∙ g .long;
+            from = omega (arith, g .from, v .left .moved);
+            place = record { inside = v .left .inside; short = g .place .short };
+            means = λ ts rest x.
+                let y = g .means ts rest x in
+                let p = S .some h (y .read) in
+                let w = b .means (p .first) (p .between) (p .first-read) in
+                let big : loadSizes (y .todo) ≡ loadSize (p .first) + loadSizes (p .others) = ap loadSizes (p .is) ∙ loads-cons (p .first) (p .others) in
+                let more = count-more (p .first) (y .done) in
+                record {
+                  todo = p .others;
+                  done = tcons (p .first) (y .done);
+                  read = subst (λ (u : List ℕ). RP (left - 1) u (p .others) rest) (w .left .is) (p .others-read);
+                  made = k .means (p .first) (y .done) (w .shown) (carryP (y .made) (b .kept) (b .rises));
+                  whole = turn-more (p .first) (y .done) (p .others) ∙ ap (turnOnto (y .done)) (sym (p .is)) ∙ y .whole;
+                  room = omega (arith, big, more, y .room, w .grows, k .grows);
                 };
-              }
+          }
 
-          pub linkable : {l2 : List ℕ} {k : Built} → BuildsAll RP (n - 1) l1 l2 (r .top) image (r .past) k → length l2 ≡ length l1 → Linkable l2 (k .top) (r .at) (k .at)
-          linkable {l2} {k} d p =
-              let w = d .means (part .others) (s .rest) others in
-              record {
-                thing = part .first;
-                others = part .others;
-                shown = carry (built .shown) (d .kept) (d .rises);
-                shown-others = w .shown;
-                room = record {
-                  fits = omega (arith, s .room .fits, sum, built .grows, w .grows, p, q);
-                  small = omega (arith, s .room .small, p, q);
-                  low = omega (arith, s .room .low, b .rises, d .rises);
-                };
-              }
+module _ {RP : ℕ → List ℕ → Trees → List ℕ → Type 0} (E : Ends RP) {count : ℕ} {l : List ℕ} {top : ℕ} {image : List ℕ} {at : ℕ} {l1 : List ℕ} {end past left turned : ℕ}
+    (g : Going RP count l top image at l1 end past left turned) (z : left ≡ 0) where
+  pub all-turnable : {scopes : ℕ} → JudgedAll RP count l top image at scopes → Turnable l1 end turned
+  all-turnable s =
+      let y = g .means (s .thing) (s .rest) (s .read) in
+      let none : loadSizes (y .todo) ≡ 0 = ap loadSizes (E .none z (y .read) .0) ∙ loads-none in
+      record {
+        thing = y .done;
+        shown = y .made;
+        room = omega (arith, none, y .room, s .room .fits, g .long);
+        small = omega (arith, s .room .small, g .long);
+        low = omega (arith, s .room .low, g .grows);
+      }
 
-    pub part-builds : {l1 l2 l3 : List ℕ} {r k : Built} {at1 top1 : ℕ} → Builds R l l1 top image at (at + 1) r → BuildsAll RP (n - 1) l1 l2 (r .top) image (r .past) k
-        → Linked l2 l3 (k .top) (r .at) (k .at) at1 top1 → BuildsAll RP n l l3 top image at (record { at = at1; top = top1; past = k .past })
-    part-builds {l1} {l2} {l3} {r} {k} b d o =
-        let one : Same top l l2 = same-trans top (r .top) l l1 l2 (b .rises) (b .kept) (d .kept) in
-        record {
-          kept = same-trans top (k .top) l l2 l3 (omega (arith, b .rises, d .rises)) one (o .kept);
-          rises = omega (arith, b .rises, d .rises, o .grows);
-          means = λ ts rest x.
-              let p = S .some h x in
-              let v = b .means (p .first) (p .between) (p .first-read) in
-              let w = d .means (p .others) rest (subst (λ (u : List ℕ). RP (n - 1) u (p .others) rest) (v .left .is) (p .others-read)) in
-              rw (p .is) (record {
-                shown = o .means (p .first) (p .others) (carry (v .shown) (d .kept) (d .rises)) (w .shown);
-                grows = omega (arith, v .grows, w .grows, o .grows, loads-cons (p .first) (p .others));
-                left = record { moved = omega (arith, v .left .moved, w .left .moved); inside = w .left .inside; is = w .left .is };
-              });
-        }
+  pub all-built : {l2 : List ℕ} {at2 top2 : ℕ} → Turned l1 l2 end turned at2 top2 → BuildsAll RP count l l2 top image at (record { at = at2; top = top2; past = past })
+  all-built {l2} {at2} {top2} t =
+      record {
+        kept = same-trans top end l l1 l2 (g .grows) (g .kept) (t .kept);
+        rises = omega (arith, g .grows, t .grows);
+        means = λ ts rest x.
+            let y = g .means ts rest x in
+            let q = E .none z (y .read) in
+            let d = t .means (y .done) (y .made) in
+            let none : loadSizes (y .todo) ≡ 0 = ap loadSizes (q .0) ∙ loads-none in
+            let same : turnOnto (y .done) tnil ≡ ts = ap (turnOnto (y .done)) (sym (q .0)) ∙ y .whole in
+            record {
+              shown = rw same at (d .0);
+              grows = omega (arith, none, y .room, d .1);
+              left = record { moved = g .from; inside = g .place .inside; is = q .1 };
+            };
+      }
 
-pub ruleset chain-laws = (object-steps, objects-end, tree-steps, trees-end, none-builds, first-judged, others-later, others-judged, linkable, part-builds)
+pub ruleset chain-laws = (object-steps, objects-end, tree-steps, trees-end, going-start, one-judged, one-later, one-linkable, one-more, all-turnable, all-built)

@@ -1,5 +1,5 @@
--- What building asks and gives, for any of the ways to read a thing or so many things. A node and a cell for each part are enough, and
--- the cell is left over that a whole will want.
+-- What building asks and gives, for any of the ways to read a thing or so many things. A node and two cells for
+-- each part are enough, since chains are made with their last part first and turned round; a whole leaves over the cells that it will want.
 use mathlib.Core.Path.{_≡_}
 use mathlib.Core.List.{List}
 use Prim.Native.Nat.{ℕ, _+_, _*_, _≤_}
@@ -12,7 +12,7 @@ use Rattle.things.specs.Making.{Stored}
 use Rattle.things.specs.Rep.{Rep, RepP}
 use Rattle.builder.specs.Fronts.{Within, Left}
 use Rattle.builder.specs.declared.Built.{Built}
-use Rattle.table.specs.Sizes.{cellSize, partSize, tableSize}
+use Rattle.table.specs.Sizes.{cellSize, turnedSize, tableSize}
 
 abbrev pub loadSizes : Trees → ℕ
 loadSizes ts = tsizesBy size ts
@@ -29,23 +29,23 @@ pub record Judged (R : List ℕ → Tree → List ℕ → Type 0) (l : List ℕ)
   pub thing : Tree
   pub rest : List ℕ
   pub read : R (drop at image) thing rest
-  pub room : Room l top (partSize * loadSize thing) image at scopes
+  pub room : Room l top (turnedSize * loadSize thing) image at scopes
 
 pub record JudgedAll (R : ℕ → List ℕ → Trees → List ℕ → Type 0) (count : ℕ) (l : List ℕ) (top : ℕ) (image : List ℕ) (at scopes : ℕ) : Type 0 where
   pub thing : Trees
   pub rest : List ℕ
   pub read : R count (drop at image) thing rest
-  pub room : Room l top (partSize * loadSizes thing) image at scopes
+  pub room : Room l top (turnedSize * loadSizes thing) image at scopes
 
 -- t was built, and `rest` is behind it, not before the place `from`
 pub record Stands (l : List ℕ) (top : ℕ) (image : List ℕ) (from : ℕ) (r : Built) (t : Tree) (rest : List ℕ) : Type 0 where
   pub shown : Rep l (r .top) (r .at) t
-  pub grows : r .top + cellSize ≤ top + partSize * loadSize t
+  pub grows : r .top + 2 * cellSize ≤ top + turnedSize * loadSize t
   pub left : Left image from (r .past) rest
 
 pub record StandsAll (l : List ℕ) (top : ℕ) (image : List ℕ) (at : ℕ) (r : Built) (ts : Trees) (rest : List ℕ) : Type 0 where
   pub shown : RepP l (r .top) (r .at) ts
-  pub grows : r .top ≤ top + partSize * loadSizes ts
+  pub grows : r .top ≤ top + turnedSize * loadSizes ts
   pub left : Left image at (r .past) rest
 
 -- whatever stands there was built, and all below top is as it was

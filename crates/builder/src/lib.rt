@@ -130,25 +130,28 @@ pub fn object(table: &mut [u32], top: u32, image: &[u8], at: usize, scopes: u32)
     }
 }
 
-// So many of them, as a chain.
+// So many of them, as a chain: made with the last first, and turned round.
 fn objects(table: &mut [u32], top: u32, image: &[u8], at: usize, scopes: u32, count: u32) -> Built
     requires { ⌜ JudgedAll (ObjectsRead scopes) count (now table) top (now image) at scopes ⌝ }
     ensures { λ r. ⌜ BuildsAll (ObjectsRead scopes) count (now (table .entry)) (now (table .exit)) top (now (image .entry)) at r ⌝ }
 {
-    if count == 0 {
-        return Built {
-            at: 0,
-            top,
-            past: at,
-        };
+    let mut end = top;
+    let mut past = at;
+    let mut left = count;
+    let mut turned: u32 = 0;
+    while left != 0 {
+        let one = object(table, end, image, past, scopes);
+        let m = things::link(table, one.top, one.at, turned);
+        end = m.top;
+        past = one.past;
+        left -= 1;
+        turned = m.at;
     }
-    let first = object(table, top, image, at, scopes);
-    let others = objects(table, first.top, image, first.past, scopes, count - 1);
-    let cell = things::link(table, others.top, first.at, others.at);
+    let chain = things::turn(table, end, turned);
     Built {
-        at: cell.at,
-        top: cell.top,
-        past: others.past,
+        at: chain.at,
+        top: chain.top,
+        past,
     }
 }
 
@@ -253,24 +256,27 @@ fn list(
     leaf(table, parts.top, node, parts.past)
 }
 
-// So many trees, as a chain.
+// So many trees, as a chain, likewise.
 fn trees(table: &mut [u32], top: u32, image: &[u8], at: usize, scopes: u32, count: u32) -> Built
     requires { ⌜ JudgedAll (TreesRead scopes) count (now table) top (now image) at scopes ⌝ }
     ensures { λ r. ⌜ BuildsAll (TreesRead scopes) count (now (table .entry)) (now (table .exit)) top (now (image .entry)) at r ⌝ }
 {
-    if count == 0 {
-        return Built {
-            at: 0,
-            top,
-            past: at,
-        };
+    let mut end = top;
+    let mut past = at;
+    let mut left = count;
+    let mut turned: u32 = 0;
+    while left != 0 {
+        let one = tree(table, end, image, past, scopes);
+        let m = things::link(table, one.top, one.at, turned);
+        end = m.top;
+        past = one.past;
+        left -= 1;
+        turned = m.at;
     }
-    let first = tree(table, top, image, at, scopes);
-    let others = trees(table, first.top, image, first.past, scopes, count - 1);
-    let cell = things::link(table, others.top, first.at, others.at);
+    let chain = things::turn(table, end, turned);
     Built {
-        at: cell.at,
-        top: cell.top,
-        past: others.past,
+        at: chain.at,
+        top: chain.top,
+        past,
     }
 }

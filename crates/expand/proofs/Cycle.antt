@@ -68,12 +68,12 @@ use Rattle.scoping.specs.declared.Marking.{Marking}
 use Rattle.scoping.specs.declared.Marking.the-variants as marking
 use Rattle.expand.specs.Making.{ReadyList, Lists, ReadyThree, ThreeLists}
 use Rattle.expand.specs.Leaves.{Within, ReadyName, nameRule, ExpandedName, ReadyTail, ExpandedQuote, ExpandedSyntax, ReadyValue, valueRule, Values, ReadyTranscribed, transcribeRule, Transcribes}
-use Rattle.expand.specs.Cycle.{entries, ShownParts, partsOf, Ready, ReadyParts, ReadyPair, ReadyRest, ReadyChain, ReadyForm, ReadyLet, ReadyFunction, ReadyAbstraction, ReadyScoped, ReadyInner, ReadyBinding, ReadyRhs, ReadyDefined, ReadyMacro, ReadyRewritten, restRule, scopedRule, abstractionRule, definedRule, rhsRule, rewrittenRule, Expanded, ExpandedEntry, ExpandedList, ExpandedApplication, ExpandedParts, ExpandedPair, ExpandedRest, ExpandedLambda, ExpandedFunction, ExpandedAbstraction, ExpandedScoped, ExpandedInner, ExpandedLetSyntax, ExpandedBinding, ExpandedRhs, ExpandedDefined, ExpandedMacro, ExpandedRewritten}
+use Rattle.expand.specs.Cycle.{entries, ShownParts, partsOf, Ready, ReadyParts, ReadyChain, ReadyForm, ReadyLet, ReadyFunction, ReadyAbstraction, ReadyScoped, ReadyInner, ReadyBinding, ReadyRhs, ReadyDefined, ReadyMacro, ReadyRewritten, scopedRule, abstractionRule, definedRule, rhsRule, rewrittenRule, Expanded, ExpandedEntry, ExpandedList, ExpandedApplication, ExpandedParts, ExpandedLambda, ExpandedFunction, ExpandedAbstraction, ExpandedScoped, ExpandedInner, ExpandedLetSyntax, ExpandedBinding, ExpandedRhs, ExpandedDefined, ExpandedMacro, ExpandedRewritten}
 use Rattle.expand.specs.declared.Context.{Context}
 use Rattle.expand.proofs.Agreeing.{Owed, beyond}
 use Rattle.expand.proofs.Leaves.{owes-none, owes-one, owes-two}
 use Rattle.expand.proofs.Rules.{expand-entry, entry-atom, entry-symbol, entry-empty, list-means, list-unclear, form-lambda, form-let-syntax, form-quote, form-syntax, form-variable, form-macro, form-unknown, function-split, binding-split, macro-split}
-use Rattle.table.specs.Sizes.{cellSize, cellSpare, nodeSize, nodeSpare, tripleSpare, unitSize}
+use Rattle.table.specs.Sizes.{cellSize, twoCells, cellSpare, nodeSize, nodeSpare, tripleSpare, unitSize}
 use Rattle.store.specs.Sizes.{bindingSize}
 
 stx-is : {a b : Stx} → stx a ≡ stx b → a ≡ b
@@ -81,7 +81,7 @@ stx-is e = cc
 
 -- ---- where an object is expanded
 
-within-later : {n v : ℕ} {l l1 st st1 : List ℕ} {s s1 : State} {at : Context} → Within l st s at → Later n v l l1 s s1 → s1 .bindings ≤ 512 → length l1 ≡ length l → length st1 ≡ length st → Within l1 st1 s1 at
+pub within-later : {n v : ℕ} {l l1 st st1 : List ℕ} {s s1 : State} {at : Context} → Within l st s at → Later n v l l1 s s1 → s1 .bindings ≤ 512 → length l1 ≡ length l → length st1 ≡ length st → Within l1 st1 s1 at
 within-later r p few len len2 =
     record {
       meant = r .meant;
@@ -132,7 +132,7 @@ module _ (left : ℕ) (s : State) {u : State} {x : Charged} (h : x ≡ enterOf l
       record {
         means = λ y g q k.
             let a = f .means y g (rw (top-is w) q) (rw (top-is w) k) in
-            let d : Agrees objects 1 cellSize l l1 s (bindsOf st1) (expandEntry (entries (left - 1)) (left - 1) (at .phase) g (scopesOf (at .prunable)) y (stateOf u (bindsOf st))) (ended r) = rw (unpaid-is w) at a in
+            let d : Agrees objects 1 twoCells l l1 s (bindsOf st1) (expandEntry (entries (left - 1)) (left - 1) (at .phase) g (scopesOf (at .prunable)) y (stateOf u (bindsOf st))) (ended r) = rw (unpaid-is w) at a in
             rw (entry-goes (expand-entry (at .phase) g (scopesOf (at .prunable)) y) left s (bindsOf st) h e) d;
       }
 
@@ -202,7 +202,7 @@ module _ {st l : List ℕ} (s : State) {i : ℕ} {at : Context} {o : Node} (e : 
 -- ---- a list by its head's meaning
 
 same-form : (left ph : ℕ) (g : Env) (p : Scopes) (y : ms.State) {l l1 : List ℕ} {s : State} {b : Store} {x : Ended Out} (t : Tree) (k : Sets) {ps qs : Stxs} → ps ≡ qs
-    → Agrees objects 1 cellSize l l1 s b (expandMacro (entries left) left ph g p t (list k ps) y) x → Agrees objects 1 cellSize l l1 s b (expandMacro (entries left) left ph g p t (list k qs) y) x
+    → Agrees objects 1 twoCells l l1 s b (expandMacro (entries left) left ph g p t (list k ps) y) x → Agrees objects 1 twoCells l l1 s b (expandMacro (entries left) left ph g p t (list k qs) y) x
 same-form left ph g p y t k e a = rw e at a
 
 pub list-empty : {left : ℕ} {at : Context} {st l : List ℕ} {s : State} {i c : ℕ} → c ≡ 0 → ExpandedList left at st st l l s i c (Refused (record { refusal = NoRule; units = s .units }))
@@ -302,7 +302,7 @@ module _ {st l : List ℕ} (s : State) {i c : ℕ} {at : Context} where
                   let m = on-macro (p .means (s .top) (q .first) g (q .cell .shown) y) z in
                   let d = a .means (list k ps) (m .value) g u (m .shown) y in
                   rw (q .is, list-means (entries left) left (at .phase) g (scopesOf (at .prunable)) (stateOf s (bindsOf st)) k (q .first) (q .others) (m .is), form-macro (entries left) left (at .phase) g (scopesOf (at .prunable)) (stateOf s (bindsOf st)) k (q .first) (q .others) (m .value))
-                  (same-form left (at .phase) g (scopesOf (at .prunable)) (stateOf s (bindsOf st)) (m .value) k (q .is) (beyond 1 cellSize 0 1 (later-refl l s) (owes-none s) (owes-one s) (omega arith) (omega arith) refl d));
+                  (same-form left (at .phase) g (scopesOf (at .prunable)) (stateOf s (bindsOf st)) (m .value) k (q .is) (beyond 1 twoCells 0 1 (later-refl l s) (owes-none s) (owes-one s) (omega arith) (omega arith) refl d));
             }
 
       module _ {left : ℕ} where
@@ -371,120 +371,7 @@ module _ {left : ℕ} {at : Context} {st st1 l l1 : List ℕ} (s : State) {c : �
         record {
           means = λ k ps g u w y.
               let t = parts-gave ps g w y in
-              beyond 1 cellSize 1 1 (t .later) (owes-one (o .state)) (owes-one s) (omega arith) (omega arith) (then-ok _ (t .is)) (d .means (bindsOf st1) k ps (t .value) (carry u (t .later .kept) (t .later .grows)) (t .shown .rep));
-        }
-
--- ---- parts
-
-pub parts-none : {left : ℕ} {at : Context} {st l : List ℕ} {s : State} {c : ℕ} → ReadyParts l st s c at → c ≡ 0 → ExpandedParts left at st st l l s c (Done (record { at = 0; state = s }))
-unfolding expandAll fromStxs
-parts-none {left} {at} {st} {l} {s} r h =
-    record { means = λ ps g w y. rw (nil-at ps w h) (gives (record { at = 0; state = s }) (record { value = nil; is = refl; shown = record { rep = is-none; few = r .within .held .few }; later = later-refl l s })) }
-
-pub parts-inside : {l st : List ℕ} {s : State} {c : ℕ} {at : Context} → ReadyParts l st s c at → ¬ (c ≡ 0) → c + cellSize ≤ length l
-parts-inside r h = omega (arith, first-at (r .parts) (r .shown) h refl .cell .inside, r .within .room .fits)
-
-module _ {st l : List ℕ} {s : State} {c : ℕ} {at : Context} {x : Cell} (h : ¬ (c ≡ 0)) (e : x ≡ getCell l c) where
-  pub parts-pair-ready : ReadyParts l st s c at → ReadyPair l st s (x .head) (x .tail) at
-  parts-pair-ready r =
-      let q = first-at (r .parts) (r .shown) h e in
-      record { first = q .first; others = q .others; shown = q .cell .shown; shown-others = q .cell .shown-others; within = r .within }
-
-  pub parts-paired : {left : ℕ} {st1 l1 : List ℕ} {r : Answer} → ExpandedPair left at st st1 l l1 s (x .head) (x .tail) r → ExpandedParts left at st st1 l l1 s c r
-  parts-paired a = record { means = λ ps g w y. let q = first-at ps w h e in rw (q .is) (a .means (q .first) (q .others) g (q .cell .shown) (q .cell .shown-others) y) }
-
--- ---- pair
-
-pub pair-first-ready : {l st : List ℕ} {s : State} {i c : ℕ} {at : Context} → ReadyPair l st s i c at → Ready l st s i at
-pair-first-ready r = record { thing = r .first; shown = r .shown; within = r .within }
-
-module _ {left : ℕ} {at : Context} {st st1 l l1 : List ℕ} {s : State} {i : ℕ} {a : Answer} (v : Expanded left at st st1 l l1 s i a) where
-  pub pair-first-refused : {c : ℕ} {f : Stop} → a ≡ Refused f → ExpandedPair left at st st1 l l1 s i c (Refused f)
-  unfolding expandAll
-  pair-first-refused k = record { means = λ x ps g u w y. stops _ (then-no _ (on-refused (v .means x g u y) (ap ended k))) }
-
-  module _ {o : Out} (k : a ≡ Done o) where
-    first-gave : (x : Stx) (g : Env) → Rep l (s .top) i (stx x) → RepE l (s .top) (at .meanings) g
-        → Gave objects 1 cellSize l l1 s (bindsOf st1) (expand left (at .phase) g (scopesOf (at .prunable)) x (stateOf s (bindsOf st))) o
-    first-gave x g u y = on-done (v .means x g u y) (ap ended k)
-
-    pub pair-rest-ready : {c : ℕ} → ReadyPair l st s i c at → length l1 ≡ length l → length st1 ≡ length st → ReadyRest l1 st1 (o .state) (o .at) c at
-    pair-rest-ready r len len2 =
-        let g = first-gave (r .first) (r .within .meant) (r .shown) (r .within .known) in
-        record {
-          pair = record {
-            first = g .value;
-            others = r .others;
-            shown = g .shown .rep;
-            shown-others = carryP (r .shown-others) (g .later .kept) (g .later .grows);
-            within = within-later (r .within) (g .later) (g .shown .few) len len2;
-          };
-          cell = omega (arith, g .later .fits, r .within .room .fits, len);
-        }
-
-    pub pair-less : {c T : ℕ} → ReadyPair l st s i c at → s .units * 32 + 2 ≡ T → o .state .units * 32 + 4 < T
-    pair-less r z = let g = first-gave (r .first) (r .within .meant) (r .shown) (r .within .known) in omega (arith, g .later .spent)
-
-    pub pair-rest : {c : ℕ} {st2 l2 : List ℕ} {d : Answer} → ExpandedRest left at st1 st2 l1 l2 (o .state) (o .at) c d → ExpandedPair left at st st2 l l2 s i c d
-    unfolding expandAll restRule
-    pair-rest w =
-        record {
-          means = λ x ps g u p y.
-              let t = first-gave x g u y in
-              beyond 0 0 1 0 (t .later) (owes-one (o .state)) (owes-none s) (omega arith) (omega arith) (then-ok _ (t .is))
-              (w .means (t .value) ps g (t .shown .rep) (carryP p (t .later .kept) (t .later .grows)) (carryE y (t .later .kept) (t .later .grows)));
-        }
-
--- ---- rest
-
-pub rest-ready : {l st : List ℕ} {s : State} {i c : ℕ} {at : Context} → ReadyRest l st s i c at → ReadyParts l st s c at
-rest-ready r = record { parts = r .pair .others; shown = r .pair .shown-others; within = r .pair .within }
-
-module _ {left : ℕ} {at : Context} {st st1 l l1 : List ℕ} (s : State) {c : ℕ} {a : Answer} (v : ExpandedParts left at st st1 l l1 s c a) where
-  pub rest-refused : {i : ℕ} {f : Stop} → a ≡ Refused f → ExpandedRest left at st st1 l l1 s i c (Refused f)
-  unfolding restRule
-  rest-refused e = record { means = λ x ps g u w y. stops _ (then-no _ (on-refused (v .means ps g w y) (ap ended e))) }
-
-  module _ {o : Out} (e : a ≡ Done o) where
-    rest-gave : {i : ℕ} (r : ReadyRest l st s i c at) → Gave partsOf 0 0 l l1 s (bindsOf st1) (expandAll (entries left (at .phase) (r .pair .within .meant) (scopesOf (at .prunable))) (r .pair .others) (stateOf s (bindsOf st))) o
-    rest-gave r = parts-gave s v e (r .pair .others) (r .pair .within .meant) (r .pair .shown-others) (r .pair .within .known)
-
-    linkable : {i j : ℕ} {ts : Trees} → ReadyRest l st s i c at → length l1 ≡ length l → RepP l1 (o .state .top) j ts → Linkable l1 (o .state .top) i j
-    linkable {ts = ts} r len w =
-        let g = rest-gave r in
-        record {
-          thing = stx (r .pair .first);
-          others = ts;
-          shown = carry (r .pair .shown) (g .later .kept) (g .later .grows);
-          shown-others = w;
-          room = record { fits = omega (arith, g .later .fits, r .cell, len); small = omega (arith, r .pair .within .room .small, len); low = omega (arith, r .pair .within .room .low, g .later .grows) };
-        }
-
-    pub rest-link-ready : {i : ℕ} → ReadyRest l st s i c at → length l1 ≡ length l → Linkable l1 (o .state .top) i (o .at)
-    rest-link-ready r len = linkable r len (rest-gave r .shown .rep)
-
-    -- The others as they were could be put there as well: code that copies them is refused for what it gives.
-    pub rest-copy-ready : {i : ℕ} → ReadyRest l st s i c at → length l1 ≡ length l → Linkable l1 (o .state .top) i c
-    rest-copy-ready r len = let g = rest-gave r in linkable r len (carryP (r .pair .shown-others) (g .later .kept) (g .later .grows))
-
-    pub rest-linked : {i : ℕ} {l2 : List ℕ} {n : Made} {z : State} → Linked l1 l2 (o .state .top) i (o .at) (n .at) (n .top) → z ≡ raisedTo (n .top) (o .state)
-        → ExpandedRest left at st st1 l l2 s i c (Done (record { at = n .at; state = z }))
-    unfolding restRule unpaid fromStxs
-    rest-linked {i} {l2} {n} y q =
-        record {
-          means = λ x ps g u w k.
-              let j = parts-gave s v e ps g w k in
-              rw q (gives (record { at = n .at; state = raisedTo (n .top) (o .state) }) (record {
-                value = cons x (j .value);
-                is = then-ok _ (j .is);
-                shown = record { rep = y .means (stx x) (fromStxs (j .value)) (carry u (j .later .kept) (j .later .grows)) (j .shown .rep); few = j .shown .few };
-                later = record {
-                  kept = same-trans (s .top) (o .state .top) l l1 l2 (j .later .grows) (j .later .kept) (y .kept);
-                  grows = omega (arith, j .later .grows, y .grows);
-                  fits = omega (arith, j .later .fits, y .grows);
-                  spent = omega (arith, j .later .spent);
-                };
-              }));
+              beyond 1 twoCells 1 1 (t .later) (owes-one (o .state)) (owes-one s) (omega arith) (omega arith) (then-ok _ (t .is)) (d .means (bindsOf st1) k ps (t .value) (carry u (t .later .kept) (t .later .grows)) (t .shown .rep));
         }
 
 -- ---- scoped
@@ -675,7 +562,7 @@ module _ {st l : List ℕ} (s : State) {i head id body : ℕ} {at : Context} (r 
                 let named : abstractionRule (entries left) (at .phase) g (scopesOf (at .prunable)) k h (j .value .name) (j .value .scope) (j .value .sets) x y (stateOf (o .state) (bindsOf st1))
                 ≡ abstractionRule (entries left) (at .phase) g (scopesOf (at .prunable)) k h (o .name .0) (o .scope .0) (j .value .sets) x y (stateOf (o .state) (bindsOf st1)) =
                 λ n. abstractionRule (entries left) (at .phase) g (scopesOf (at .prunable)) k h ((sym (j .shown .name)) n) ((sym (j .shown .scope)) n) (j .value .sets) x y (stateOf (o .state) (bindsOf st1)) in
-                beyond 1 cellSize 2 1 (j .later) (owes-two (o .state)) (owes-one s) (omega arith) (omega arith)
+                beyond 1 twoCells 2 1 (j .later) (owes-two (o .state)) (owes-one s) (omega arith) (omega arith)
                 (function-split (entries left) left (at .phase) g (scopesOf (at .prunable)) (stateOf s (bindsOf st)) k h c x y ∙ then-ok _ (j .is) ∙ named) d;
           }
 
@@ -769,7 +656,7 @@ module _ {st l : List ℕ} (s : State) {tail : ℕ} {at : Context} where
                     let q = on-three (h .means (s .top) ps w) e in
                     let n = is-identifier (q .first) (sym (f .means (s .top) (q .first) (q .shown)) ∙ t) in
                     let y = p .means (n .sets) (n .symb) (q .second) (q .third) g (rw (n .is) at (q .shown)) (q .shown-second) (q .shown-third) k in
-                    rw (q .is, n .is) (beyond 1 cellSize 0 1 (later-refl l s) (owes-none s) (owes-one s) (omega arith) (omega arith) refl y);
+                    rw (q .is, n .is) (beyond 1 twoCells 0 1 (later-refl l s) (owes-none s) (owes-one s) (omega arith) (omega arith) refl y);
               }
 
 -- ---- binding
@@ -813,7 +700,7 @@ module _ {st l : List ℕ} {s : State} {id right body : ℕ} {at : Context} (r :
                 let named : rhsRule (entries left) left (at .phase) g (scopesOf (at .prunable)) (j .value .name) (j .value .scope) u y (stateOf (o .state) (bindsOf st1))
                 ≡ rhsRule (entries left) left (at .phase) g (scopesOf (at .prunable)) (o .name .0) (o .scope .0) u y (stateOf (o .state) (bindsOf st1)) =
                 λ n. rhsRule (entries left) left (at .phase) g (scopesOf (at .prunable)) ((sym (j .shown .name)) n) ((sym (j .shown .scope)) n) u y (stateOf (o .state) (bindsOf st1)) in
-                since 1 cellSize (j .later) (omega arith) (omega arith)
+                since 1 twoCells (j .later) (omega arith) (omega arith)
                 (binding-split (entries left) left (at .phase) g (scopesOf (at .prunable)) (stateOf s (bindsOf st)) c x u y ∙ then-ok _ (j .is) ∙ named) d;
           }
 
@@ -832,7 +719,7 @@ module _ {st l : List ℕ} {s : State} {right body : ℕ} {at : Context} (r : Re
   rhs-expand-ready = record { thing = r .thing; shown = r .shown; within = record { meant = coreOnly; known = is-core; room = r .within .room; held = r .within .held } }
 
   module _ (f : scopesOf p ≡ 0) {left : ℕ} {st1 l1 : List ℕ} {a : Answer} (v : Expanded left (record { phase = at .phase + 1; meanings = 0; prunable = p }) st st1 l l1 s right a) where
-    above : (u : Stx) → Rep l (s .top) right (stx u) → Agrees objects 1 cellSize l l1 s (bindsOf st1) (expand left (at .phase + 1) coreOnly 0 u (stateOf s (bindsOf st))) (ended a)
+    above : (u : Stx) → Rep l (s .top) right (stx u) → Agrees objects 1 twoCells l l1 s (bindsOf st1) (expand left (at .phase + 1) coreOnly 0 u (stateOf s (bindsOf st))) (ended a)
     above u w = rw f at (v .means u coreOnly w is-core)
 
     starts : (g : Env) (n d : ℕ) (u y : Stx) → rhsRule (entries left) left (at .phase) g (scopesOf (at .prunable)) n d u y (stateOf s (bindsOf st))
@@ -844,7 +731,7 @@ module _ {st l : List ℕ} {s : State} {right body : ℕ} {at : Context} (r : Re
     rhs-refused {n} {d} e = record { means = λ u y g w b k. stops _ (starts g n d u y ∙ then-no _ (on-refused (above u w) (ap ended e))) }
 
     module _ {o : Out} (e : a ≡ Done o) where
-      right-to : (u : Stx) → Rep l (s .top) right (stx u) → Gave objects 1 cellSize l l1 s (bindsOf st1) (expand left (at .phase + 1) coreOnly 0 u (stateOf s (bindsOf st))) o
+      right-to : (u : Stx) → Rep l (s .top) right (stx u) → Gave objects 1 twoCells l l1 s (bindsOf st1) (expand left (at .phase + 1) coreOnly 0 u (stateOf s (bindsOf st))) o
       right-to u w = on-done (above u w) (ap ended e)
 
       pub rhs-less : {T : ℕ} → s .units * 32 + 18 ≡ T → o .state .units * 32 + 16 < T
@@ -869,7 +756,7 @@ module _ {st l : List ℕ} {s : State} {right body : ℕ} {at : Context} (r : Re
           record {
             means = λ u y g w b k.
                 let j = right-to u w in
-                since 1 cellSize (j .later) (omega arith) (omega arith) (starts g n d u y ∙ then-ok _ (j .is))
+                since 1 twoCells (j .later) (omega arith) (omega arith) (starts g n d u y ∙ then-ok _ (j .is))
                 (c .means (j .value) y g (j .shown .rep) (carry b (j .later .kept) (j .later .grows)) (carryE k (j .later .kept) (j .later .grows)));
           }
 
@@ -888,7 +775,7 @@ module _ {st l : List ℕ} {s : State} {right body : ℕ} {at : Context} (r : Re
     defined-refused e = record { means = λ u y g w b k. stops _ (then-no _ (on-refused (v .means u w) (ap ended e))) }
 
     module _ {o : Out} (e : a ≡ Done o) where
-      value-to : (u : Stx) → Rep l (s .top) right (stx u) → Gave trees 1 cellSize l l1 s (bindsOf st) (valueRule left (at .phase + 1) u (stateOf s (bindsOf st))) o
+      value-to : (u : Stx) → Rep l (s .top) right (stx u) → Gave trees 1 twoCells l l1 s (bindsOf st) (valueRule left (at .phase + 1) u (stateOf s (bindsOf st))) o
       value-to u w = on-done (v .means u w) (ap ended e)
 
       pub defined-scoped-ready : length l1 ≡ length l → ReadyScoped l1 st (o .state) 1 (o .at) body at
@@ -911,7 +798,7 @@ module _ {st l : List ℕ} {s : State} {right body : ℕ} {at : Context} (r : Re
           record {
             means = λ u y g w b k.
                 let j = value-to u w in
-                since 1 cellSize (j .later) (omega arith) (omega arith) (then-ok _ (j .is))
+                since 1 twoCells (j .later) (omega arith) (omega arith) (then-ok _ (j .is))
                 (c .means (macro (j .value)) y g (meant-macro (j .shown .rep)) (carry b (j .later .kept) (j .later .grows)) (carryE k (j .later .kept) (j .later .grows)));
           }
 
@@ -961,7 +848,7 @@ module _ {st l : List ℕ} {s : State} {i w : ℕ} {at : Context} (r : ReadyMacr
                 let named : rewrittenRule (entries left) left (at .phase) g (add (j .value .uses) (scopesOf (at .prunable))) t (j .value .intro) (j .value .object) (stateOf (o .state) (bindsOf st))
                 ≡ rewrittenRule (entries left) left (at .phase) g (scopesOf p) t (o .intro .0) (j .value .object) (stateOf (o .state) (bindsOf st)) =
                 λ n. rewrittenRule (entries left) left (at .phase) g (pruned n) t ((sym (j .shown .intro)) n) (j .value .object) (stateOf (o .state) (bindsOf st)) in
-                since 1 cellSize (j .later) (omega arith) (omega arith)
+                since 1 twoCells (j .later) (omega arith) (omega arith)
                 (macro-split (entries left) left (at .phase) g (scopesOf (at .prunable)) (stateOf s (bindsOf st)) t x ∙ then-ok _ (j .is) ∙ named) d;
           }
 
@@ -994,7 +881,7 @@ module _ {st l : List ℕ} {s : State} {w form : ℕ} {at : Context} (r : ReadyR
           record {
             means = λ x t g b c y.
                 let j = made-to (bindsOf st) t x b c in
-                since 1 cellSize (j .later) (omega arith) (omega arith) (then-ok _ (j .is)) (f .means (j .value) g (j .shown .rep) (carryE y (j .later .kept) (j .later .grows)));
+                since 1 twoCells (j .later) (omega arith) (omega arith) (then-ok _ (j .is)) (f .means (j .value) g (j .shown .rep) (carryE y (j .later .kept) (j .later .grows)));
           }
 
 pub ruleset laws = (
@@ -1030,20 +917,6 @@ pub ruleset laws = (
   application-refused,
   application-list,
   application-made,
-  parts-none,
-  parts-inside,
-  parts-pair-ready,
-  parts-paired,
-  pair-first-ready,
-  pair-first-refused,
-  pair-rest-ready,
-  pair-less,
-  pair-rest,
-  rest-ready,
-  rest-refused,
-  rest-link-ready,
-  rest-copy-ready,
-  rest-linked,
   scoped-add-ready,
   scoped-refused,
   scoped-inner-ready,

@@ -48,18 +48,18 @@ use Rattle.environment.specs.declared.Meaning.{Meaning}
 use Rattle.environment.specs.declared.Meaning.the-variants as meant
 use Rattle.environment.proofs.Laws.{on-lambda, on-let-syntax, on-quote, on-syntax, on-variable, on-macro, on-unknown, on-meaning-unclear, head-means, head-unclear}
 use Rattle.scoping.specs.Changing.{ShownObject, objects, ReadyObject, changeRule, Changes}
-use Rattle.scoping.proofs.Steps.{after-after}
+use Rattle.steps.proofs.Laws.{after-after}
 use Rattle.scoping.proofs.Fresh.{binds-length}
 use Rattle.expand.specs.Making.{ReadyTwo, TwoLists}
 use Rattle.expand.specs.Leaves.{Within, ReadyName, nameRule, ExpandedName, ReadyTail, quoteRule, ExpandedQuote, ExpandedSyntax, ReadyPruned, prunedRule, Pruned, ReadyValue, valueRule, Values, ReadyBack, backRule, Backs, ReadyTranscribed, transcribeRule, Transcribes}
 use Rattle.expand.specs.declared.Context.{Context}
 use Rattle.expand.proofs.Keeping.{evaluate-keeps}
 use Rattle.expand.proofs.Agreeing.{Owed, beyond}
-use Rattle.table.specs.Sizes.{cellSize, nodeSize, nodeSpare, unitSize}
+use Rattle.table.specs.Sizes.{cellSize, twoCells, nodeSize, nodeSpare, unitSize}
 use Rattle.store.specs.Sizes.{bindingSize}
 
 -- an entry that makes nothing
-unmade : (l : List ℕ) (s : State) → Later 1 cellSize l l (unpaid s) s
+unmade : (l : List ℕ) (s : State) → Later 1 twoCells l l (unpaid s) s
 unfolding unpaid
 unmade l s = record { kept = later-refl l s .kept; grows = omega arith; fits = omega arith; spent = omega arith }
 
@@ -220,7 +220,7 @@ module _ {l : List ℕ} (s : State) {i head x : ℕ} (r : ReadyPruned l (unpaid 
             means = λ b k qs h y u w z.
                 let g = pruned-to b y z in
                 let t = d .means b k qs h (g .value) (carry u (g .later .kept) (g .later .grows)) (carry w (g .later .kept) (g .later .grows)) (g .shown .rep) in
-                beyond 1 cellSize 2 1 (g .later) (owes-two (o .state)) (owes-one s) (omega arith) (omega arith) (then-ok _ (g .is)) t;
+                beyond 1 twoCells 2 1 (g .later) (owes-two (o .state)) (owes-one s) (omega arith) (omega arith) (then-ok _ (g .is)) t;
           }
 
 -- ---- values
@@ -240,7 +240,7 @@ module _ {left ph : ℕ} {st l l1 : List ℕ} {s : State} {i : ℕ} {a : Answer}
   value-refused e = record { means = λ x w. stops _ (then-no _ (on-refused (v .means x w) (ap ended e))) }
 
   module _ {o : Out} (e : a ≡ Done o) where
-    parsed-to : (x : Stx) → Rep l (s .top) i (stx x) → Gave trees 1 cellSize l l1 s (bindsOf st) (parse left ph x (stateOf s (bindsOf st))) o
+    parsed-to : (x : Stx) → Rep l (s .top) i (stx x) → Gave trees 1 twoCells l l1 s (bindsOf st) (parse left ph x (stateOf s (bindsOf st))) o
     parsed-to x w = on-done (v .means x w) (ap ended e)
 
     pub value-evaluate : ReadyValue l st s i → length l1 ≡ length l → agr.Ready Rep l1 (o .state) (o .at)
@@ -260,7 +260,7 @@ module _ {left ph : ℕ} {st l l1 : List ℕ} {s : State} {i : ℕ} {a : Answer}
         record {
           means = λ x w.
               let g = parsed-to x w in
-              since 1 cellSize (g .later) (omega arith) (omega arith) (then-ok _ (g .is)) (as-tree (g .value) (g .shown .few) (d .means (bindsOf st) (g .value) (g .shown .rep)));
+              since 1 twoCells (g .later) (omega arith) (omega arith) (then-ok _ (g .is)) (as-tree (g .value) (g .shown .few) (d .means (bindsOf st) (g .value) (g .shown .rep)));
         }
 
 -- ---- back from a macro's use

@@ -4,3 +4,4 @@ pub mod Making
 pub mod Leaves
 pub mod Rules
 pub mod Cycle
+pub mod InTurn

@@ -21,7 +21,7 @@ use Rattle.forms.specs.Names.{nameFound}
 use Rattle.steps.proofs.Laws.{Entry, then-ok, then-no}
 use Rattle.scoping.specs.Changing.{changeRule}
 use Rattle.scoping.specs.Fresh.{Marked, marksRule, markRule}
-use Rattle.scoping.proofs.Steps.{after-after}
+use Rattle.steps.proofs.Laws.{after-after}
 use Rattle.expand.specs.Leaves.{nameRule, quoteRule, valueRule, backRule, transcribeRule}
 use Rattle.expand.specs.Cycle.{entries, scopedRule, abstractionRule, definedRule, rhsRule, rewrittenRule}
 

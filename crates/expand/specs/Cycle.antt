@@ -24,7 +24,7 @@ use Rattle.scoping.specs.Changing.{objects}
 use Rattle.scoping.specs.Fresh.{Marked}
 use Rattle.expand.specs.Leaves.{Within, valueRule, transcribeRule}
 use Rattle.expand.specs.declared.Context.{Context}
-use Rattle.table.specs.Sizes.{cellSize, cellSpare, nodeSpare, tripleSpare, unitSize}
+use Rattle.table.specs.Sizes.{cellSize, twoCells, nodeSpare, tripleSpare, unitSize}
 
 abbrev pub entries : ℕ → Expander
 entries left = λ q f r x. expand left q f r x
@@ -49,18 +49,6 @@ pub record ReadyParts (l st : List ℕ) (s : State) (c : ℕ) (at : Context) : T
   pub parts : Stxs
   pub shown : RepP l (s .top) c (fromStxs parts)
   pub within : Within l st s at
-
-pub record ReadyPair (l st : List ℕ) (s : State) (i c : ℕ) (at : Context) : Type 0 where
-  pub first : Stx
-  pub others : Stxs
-  pub shown : Rep l (s .top) i (stx first)
-  pub shown-others : RepP l (s .top) c (fromStxs others)
-  pub within : Within l st s at
-
--- the first part done, with a cell's room
-pub record ReadyRest (l st : List ℕ) (s : State) (i c : ℕ) (at : Context) : Type 0 where
-  pub pair : ReadyPair l st s i c at
-  pub cell : end s + cellSize ≤ length l
 
 -- a list and its chain
 pub record ReadyChain (l st : List ℕ) (s : State) (i c : ℕ) (at : Context) : Type 0 where
@@ -152,12 +140,6 @@ pub record ReadyRewritten (l st : List ℕ) (s : State) (v form : ℕ) (at : Con
 
 -- ---- the rules' parts by themselves
 
-unfoldable pub restRule : (Stx → Step Stx) → Stx → Stxs → Step Stxs
-unfolding expandAll
-restRule self x l = do
-  r ← expandAll self l
-  done (cons x r)
-
 unfoldable pub scopedRule : Expander → ℕ → Env → Scopes → ℕ → ℕ → Meaning → Stx → Step Stx
 unfolding addTo add
 scopedRule self ph e p n k w body = do
@@ -194,41 +176,32 @@ rewrittenRule self d ph e p v k x = do
 module _ (left : ℕ) (at : Context) (st st′ l l′ : List ℕ) (s : State) where
   pub record Expanded (i : ℕ) (r : Answer) : Type 0 where
     pub means : (x : Stx) (e : Env) → Rep l (s .top) i (stx x) → RepE l (s .top) (at .meanings) e
-        → Agrees objects 1 cellSize l l′ s (bindsOf st′) (expand left (at .phase) e (scopesOf (at .prunable)) x (stateOf s (bindsOf st))) (ended r)
+        → Agrees objects 1 twoCells l l′ s (bindsOf st′) (expand left (at .phase) e (scopesOf (at .prunable)) x (stateOf s (bindsOf st))) (ended r)
 
   pub record ExpandedEntry (i : ℕ) (r : Answer) : Type 0 where
     pub means : (x : Stx) (e : Env) → Rep l (s .top) i (stx x) → RepE l (s .top) (at .meanings) e
-        → Agrees objects 1 cellSize l l′ (unpaid s) (bindsOf st′) (expandEntry (entries left) left (at .phase) e (scopesOf (at .prunable)) x (stateOf s (bindsOf st))) (ended r)
+        → Agrees objects 1 twoCells l l′ (unpaid s) (bindsOf st′) (expandEntry (entries left) left (at .phase) e (scopesOf (at .prunable)) x (stateOf s (bindsOf st))) (ended r)
 
   pub record ExpandedList (i c : ℕ) (r : Answer) : Type 0 where
     pub means : (k : Sets) (ps : Stxs) (e : Env) → Rep l (s .top) i (stx (list k ps)) → RepP l (s .top) c (fromStxs ps) → RepE l (s .top) (at .meanings) e
-        → Agrees objects 1 cellSize l l′ (unpaid s) (bindsOf st′) (expandEntry (entries left) left (at .phase) e (scopesOf (at .prunable)) (list k ps) (stateOf s (bindsOf st))) (ended r)
+        → Agrees objects 1 twoCells l l′ (unpaid s) (bindsOf st′) (expandEntry (entries left) left (at .phase) e (scopesOf (at .prunable)) (list k ps) (stateOf s (bindsOf st))) (ended r)
 
   pub record ExpandedApplication (i c : ℕ) (r : Answer) : Type 0 where
     pub means : (k : Sets) (ps : Stxs) (e : Env) → Rep l (s .top) i (stx (list k ps)) → RepP l (s .top) c (fromStxs ps) → RepE l (s .top) (at .meanings) e
-        → Agrees objects 1 cellSize l l′ (unpaid s) (bindsOf st′) (expandApplication (entries left) (at .phase) e (scopesOf (at .prunable)) k ps (stateOf s (bindsOf st))) (ended r)
+        → Agrees objects 1 twoCells l l′ (unpaid s) (bindsOf st′) (expandApplication (entries left) (at .phase) e (scopesOf (at .prunable)) k ps (stateOf s (bindsOf st))) (ended r)
 
   pub record ExpandedParts (c : ℕ) (r : Answer) : Type 0 where
     pub means : (ps : Stxs) (e : Env) → RepP l (s .top) c (fromStxs ps) → RepE l (s .top) (at .meanings) e
         → Agrees partsOf 0 0 l l′ s (bindsOf st′) (expandAll (entries left (at .phase) e (scopesOf (at .prunable))) ps (stateOf s (bindsOf st))) (ended r)
 
-  pub record ExpandedPair (i c : ℕ) (r : Answer) : Type 0 where
-    pub means : (x : Stx) (ps : Stxs) (e : Env) → Rep l (s .top) i (stx x) → RepP l (s .top) c (fromStxs ps) → RepE l (s .top) (at .meanings) e
-        → Agrees partsOf 0 0 l l′ s (bindsOf st′) (expandAll (entries left (at .phase) e (scopesOf (at .prunable))) (cons x ps) (stateOf s (bindsOf st))) (ended r)
-
-  -- the cell's words are not paid for here
-  pub record ExpandedRest (i c : ℕ) (r : Answer) : Type 0 where
-    pub means : (x : Stx) (ps : Stxs) (e : Env) → Rep l (s .top) i (stx x) → RepP l (s .top) c (fromStxs ps) → RepE l (s .top) (at .meanings) e
-        → Agrees partsOf 1 cellSpare l l′ (unpaid s) (bindsOf st′) (restRule (entries left (at .phase) e (scopesOf (at .prunable))) x ps (stateOf s (bindsOf st))) (ended r)
-
   pub record ExpandedLambda (i head tail : ℕ) (r : Answer) : Type 0 where
     pub means : (k : Sets) (h : Stx) (ps : Stxs) (e : Env) → Rep l (s .top) i (stx (list k (cons h ps))) → Rep l (s .top) head (stx h) → RepP l (s .top) tail (fromStxs ps) → RepE l (s .top) (at .meanings) e
-        → Agrees objects 1 cellSize l l′ (unpaid s) (bindsOf st′) (expandLambda (entries left) (at .phase) e (scopesOf (at .prunable)) k h ps (stateOf s (bindsOf st))) (ended r)
+        → Agrees objects 1 twoCells l l′ (unpaid s) (bindsOf st′) (expandLambda (entries left) (at .phase) e (scopesOf (at .prunable)) k h ps (stateOf s (bindsOf st))) (ended r)
 
   pub record ExpandedFunction (i head id body : ℕ) (r : Answer) : Type 0 where
     pub means : (k : Sets) (qs : Stxs) (h : Stx) (c : Sets) (x : ℕ) (y : Stx) (e : Env) → Rep l (s .top) i (stx (list k qs)) → Rep l (s .top) head (stx h) → Rep l (s .top) id (stx (atom c (symbol x))) → Rep l (s .top) body (stx y)
         → RepE l (s .top) (at .meanings) e
-        → Agrees objects 1 cellSize l l′ (unpaid s) (bindsOf st′) (expandFunction (entries left) (at .phase) e (scopesOf (at .prunable)) k h c x y (stateOf s (bindsOf st))) (ended r)
+        → Agrees objects 1 twoCells l l′ (unpaid s) (bindsOf st′) (expandFunction (entries left) (at .phase) e (scopesOf (at .prunable)) k h c x y (stateOf s (bindsOf st))) (ended r)
 
   pub record ExpandedAbstraction (i head n d binder body : ℕ) (r : Answer) : Type 0 where
     pub means : (k : Sets) (qs : Stxs) (h : Stx) (c : Sets) (x : ℕ) (y : Stx) (e : Env) → Rep l (s .top) i (stx (list k qs)) → Rep l (s .top) head (stx h) → Rep l (s .top) binder (stx (atom c (symbol x))) → Rep l (s .top) body (stx y)
@@ -246,24 +219,24 @@ module _ (left : ℕ) (at : Context) (st st′ l l′ : List ℕ) (s : State) wh
 
   pub record ExpandedLetSyntax (tail : ℕ) (r : Answer) : Type 0 where
     pub means : (ps : Stxs) (e : Env) → RepP l (s .top) tail (fromStxs ps) → RepE l (s .top) (at .meanings) e
-        → Agrees objects 1 cellSize l l′ (unpaid s) (bindsOf st′) (expandLetSyntax (entries left) left (at .phase) e (scopesOf (at .prunable)) ps (stateOf s (bindsOf st))) (ended r)
+        → Agrees objects 1 twoCells l l′ (unpaid s) (bindsOf st′) (expandLetSyntax (entries left) left (at .phase) e (scopesOf (at .prunable)) ps (stateOf s (bindsOf st))) (ended r)
 
   pub record ExpandedBinding (id right body : ℕ) (r : Answer) : Type 0 where
     pub means : (c : Sets) (x : ℕ) (u y : Stx) (e : Env) → Rep l (s .top) id (stx (atom c (symbol x))) → Rep l (s .top) right (stx u) → Rep l (s .top) body (stx y) → RepE l (s .top) (at .meanings) e
-        → Agrees objects 1 cellSize l l′ s (bindsOf st′) (expandBinding (entries left) left (at .phase) e (scopesOf (at .prunable)) c x u y (stateOf s (bindsOf st))) (ended r)
+        → Agrees objects 1 twoCells l l′ s (bindsOf st′) (expandBinding (entries left) left (at .phase) e (scopesOf (at .prunable)) c x u y (stateOf s (bindsOf st))) (ended r)
 
   pub record ExpandedRhs (n d right body : ℕ) (r : Answer) : Type 0 where
     pub means : (u y : Stx) (e : Env) → Rep l (s .top) right (stx u) → Rep l (s .top) body (stx y) → RepE l (s .top) (at .meanings) e
-        → Agrees objects 1 cellSize l l′ s (bindsOf st′) (rhsRule (entries left) left (at .phase) e (scopesOf (at .prunable)) n d u y (stateOf s (bindsOf st))) (ended r)
+        → Agrees objects 1 twoCells l l′ s (bindsOf st′) (rhsRule (entries left) left (at .phase) e (scopesOf (at .prunable)) n d u y (stateOf s (bindsOf st))) (ended r)
 
   pub record ExpandedDefined (n d right body : ℕ) (r : Answer) : Type 0 where
     pub means : (u y : Stx) (e : Env) → Rep l (s .top) right (stx u) → Rep l (s .top) body (stx y) → RepE l (s .top) (at .meanings) e
-        → Agrees objects 1 cellSize l l′ s (bindsOf st′) (definedRule (entries left) left (at .phase) e (scopesOf (at .prunable)) n d u y (stateOf s (bindsOf st))) (ended r)
+        → Agrees objects 1 twoCells l l′ s (bindsOf st′) (definedRule (entries left) left (at .phase) e (scopesOf (at .prunable)) n d u y (stateOf s (bindsOf st))) (ended r)
 
   pub record ExpandedMacro (i v : ℕ) (r : Answer) : Type 0 where
     pub means : (x : Stx) (t : Tree) (e : Env) → Rep l (s .top) i (stx x) → Rep l (s .top) v t → RepE l (s .top) (at .meanings) e
-        → Agrees objects 1 cellSize l l′ s (bindsOf st′) (expandMacro (entries left) left (at .phase) e (scopesOf (at .prunable)) t x (stateOf s (bindsOf st))) (ended r)
+        → Agrees objects 1 twoCells l l′ s (bindsOf st′) (expandMacro (entries left) left (at .phase) e (scopesOf (at .prunable)) t x (stateOf s (bindsOf st))) (ended r)
 
   pub record ExpandedRewritten (v form k : ℕ) (r : Answer) : Type 0 where
     pub means : (x : Stx) (t : Tree) (e : Env) → Rep l (s .top) v t → Rep l (s .top) form (stx x) → RepE l (s .top) (at .meanings) e
-        → Agrees objects 1 cellSize l l′ s (bindsOf st′) (rewrittenRule (entries left) left (at .phase) e (scopesOf (at .prunable)) t k x (stateOf s (bindsOf st))) (ended r)
+        → Agrees objects 1 twoCells l l′ s (bindsOf st′) (rewrittenRule (entries left) left (at .phase) e (scopesOf (at .prunable)) t k x (stateOf s (bindsOf st))) (ended r)

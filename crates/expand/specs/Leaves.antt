@@ -21,7 +21,7 @@ use Rattle.parse.specs.Parsing.{unpaid}
 use Rattle.environment.specs.Meanings.{RepE}
 use Rattle.scoping.specs.Changing.{objects}
 use Rattle.expand.specs.declared.Context.{Context}
-use Rattle.table.specs.Sizes.{cellSize, nodeSpare}
+use Rattle.table.specs.Sizes.{twoCells, nodeSpare}
 
 -- ---- an identifier
 
@@ -46,7 +46,7 @@ nameRule ph e c x = do
 
 pub record ExpandedName (at : Context) (st l : List ℕ) (s : State) (i : ℕ) (r : Answer) : Type 0 where
   pub means : (c : Sets) (x : ℕ) (e : Env) → Rep l (s .top) i (stx (atom c (symbol x))) → RepE l (s .top) (at .meanings) e
-      → Agrees objects 1 cellSize l l (unpaid s) (bindsOf st) (nameRule (at .phase) e c x (stateOf s (bindsOf st))) (ended r)
+      → Agrees objects 1 twoCells l l (unpaid s) (bindsOf st) (nameRule (at .phase) e c x (stateOf s (bindsOf st))) (ended r)
 
 -- ---- quote and syntax: a list, and its parts after the head
 
@@ -66,11 +66,11 @@ quoteRule x l = parts1 l (λ s. done x)
 
 pub record ExpandedQuote (l : List ℕ) (s : State) (i tail : ℕ) (r : Answer) : Type 0 where
   pub means : (b : Store) (x : Stx) (ps : Stxs) → Rep l (s .top) i (stx x) → RepP l (s .top) tail (fromStxs ps)
-      → Agrees objects 1 cellSize l l (unpaid s) b (quoteRule x ps (stateOf s b)) (ended r)
+      → Agrees objects 1 twoCells l l (unpaid s) b (quoteRule x ps (stateOf s b)) (ended r)
 
 pub record ExpandedSyntax (ph : ℕ) (p : Scopes) (l l′ : List ℕ) (s : State) (i head tail : ℕ) (r : Answer) : Type 0 where
   pub means : (b : Store) (k : Sets) (h : Stx) (ps : Stxs) → Rep l (s .top) i (stx (list k (cons h ps))) → Rep l (s .top) head (stx h) → RepP l (s .top) tail (fromStxs ps)
-      → Agrees objects 1 cellSize l l′ (unpaid s) b (expandSyntax ph p k h ps (stateOf s b)) (ended r)
+      → Agrees objects 1 twoCells l l′ (unpaid s) b (expandSyntax ph p k h ps (stateOf s b)) (ended r)
 
 pub record ReadyPruned (l : List ℕ) (s : State) (i head x : ℕ) : Type 0 where
   pub sets : Sets
@@ -91,7 +91,7 @@ prunedRule ph p c h s = do
 
 pub record Pruned (ph : ℕ) (p : Scopes) (l l′ : List ℕ) (s : State) (i head x : ℕ) (r : Answer) : Type 0 where
   pub means : (b : Store) (k : Sets) (qs : Stxs) (h y : Stx) → Rep l (s .top) i (stx (list k qs)) → Rep l (s .top) head (stx h) → Rep l (s .top) x (stx y)
-      → Agrees objects 1 cellSize l l′ (unpaid s) b (prunedRule ph p k h y (stateOf s b)) (ended r)
+      → Agrees objects 1 twoCells l l′ (unpaid s) b (prunedRule ph p k h y (stateOf s b)) (ended r)
 
 -- ---- values
 
@@ -108,7 +108,7 @@ valueRule d ph x = do
   evaluate d t
 
 pub record Values (left ph : ℕ) (st l l′ : List ℕ) (s : State) (i : ℕ) (r : Answer) : Type 0 where
-  pub means : (x : Stx) → Rep l (s .top) i (stx x) → Agrees trees 1 cellSize l l′ s (bindsOf st) (valueRule left ph x (stateOf s (bindsOf st))) (ended r)
+  pub means : (x : Stx) → Rep l (s .top) i (stx x) → Agrees trees 1 twoCells l l′ s (bindsOf st) (valueRule left ph x (stateOf s (bindsOf st))) (ended r)
 
 pub record ReadyBack (l : List ℕ) (s : State) (i : ℕ) : Type 0 where
   pub thing : Tree

@@ -25,7 +25,7 @@ ghost use Rattle.scopes.specs.Sets.{scopesOf, Declared};
 ghost use Rattle.parse.specs.Parsing.{unpaid};
 ghost use Rattle.expand.specs.Making.{Relistable, Relisted, Chainable, Chained, ReadyList, Lists, ReadyTwo, TwoLists, ReadyThree, ThreeLists};
 ghost use Rattle.expand.specs.Leaves.{ReadyName, ExpandedName, ReadyTail, ExpandedQuote, ExpandedSyntax, ReadyPruned, Pruned, ReadyValue, Values, ReadyBack, Backs, ReadyTranscribed, Transcribes};
-ghost use Rattle.expand.specs.Cycle.{Ready, ReadyParts, ReadyPair, ReadyRest, ReadyChain, ReadyForm, ReadyLet, ReadyFunction, ReadyAbstraction, ReadyScoped, ReadyInner, ReadyBinding, ReadyRhs, ReadyDefined, ReadyMacro, ReadyRewritten, Expanded, ExpandedEntry, ExpandedList, ExpandedApplication, ExpandedParts, ExpandedPair, ExpandedRest, ExpandedLambda, ExpandedFunction, ExpandedAbstraction, ExpandedScoped, ExpandedInner, ExpandedLetSyntax, ExpandedBinding, ExpandedRhs, ExpandedDefined, ExpandedMacro, ExpandedRewritten};
+ghost use Rattle.expand.specs.Cycle.{Ready, ReadyParts, ReadyChain, ReadyForm, ReadyLet, ReadyFunction, ReadyAbstraction, ReadyScoped, ReadyInner, ReadyBinding, ReadyRhs, ReadyDefined, ReadyMacro, ReadyRewritten, Expanded, ExpandedEntry, ExpandedList, ExpandedApplication, ExpandedParts, ExpandedLambda, ExpandedFunction, ExpandedAbstraction, ExpandedScoped, ExpandedInner, ExpandedLetSyntax, ExpandedBinding, ExpandedRhs, ExpandedDefined, ExpandedMacro, ExpandedRewritten};
 
 // Where an object is expanded.
 pub struct Context {
@@ -361,62 +361,33 @@ fn application(
     }
 }
 
-// The parts of the chain c, from left to right.
+// The parts of the chain c, from left to right: what they become as a chain, made with the last first, and turned round.
 fn parts(table: &mut [u32], store: &mut [u64], s: State, c: u32, left: u32, at: Context) -> Answer
     requires { ⌜ ReadyParts (now table) (now store) s c at ⌝ }
     ensures { λ r. ⌜ ExpandedParts left at (now (store .entry)) (now (store .exit)) (now (table .entry)) (now (table .exit)) s c r ⌝ }
 {
-    if c == 0 {
-        return Answer::Done(Out { at: 0, state: s });
-    }
-    let x = table::get_cell(table, c);
-    pair(table, store, s, x.head, x.tail, left, at)
-}
-
-// A part, and the others after it.
-fn pair(
-    table: &mut [u32],
-    store: &mut [u64],
-    s: State,
-    first: u32,
-    others: u32,
-    left: u32,
-    at: Context,
-) -> Answer
-    requires { ⌜ ReadyPair (now table) (now store) s first others at ⌝ }
-    ensures { λ r. ⌜ ExpandedPair left at (now (store .entry)) (now (store .exit)) (now (table .entry)) (now (table .exit)) s first others r ⌝ }
-{
-    match expand(table, store, s, first, left, at) {
-        Answer::Refused(f) => Answer::Refused(f),
-        Answer::Done(o) => {
-            let s1 = o.state;
-            rest(table, store, s1, o.at, others, left, at)
+    let mut t = s;
+    let mut from = c;
+    let mut turned: u32 = 0;
+    while from != 0 {
+        let x = table::get_cell(table, from);
+        match expand(table, store, t, x.head, left, at) {
+            Answer::Refused(f) => return Answer::Refused(f),
+            Answer::Done(o) => {
+                let s1 = o.state;
+                let m = things::link(table, s1.top, o.at, turned);
+                t = s1.raised(m.top);
+                from = x.tail;
+                turned = m.at;
+            }
         }
     }
-}
-
-// The others, put after what the part before them became.
-fn rest(
-    table: &mut [u32],
-    store: &mut [u64],
-    s: State,
-    first: u32,
-    others: u32,
-    left: u32,
-    at: Context,
-) -> Answer
-    requires { ⌜ ReadyRest (now table) (now store) s first others at ⌝ }
-    ensures { λ r. ⌜ ExpandedRest left at (now (store .entry)) (now (store .exit)) (now (table .entry)) (now (table .exit)) s first others r ⌝ }
-{
-    match parts(table, store, s, others, left, at) {
-        Answer::Refused(f) => Answer::Refused(f),
-        Answer::Done(o) => {
-            let s1 = o.state;
-            let m = things::link(table, s1.top, first, o.at);
-            let state = s1.raised(m.top);
-            Answer::Done(Out { at: m.at, state })
-        }
-    }
+    let chain = things::turn(table, t.top, turned);
+    let state = t.raised(chain.top);
+    Answer::Done(Out {
+        at: chain.at,
+        state,
+    })
 }
 
 // ---- what is expanded in a new scope

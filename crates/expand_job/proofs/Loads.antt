@@ -39,7 +39,7 @@ use Rattle.endings.specs.declared.Ending.the-variants as ending
 use Rattle.endings.specs.Ends.{SyntaxDone, EndsSyntax}
 use Rattle.expand_job.specs.Loading.{Loading, LoadedEnds}
 use Rattle.expand_job.proofs.Worked.{Came, came-done, came-ends, stop-ends}
-use Rattle.table.specs.Sizes.{cellSize}
+use Rattle.table.specs.Sizes.{twoCells}
 
 abbrev atCore : ℕ → ScopeSet → Context
 atCore ph none = record { phase = ph; meanings = 0; prunable = none }
@@ -81,9 +81,9 @@ module _ {image : List ℕ} {j : Judgement} {st l : List ℕ} {s : State} {budge
       v′ : Expanded 128 (atCore ph none) st st′ l′ l″ (raisedTo (b .top) s) (b .at) a
       v′ = subst (λ (z : State). Expanded 128 (atCore ph none) st st′ l′ l″ z (b .at) a) te v
 
-      agrees : Agrees objects 1 cellSize l′ l″ (raisedTo (b .top) s) (bindsOf st′) result (ended a)
+      agrees : Agrees objects 1 twoCells l′ l″ (raisedTo (b .top) s) (bindsOf st′) result (ended a)
       agrees =
-          subst (λ (p : Scopes). Agrees objects 1 cellSize l′ l″ (raisedTo (b .top) s) (bindsOf st′) (expand 128 ph coreOnly p object (stateOf s (bindsOf st))) (ended a)) ne
+          subst (λ (p : Scopes). Agrees objects 1 twoCells l′ l″ (raisedTo (b .top) s) (bindsOf st′) (expand 128 ph coreOnly p object (stateOf s (bindsOf st))) (ended a)) ne
           (v′ .means object coreOnly shown is-core)
 
       stopped : {f : Stop} → a ≡ Refused f → result ≡ no (refusalOf (f .refusal)) (f .units)

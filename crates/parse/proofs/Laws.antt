@@ -53,9 +53,9 @@ use Rattle.forms.proofs.Shapes.{nil-at, first-at, on-one, on-not-one, on-two, o
 use Rattle.forms.proofs.Names.{on-named, on-unclear, on-unnamed, identifier-named, identifier-unclear, identifier-unnamed}
 use Rattle.syntax.specs.Copying.{Copyable, Copied}
 use Rattle.parse.specs.Shown.{Held, ShownTree, ShownChain, trees, chains}
-use Rattle.parse.specs.Parsing.{unpaid, Ready, ReadyParts, ReadyForm, ReadyPair, ReadyRest, ReadyChain, ReadyData, nameRule, functionRule, lambdaRule, dataRule, quoteRule, syntaxRule, restRule, applicationRule, Parsed, ParsedEntry, ParsedName, ParsedList, ParsedForm, ParsedLambda, ParsedFunction, ParsedQuote, ParsedData, ParsedSyntax, ParsedApplication, ParsedParts, ParsedPair, ParsedRest}
+use Rattle.parse.specs.Parsing.{unpaid, Ready, ReadyParts, ReadyForm, ReadyChain, ReadyData, nameRule, functionRule, lambdaRule, dataRule, quoteRule, syntaxRule, applicationRule, Parsed, ParsedEntry, ParsedName, ParsedList, ParsedForm, ParsedLambda, ParsedFunction, ParsedQuote, ParsedData, ParsedSyntax, ParsedApplication, ParsedParts}
 use Rattle.parse.proofs.Rules.{parse-entry, entry-atom, entry-symbol, entry-empty, list-named, list-unclear, list-unnamed, form-lambda, form-let-syntax, form-quote, form-syntax, form-other, application-is, application-no}
-use Rattle.table.specs.Sizes.{cellSize, cellSpare, nodeSize, unitSize}
+use Rattle.table.specs.Sizes.{cellSize, twoCells, nodeSize, unitSize}
 use Rattle.store.specs.Sizes.{bindingSize}
 
 stx-is : {a b : Stx} → stx a ≡ stx b → a ≡ b
@@ -73,7 +73,7 @@ top-is : {s u : State} → Went 1 s u → u .top ≡ s .top
 top-is w = ap (λ (y : State). y .top) (w .is)
 
 -- what an entry makes of one node
-node-later : {l l1 : List ℕ} {top1 : ℕ} (s : State) → Same (s .top) l l1 → top1 ≡ s .top + nodeSize → Later 1 cellSize l l1 (unpaid s) (raisedTo top1 s)
+node-later : {l l1 : List ℕ} {top1 : ℕ} (s : State) → Same (s .top) l l1 → top1 ≡ s .top + nodeSize → Later 1 twoCells l l1 (unpaid s) (raisedTo top1 s)
 unfolding unpaid
 node-later s k g = record { kept = k; grows = omega (arith, g); fits = omega (arith, g); spent = omega arith }
 
@@ -118,7 +118,7 @@ module _ (left : ℕ) (s : State) {u : State} {x : Charged} (h : x ≡ enterOf l
       record {
         means = λ y q.
             let a = f .means y (rw (top-is w) q) in
-            let d : Agrees trees 1 cellSize l l1 s (bindsOf st) (parseEntry (λ z. parse (left - 1) ph z) ph y (stateOf u (bindsOf st))) (ended r) = rw (unpaid-is w) at a in
+            let d : Agrees trees 1 twoCells l l1 s (bindsOf st) (parseEntry (λ z. parse (left - 1) ph z) ph y (stateOf u (bindsOf st))) (ended r) = rw (unpaid-is w) at a in
             rw (entry-goes (parse-entry ph y) left s (bindsOf st) h e) d;
       }
 
@@ -360,7 +360,7 @@ module _ {left ph : ℕ} {st l l1 : List ℕ} (s : State) {body : ℕ} {a : Answ
   function-refused e = record { means = λ x w. stops _ (then-no _ (on-refused (v .means x w) (ap ended e))) }
 
   module _ {o : Out} (e : a ≡ Done o) where
-    function-gave : (x : Stx) → Rep l (s .top) body (stx x) → Gave trees 1 cellSize l l1 s (bindsOf st) (parse left ph x (stateOf s (bindsOf st))) o
+    function-gave : (x : Stx) → Rep l (s .top) body (stx x) → Gave trees 1 twoCells l l1 s (bindsOf st) (parse left ph x (stateOf s (bindsOf st))) o
     function-gave x w = on-done (v .means x w) (ap ended e)
 
     pub function-ready : Ready l st (unpaid s) body → length l1 ≡ length l → Closable l1 (o .state .top) (o .at)
@@ -524,127 +524,6 @@ module _ {left ph : ℕ} {st l l1 : List ℕ} (s : State) {c : ℕ} {a : Answer}
               }));
         }
 
--- ---- parts
-
-pub parts-none : {left ph : ℕ} {st l : List ℕ} {s : State} {c : ℕ} → ReadyParts l st s c → c ≡ 0 → ParsedParts left ph st l l s c (Done (record { at = 0; state = s }))
-unfolding parseAll
-parts-none {left} {ph} {st} {l} {s} r h =
-    record { means = λ ps w. rw (nil-at ps w h) (gives _ (record { value = tnil; is = refl; shown = record { rep = is-none; few = r .held .few }; later = later-refl l s })) }
-
-pub parts-inside : {l st : List ℕ} {s : State} {c : ℕ} → ReadyParts l st s c → ¬ (c ≡ 0) → c + cellSize ≤ length l
-parts-inside r h = omega (arith, first-at (r .thing) (r .shown) h refl .cell .inside, r .room .fits)
-
-module _ {st l : List ℕ} {s : State} {c : ℕ} {x : Cell} (h : ¬ (c ≡ 0)) (e : x ≡ getCell l c) where
-  pub parts-pair-ready : ReadyParts l st s c → ReadyPair l st s (x .head) (x .tail)
-  parts-pair-ready r =
-      let q = first-at (r .thing) (r .shown) h e in
-      record { first = q .first; others = q .others; shown = q .cell .shown; shown-others = q .cell .shown-others; room = r .room; held = r .held }
-
-  pub parts-paired : {left ph : ℕ} {l1 : List ℕ} {r : Answer} → ParsedPair left ph st l l1 s (x .head) (x .tail) r → ParsedParts left ph st l l1 s c r
-  parts-paired a = record { means = λ ps w. let q = first-at ps w h e in rw (q .is) (a .means (q .first) (q .others) (q .cell .shown) (q .cell .shown-others)) }
-
--- ---- pair
-
--- the part before has left the cell's room
-since-cell : {l l1 l2 : List ℕ} {s s1 : State} {b : Store} {q q′ : m.Out Trees} {x : Ended Out} → Later 1 cellSize l l1 s s1 → q ≡ q′ → Agrees chains 1 cellSpare l1 l2 (unpaid s1) b q′ x → Agrees chains 0 0 l l2 s b q x
-unfolding unpaid
-since-cell {l} {l1} {l2} {s} {s1} p e (gives o a) =
-    gives o (record {
-      value = a .value;
-      is = e ∙ a .is;
-      shown = a .shown;
-      later = record {
-        kept = same-trans (s .top) (s1 .top) l l1 l2 (p .grows) (p .kept) (a .later .kept);
-        grows = omega (arith, p .grows, a .later .grows);
-        fits = omega (arith, p .fits, a .later .fits);
-        spent = omega (arith, p .spent, a .later .spent);
-      };
-    })
-since-cell p e (stops f a) = stops f (e ∙ a)
-
-pub pair-first-ready : {l st : List ℕ} {s : State} {i c : ℕ} → ReadyPair l st s i c → Ready l st s i
-pair-first-ready r = record { thing = r .first; shown = r .shown; room = r .room; held = r .held }
-
-module _ {left ph : ℕ} {st l l1 : List ℕ} {s : State} {i : ℕ} {a : Answer} (v : Parsed left ph st l l1 s i a) where
-  pub pair-first-refused : {c : ℕ} {f : Stop} → a ≡ Refused f → ParsedPair left ph st l l1 s i c (Refused f)
-  unfolding parseAll
-  pair-first-refused k = record { means = λ x ps w y. stops _ (then-no _ (on-refused (v .means x w) (ap ended k))) }
-
-  module _ {o : Out} (k : a ≡ Done o) where
-    first-gave : (x : Stx) → Rep l (s .top) i (stx x) → Gave trees 1 cellSize l l1 s (bindsOf st) (parse left ph x (stateOf s (bindsOf st))) o
-    first-gave x w = on-done (v .means x w) (ap ended k)
-
-    pub pair-rest-ready : {c : ℕ} → ReadyPair l st s i c → length l1 ≡ length l → ReadyRest l1 st (o .state) (o .at) c
-    pair-rest-ready r len =
-        let g = first-gave (r .first) (r .shown) in
-        record {
-          first = g .value;
-          others = r .others;
-          shown = g .shown .rep;
-          shown-others = carryP (r .shown-others) (g .later .kept) (g .later .grows);
-          room = room-later (r .room) (g .later) len;
-          cell = omega (arith, g .later .fits, r .room .fits, len);
-          held = record { few = g .shown .few; wide = r .held .wide };
-        }
-
-    pub pair-less : {c T : ℕ} → ReadyPair l st s i c → s .units * 8 + 1 ≡ T → o .state .units * 8 + 3 < T
-    pair-less r z = let g = first-gave (r .first) (r .shown) in omega (arith, g .later .spent)
-
-    pub pair-rest : {c : ℕ} {l2 : List ℕ} {d : Answer} → ParsedRest left ph st l1 l2 (o .state) (o .at) c d → ParsedPair left ph st l l2 s i c d
-    unfolding parseAll restRule
-    pair-rest w =
-        record {
-          means = λ x ps p q.
-              let g = first-gave x p in
-              since-cell (g .later) (then-ok _ (g .is)) (w .means (g .value) ps (g .shown .rep) (carryP q (g .later .kept) (g .later .grows)));
-        }
-
--- ---- rest
-
-module _ {l st : List ℕ} {s : State} {i c : ℕ} (r : ReadyRest l st s i c) where
-  pub rest-ready : ReadyParts l st s c
-  rest-ready = record { thing = r .others; shown = r .shown-others; room = r .room; held = r .held }
-
-module _ {left ph : ℕ} {st l l1 : List ℕ} (s : State) {c : ℕ} {a : Answer} (w : ParsedParts left ph st l l1 s c a) where
-  pub rest-refused : {i : ℕ} {f : Stop} → a ≡ Refused f → ParsedRest left ph st l l1 s i c (Refused f)
-  unfolding restRule
-  rest-refused z = record { means = λ t ps p q. stops _ (then-no _ (on-refused (w .means ps q) (ap ended z))) }
-
-  module _ {o : Out} (z : a ≡ Done o) where
-    others-gave : (ps : Stxs) → RepP l (s .top) c (fromStxs ps) → Gave chains 0 0 l l1 s (bindsOf st) (parseAll (λ y. parse left ph y) ps (stateOf s (bindsOf st))) o
-    others-gave ps q = on-done (w .means ps q) (ap ended z)
-
-    pub rest-link-ready : {i : ℕ} → ReadyRest l st s i c → length l1 ≡ length l → Linkable l1 (o .state .top) i (o .at)
-    rest-link-ready r len =
-        let j = others-gave (r .others) (r .shown-others) in
-        record {
-          thing = r .first;
-          others = j .value;
-          shown = carry (r .shown) (j .later .kept) (j .later .grows);
-          shown-others = j .shown .rep;
-          room = record { fits = omega (arith, j .later .fits, r .cell, len); small = omega (arith, r .room .small, len); low = omega (arith, r .room .low, j .later .grows) };
-        }
-
-    pub rest-linked : {i : ℕ} {l2 : List ℕ} {n : Made} {u : State} → Linked l1 l2 (o .state .top) i (o .at) (n .at) (n .top) → u ≡ raisedTo (n .top) (o .state)
-        → ParsedRest left ph st l l2 s i c (Done (record { at = n .at; state = u }))
-    unfolding restRule unpaid
-    rest-linked {i} {l2} {n} y e =
-        record {
-          means = λ t ps p q.
-              let j = others-gave ps q in
-              rw e (gives (record { at = n .at; state = raisedTo (n .top) (o .state) }) (record {
-                value = tcons t (j .value);
-                is = then-ok _ (j .is);
-                shown = record { rep = y .means t (j .value) (carry p (j .later .kept) (j .later .grows)) (j .shown .rep); few = j .shown .few };
-                later = record {
-                  kept = same-trans (s .top) (o .state .top) l l1 l2 (j .later .grows) (j .later .kept) (y .kept);
-                  grows = omega (arith, j .later .grows, y .grows);
-                  fits = omega (arith, j .later .fits, y .grows);
-                  spent = omega (arith, j .later .spent);
-                };
-              }));
-        }
-
 pub ruleset laws = (
   node-inside,
   node-seen,
@@ -704,17 +583,4 @@ pub ruleset laws = (
   application-refused,
   application-roomy,
   application-made,
-  parts-none,
-  parts-inside,
-  parts-pair-ready,
-  parts-paired,
-  pair-first-ready,
-  pair-first-refused,
-  pair-rest-ready,
-  pair-less,
-  pair-rest,
-  rest-ready,
-  rest-refused,
-  rest-link-ready,
-  rest-linked,
 )

@@ -3,7 +3,7 @@
 use mathlib.Core.List.{List}
 use Prim.Native.Nat.{ℕ, _+_, _≤_}
 use lib.ListN.{length}
-use Rattle.model.specs.Objects.{Sets, Stx, list, Stxs, cons, size}
+use Rattle.model.specs.Objects.{Sets, Stx, list, Stxs, size}
 use Rattle.model.specs.Trees.{Tree, var, app, fun, stx, Trees, tcons, fromStxs, strip}
 use Rattle.model.specs.Steps.{Step, _>>=_, _>>_, done, charge, resolveAt, parts1, parts2, identifier}
 use Rattle.model.specs.Parsing.{formOf, parseAll, parseForm, parseEntry, parse}
@@ -14,7 +14,7 @@ use Rattle.steps.specs.declared.State.{State}
 use Rattle.steps.specs.declared.Answer.{Answer}
 use Rattle.things.specs.Rep.{Rep, RepP}
 use Rattle.parse.specs.Shown.{Held, trees, chains}
-use Rattle.table.specs.Sizes.{cellSize, cellSpare}
+use Rattle.table.specs.Sizes.{twoCells}
 
 unfoldable pub unpaid : State → State
 unpaid s = record { top = s .top; units = s .units + 1; names = s .names; scopes = s .scopes; bindings = s .bindings }
@@ -40,24 +40,6 @@ pub record ReadyForm (l st : List ℕ) (s : State) (c tail : ℕ) : Type 0 where
   pub shown : RepP l (s .top) c (tcons (stx first) (fromStxs others))
   pub shown-others : RepP l (s .top) tail (fromStxs others)
   pub room : Room l s
-  pub held : Held st s
-
-pub record ReadyPair (l st : List ℕ) (s : State) (i c : ℕ) : Type 0 where
-  pub first : Stx
-  pub others : Stxs
-  pub shown : Rep l (s .top) i (stx first)
-  pub shown-others : RepP l (s .top) c (fromStxs others)
-  pub room : Room l s
-  pub held : Held st s
-
--- the first part done, with a cell's room
-pub record ReadyRest (l st : List ℕ) (s : State) (i c : ℕ) : Type 0 where
-  pub first : Tree
-  pub others : Stxs
-  pub shown : Rep l (s .top) i first
-  pub shown-others : RepP l (s .top) c (fromStxs others)
-  pub room : Room l s
-  pub cell : end s + cellSize ≤ length l
   pub held : Held st s
 
 -- where no name is looked up
@@ -106,12 +88,6 @@ unfoldable pub syntaxRule : Stxs → Step Tree
 unfolding parts1
 syntaxRule l = parts1 l (λ s. done (stx s))
 
-unfoldable pub restRule : (Stx → Step Tree) → Tree → Stxs → Step Trees
-unfolding parseAll
-restRule self t l = do
-  r ← parseAll self l
-  done (tcons t r)
-
 unfoldable pub applicationRule : (Stx → Step Tree) → Stx → Stxs → Step Tree
 unfolding parseAll
 applicationRule self h l = do
@@ -122,53 +98,44 @@ applicationRule self h l = do
 -- ---- what is given
 
 pub record Parsed (left ph : ℕ) (st l l′ : List ℕ) (s : State) (i : ℕ) (r : Answer) : Type 0 where
-  pub means : (x : Stx) → Rep l (s .top) i (stx x) → Agrees trees 1 cellSize l l′ s (bindsOf st) (parse left ph x (stateOf s (bindsOf st))) (ended r)
+  pub means : (x : Stx) → Rep l (s .top) i (stx x) → Agrees trees 1 twoCells l l′ s (bindsOf st) (parse left ph x (stateOf s (bindsOf st))) (ended r)
 
 pub record ParsedEntry (left ph : ℕ) (st l l′ : List ℕ) (s : State) (i : ℕ) (r : Answer) : Type 0 where
   pub means : (x : Stx) → Rep l (s .top) i (stx x)
-      → Agrees trees 1 cellSize l l′ (unpaid s) (bindsOf st) (parseEntry (λ y. parse left ph y) ph x (stateOf s (bindsOf st))) (ended r)
+      → Agrees trees 1 twoCells l l′ (unpaid s) (bindsOf st) (parseEntry (λ y. parse left ph y) ph x (stateOf s (bindsOf st))) (ended r)
 
 pub record ParsedName (ph : ℕ) (st l l′ : List ℕ) (s : State) (i : ℕ) (r : Answer) : Type 0 where
-  pub means : (x : Stx) → Rep l (s .top) i (stx x) → Agrees trees 1 cellSize l l′ (unpaid s) (bindsOf st) (nameRule ph x (stateOf s (bindsOf st))) (ended r)
+  pub means : (x : Stx) → Rep l (s .top) i (stx x) → Agrees trees 1 twoCells l l′ (unpaid s) (bindsOf st) (nameRule ph x (stateOf s (bindsOf st))) (ended r)
 
 pub record ParsedList (left ph : ℕ) (st l l′ : List ℕ) (s : State) (c : ℕ) (r : Answer) : Type 0 where
   pub means : (k : Sets) (ps : Stxs) → RepP l (s .top) c (fromStxs ps)
-      → Agrees trees 1 cellSize l l′ (unpaid s) (bindsOf st) (parseEntry (λ y. parse left ph y) ph (list k ps) (stateOf s (bindsOf st))) (ended r)
+      → Agrees trees 1 twoCells l l′ (unpaid s) (bindsOf st) (parseEntry (λ y. parse left ph y) ph (list k ps) (stateOf s (bindsOf st))) (ended r)
 
 pub record ParsedForm (left ph : ℕ) (st l l′ : List ℕ) (s : State) (head c tail : ℕ) (r : Answer) : Type 0 where
   pub means : (h : Stx) (ps : Stxs) → RepP l (s .top) c (tcons (stx h) (fromStxs ps)) → RepP l (s .top) tail (fromStxs ps)
-      → Agrees trees 1 cellSize l l′ (unpaid s) (bindsOf st) (parseForm (λ y. parse left ph y) ph (formOf head) h ps (stateOf s (bindsOf st))) (ended r)
+      → Agrees trees 1 twoCells l l′ (unpaid s) (bindsOf st) (parseForm (λ y. parse left ph y) ph (formOf head) h ps (stateOf s (bindsOf st))) (ended r)
 
 pub record ParsedLambda (left ph : ℕ) (st l l′ : List ℕ) (s : State) (c : ℕ) (r : Answer) : Type 0 where
   pub means : (ps : Stxs) → RepP l (s .top) c (fromStxs ps)
-      → Agrees trees 1 cellSize l l′ (unpaid s) (bindsOf st) (lambdaRule (λ y. parse left ph y) ph ps (stateOf s (bindsOf st))) (ended r)
+      → Agrees trees 1 twoCells l l′ (unpaid s) (bindsOf st) (lambdaRule (λ y. parse left ph y) ph ps (stateOf s (bindsOf st))) (ended r)
 
 pub record ParsedFunction (left ph : ℕ) (st l l′ : List ℕ) (s : State) (n body : ℕ) (r : Answer) : Type 0 where
   pub means : (x : Stx) → Rep l (s .top) body (stx x)
-      → Agrees trees 1 cellSize l l′ (unpaid s) (bindsOf st) (functionRule (λ y. parse left ph y) n x (stateOf s (bindsOf st))) (ended r)
+      → Agrees trees 1 twoCells l l′ (unpaid s) (bindsOf st) (functionRule (λ y. parse left ph y) n x (stateOf s (bindsOf st))) (ended r)
 
 pub record ParsedQuote (l l′ : List ℕ) (s : State) (c : ℕ) (r : Answer) : Type 0 where
-  pub means : (b : Store) (ps : Stxs) → RepP l (s .top) c (fromStxs ps) → Agrees trees 1 cellSize l l′ (unpaid s) b (quoteRule ps (stateOf s b)) (ended r)
+  pub means : (b : Store) (ps : Stxs) → RepP l (s .top) c (fromStxs ps) → Agrees trees 1 twoCells l l′ (unpaid s) b (quoteRule ps (stateOf s b)) (ended r)
 
 pub record ParsedData (l l′ : List ℕ) (s : State) (i : ℕ) (r : Answer) : Type 0 where
-  pub means : (b : Store) (x : Stx) → Rep l (s .top) i (stx x) → Agrees trees 1 cellSize l l′ (unpaid s) b (dataRule x (stateOf s b)) (ended r)
+  pub means : (b : Store) (x : Stx) → Rep l (s .top) i (stx x) → Agrees trees 1 twoCells l l′ (unpaid s) b (dataRule x (stateOf s b)) (ended r)
 
 pub record ParsedSyntax (l : List ℕ) (s : State) (c : ℕ) (r : Answer) : Type 0 where
-  pub means : (b : Store) (ps : Stxs) → RepP l (s .top) c (fromStxs ps) → Agrees trees 1 cellSize l l (unpaid s) b (syntaxRule ps (stateOf s b)) (ended r)
+  pub means : (b : Store) (ps : Stxs) → RepP l (s .top) c (fromStxs ps) → Agrees trees 1 twoCells l l (unpaid s) b (syntaxRule ps (stateOf s b)) (ended r)
 
 pub record ParsedApplication (left ph : ℕ) (st l l′ : List ℕ) (s : State) (c : ℕ) (r : Answer) : Type 0 where
   pub means : (h : Stx) (ps : Stxs) → RepP l (s .top) c (tcons (stx h) (fromStxs ps))
-      → Agrees trees 1 cellSize l l′ (unpaid s) (bindsOf st) (applicationRule (λ y. parse left ph y) h ps (stateOf s (bindsOf st))) (ended r)
+      → Agrees trees 1 twoCells l l′ (unpaid s) (bindsOf st) (applicationRule (λ y. parse left ph y) h ps (stateOf s (bindsOf st))) (ended r)
 
 pub record ParsedParts (left ph : ℕ) (st l l′ : List ℕ) (s : State) (c : ℕ) (r : Answer) : Type 0 where
   pub means : (ps : Stxs) → RepP l (s .top) c (fromStxs ps)
       → Agrees chains 0 0 l l′ s (bindsOf st) (parseAll (λ y. parse left ph y) ps (stateOf s (bindsOf st))) (ended r)
-
-pub record ParsedPair (left ph : ℕ) (st l l′ : List ℕ) (s : State) (i c : ℕ) (r : Answer) : Type 0 where
-  pub means : (x : Stx) (ps : Stxs) → Rep l (s .top) i (stx x) → RepP l (s .top) c (fromStxs ps)
-      → Agrees chains 0 0 l l′ s (bindsOf st) (parseAll (λ y. parse left ph y) (cons x ps) (stateOf s (bindsOf st))) (ended r)
-
--- the cell's words are not paid for here
-pub record ParsedRest (left ph : ℕ) (st l l′ : List ℕ) (s : State) (i c : ℕ) (r : Answer) : Type 0 where
-  pub means : (t : Tree) (ps : Stxs) → Rep l (s .top) i t → RepP l (s .top) c (fromStxs ps)
-      → Agrees chains 1 cellSpare l l′ (unpaid s) (bindsOf st) (restRule (λ y. parse left ph y) t ps (stateOf s (bindsOf st))) (ended r)

@@ -13,7 +13,7 @@ use steps::State;
 use steps::Stop;
 use table::Node;
 ghost use mathlib.Core.Path.{_≡_};
-ghost use Rattle.parse.specs.Parsing.{unpaid, Ready, ReadyParts, ReadyForm, ReadyPair, ReadyRest, ReadyChain, ReadyData, Parsed, ParsedEntry, ParsedName, ParsedList, ParsedForm, ParsedLambda, ParsedFunction, ParsedQuote, ParsedData, ParsedSyntax, ParsedApplication, ParsedParts, ParsedPair, ParsedRest};
+ghost use Rattle.parse.specs.Parsing.{unpaid, Ready, ReadyParts, ReadyForm, ReadyChain, ReadyData, Parsed, ParsedEntry, ParsedName, ParsedList, ParsedForm, ParsedLambda, ParsedFunction, ParsedQuote, ParsedData, ParsedSyntax, ParsedApplication, ParsedParts};
 
 // One entry.
 pub fn parse(table: &mut [u32], store: &[u64], s: State, i: u32, phase: u32, left: u32) -> Answer
@@ -243,60 +243,31 @@ fn application(table: &mut [u32], store: &[u64], s: State, c: u32, phase: u32, l
     }
 }
 
-// The parts of the chain c in turn.
+// The parts of the chain c in turn: their trees as a chain, made with the last first, and turned round.
 fn parts(table: &mut [u32], store: &[u64], s: State, c: u32, phase: u32, left: u32) -> Answer
     requires { ⌜ ReadyParts (now table) (now store) s c ⌝ }
     ensures { λ r. ⌜ ParsedParts left phase (now (store .entry)) (now (table .entry)) (now (table .exit)) s c r ⌝ }
 {
-    if c == 0 {
-        return Answer::Done(Out { at: 0, state: s });
-    }
-    let x = table::get_cell(table, c);
-    pair(table, store, s, x.head, x.tail, phase, left)
-}
-
-// A part, and the others after it.
-fn pair(
-    table: &mut [u32],
-    store: &[u64],
-    s: State,
-    first: u32,
-    others: u32,
-    phase: u32,
-    left: u32,
-) -> Answer
-    requires { ⌜ ReadyPair (now table) (now store) s first others ⌝ }
-    ensures { λ r. ⌜ ParsedPair left phase (now (store .entry)) (now (table .entry)) (now (table .exit)) s first others r ⌝ }
-{
-    match parse(table, store, s, first, phase, left) {
-        Answer::Refused(f) => Answer::Refused(f),
-        Answer::Done(o) => {
-            let s1 = o.state;
-            rest(table, store, s1, o.at, others, phase, left)
+    let mut t = s;
+    let mut from = c;
+    let mut turned: u32 = 0;
+    while from != 0 {
+        let x = table::get_cell(table, from);
+        match parse(table, store, t, x.head, phase, left) {
+            Answer::Refused(f) => return Answer::Refused(f),
+            Answer::Done(o) => {
+                let s1 = o.state;
+                let m = things::link(table, s1.top, o.at, turned);
+                t = s1.raised(m.top);
+                from = x.tail;
+                turned = m.at;
+            }
         }
     }
-}
-
-// The others, put after the tree of the part before them.
-fn rest(
-    table: &mut [u32],
-    store: &[u64],
-    s: State,
-    first: u32,
-    others: u32,
-    phase: u32,
-    left: u32,
-) -> Answer
-    requires { ⌜ ReadyRest (now table) (now store) s first others ⌝ }
-    ensures { λ r. ⌜ ParsedRest left phase (now (store .entry)) (now (table .entry)) (now (table .exit)) s first others r ⌝ }
-{
-    match parts(table, store, s, others, phase, left) {
-        Answer::Refused(f) => Answer::Refused(f),
-        Answer::Done(o) => {
-            let s1 = o.state;
-            let m = things::link(table, s1.top, first, o.at);
-            let state = s1.raised(m.top);
-            Answer::Done(Out { at: m.at, state })
-        }
-    }
+    let chain = things::turn(table, t.top, turned);
+    let state = t.raised(chain.top);
+    Answer::Done(Out {
+        at: chain.at,
+        state,
+    })
 }

@@ -34,7 +34,7 @@ use Rattle.endings.specs.declared.Ending.the-variants as ending
 use Rattle.endings.specs.Ends.{TreeDone, EndsTree}
 use Rattle.endings.proofs.Worked.{Came, came-done, came-ends, stop-ends}
 use Rattle.parse_job.specs.Loading.{Loading, LoadedEnds}
-use Rattle.table.specs.Sizes.{cellSize}
+use Rattle.table.specs.Sizes.{twoCells}
 
 module _ {image : List ℕ} {j : Judgement} {store l : List ℕ} {s : State} {budget : ℕ} (d : Loading image j store l s budget) where
   abbrev good : SyntaxGood image store j
@@ -66,7 +66,7 @@ module _ {image : List ℕ} {j : Judgement} {store l : List ℕ} {s : State} {bu
       v′ : Parsed 128 0 store l′ l″ (raisedTo (b .top) s) (b .at) a
       v′ = subst (λ (z : State). Parsed 128 0 store l′ l″ z (b .at) a) te v
 
-      agrees : Agrees trees 1 cellSize l′ l″ (raisedTo (b .top) s) (bindsOf store) result (ended a)
+      agrees : Agrees trees 1 twoCells l′ l″ (raisedTo (b .top) s) (bindsOf store) result (ended a)
       agrees = v′ .means root shown
 
       stopped : {f : Stop} → a ≡ Refused f → result ≡ no (refusalOf (f .refusal)) (f .units)

@@ -55,7 +55,7 @@ use Rattle.scoping.specs.declared.Bound.the-variants as bounds
 use Rattle.scoping.specs.declared.Mark.{Mark}
 use Rattle.scoping.specs.declared.Marking.{Marking}
 use Rattle.scoping.specs.declared.Marking.the-variants as marking
-use Rattle.scoping.proofs.Steps.{after-after}
+use Rattle.steps.proofs.Laws.{after-after}
 use Rattle.table.specs.Sizes.{nodeSpare, unitSize}
 use Rattle.store.specs.Sizes.{bindingSize, storeSize}
 

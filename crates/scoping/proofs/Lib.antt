@@ -1,3 +1,2 @@
-pub mod Steps
 pub mod Changing
 pub mod Fresh

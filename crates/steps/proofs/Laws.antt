@@ -89,6 +89,15 @@ then-ok {A} f e = ap (λ (x : m.Out A). after x f) e
 pub then-no : {A B : Type 0} {q : m.Out A} {c : r.Refusal} {u : ℕ} (f : A → Step B) → q ≡ no c u → after q f ≡ no c u
 then-no {A} f e = ap (λ (x : m.Out A). after x f) e
 
+-- steps one after the other may be put together in any way, and one that only hands on changes nothing
+pub after-after : {A B C : Type 0} (o : m.Out A) (f : A → Step B) (g : B → Step C) → after (after o f) g ≡ after o (λ a. λ s. after (f a s) g)
+after-after (ok a s) f g = refl
+after-after (no c u) f g = refl
+
+pub after-done : {A : Type 0} (o : m.Out A) → after o (λ a. λ s. ok a s) ≡ o
+after-done (ok a s) = refl
+after-done (no c u) = refl
+
 pub unless-ok : (c : r.Refusal) {t : Bool} (y : m.State) → t ≡ true → unless c t y ≡ ok tt y
 unless-ok c y e = ap (λ (t : Bool). unless c t y) e
 

@@ -26,6 +26,14 @@ cellSize = 5
 abbrev pub partSize : ℕ
 partSize = nodeSize + cellSize
 
+-- the cells of a part of a list that is made with its last part first and then turned round
+abbrev pub twoCells : ℕ
+twoCells = 2 * cellSize
+
+-- a part of a list that is made with its last part first and then turned round: its node, and a cell for either time
+abbrev pub turnedSize : ℕ
+turnedSize = nodeSize + twoCells
+
 -- a list's own node with the cells of two parts, and of three
 abbrev pub pairSize : ℕ
 pairSize = nodeSize + 2 * cellSize

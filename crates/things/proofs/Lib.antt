@@ -4,3 +4,4 @@ pub mod ByTag
 pub mod Measuring
 pub mod Making
 pub mod Unique
+pub mod Turning

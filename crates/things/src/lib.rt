@@ -8,6 +8,7 @@ use table::Sets;
 ghost use mathlib.Core.Path.{_≡_};
 ghost use Prim.Native.Nat.{ℕ, _+_, _≤_, min, max};
 ghost use lib.ListN.{length};
+ghost use Rattle.things.specs.Turning.{Turnable, Turned};
 ghost use Rattle.things.specs.Making.{Roomy, Stored, StoredObject, Linkable, Linked, Closable, Closed};
 ghost use Rattle.things.specs.Measuring.{Seen, SeenP, Measured, MeasuredP, MeasuredL};
 ghost use Rattle.table.specs.Sizes.{nodeSize};
@@ -194,4 +195,22 @@ pub fn link(table: &mut [u32], top: u32, head: u32, tail: u32) -> Made
         at: top,
         top: top + Cell::WORDS,
     }
+}
+
+// The chain c with its last part first.
+pub fn turn(table: &mut [u32], top: u32, c: u32) -> Made
+    requires { ⌜ Turnable (now table) top c ⌝ }
+    ensures { λ r. ⌜ Turned (now (table .entry)) (now (table .exit)) top c (r .at) (r .top) ⌝ }
+{
+    let mut end = top;
+    let mut from = c;
+    let mut at: u32 = 0;
+    while from != 0 {
+        let x = table::get_cell(table, from);
+        let m = link(table, end, x.head, at);
+        end = m.top;
+        from = x.tail;
+        at = m.at;
+    }
+    Made { at, top: end }
 }

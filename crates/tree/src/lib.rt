@@ -53,16 +53,21 @@ fn substitute_body(table: &mut [u32], top: u32, b: u32, name: Name, x: Name, v: 
     things::make_function(table, m.top, name, m.at)
 }
 
-// The chain c with v for x.
+// The chain c with v for x, made with its last part first and then turned round.
 fn substitute_parts(table: &mut [u32], top: u32, c: u32, x: Name, v: u32) -> Made
     requires { ⌜ ReadyP (now table) top c v ⌝ }
     ensures { λ r. ⌜ SubstitutedP (now (table .entry)) (now (table .exit)) top c (x .0) v (r .at) (r .top) ⌝ }
 {
-    if c == 0 {
-        return Made { at: 0, top };
+    let mut end = top;
+    let mut from = c;
+    let mut turned: u32 = 0;
+    while from != 0 {
+        let cell = table::get_cell(table, from);
+        let h = substitute(table, end, cell.head, x, v);
+        let m = things::link(table, h.top, h.at, turned);
+        end = m.top;
+        from = cell.tail;
+        turned = m.at;
     }
-    let cell = table::get_cell(table, c);
-    let h = substitute(table, top, cell.head, x, v);
-    let r = substitute_parts(table, h.top, cell.tail, x, v);
-    things::link(table, r.top, h.at, r.at)
+    things::turn(table, end, turned)
 }

@@ -1,43 +1,62 @@
 use borrow.Author.Needs.{needs}
 use Prim.Native.Nat.{ℕ}
 use Rattle.builder.proofs.ChainLaws.{chain-laws}
-use Rattle.things.proofs.link.Reads as link-reads
+use Rattle.builder.proofs.ChainLaws.{Going}
+use Rattle.builder.specs.Reads.{TreesRead}
 use Rattle.builder.proofs.tree.Reads as tree
 use Rattle.builder.proofs.trees.Reads as trees
+use Rattle.things.proofs.link.Reads as link-reads
+use Rattle.things.proofs.turn.Reads as turn-reads
 use Rattle.builder.proofs.+function+list+tree+trees.Lts-trees as lts
-use Rattle.builder.proofs.+function+list+tree+trees.Proof.Measures.{trees-at, tree-below, trees-below}
+use Rattle.builder.proofs.+function+list+tree+trees.Proof.Measures.{trees-at, tree-below}
+
+abbrev Inv-loop : lts.InvT-loop
+Inv-loop table₀ top image at scopes count end₀ past₀ left₀ turned₀ table end past left turned = Going (TreesRead scopes) count table₀ top image at table end past left turned
+
+abbrev μ-loop : lts.MeasureT-loop
+μ-loop table₀ top image at scopes count end₀ past₀ left₀ turned₀ table end past left turned = left
 
 module _ (t : ℕ) where
   abbrev env : lts.Claims
-  env = (tree-below t, tree.Post, trees-below t, trees.Post, link-reads.Asked, link-reads.Learnt)
+  env = (tree-below t, tree.Post, link-reads.Asked, link-reads.Learnt, turn-reads.Asked, turn-reads.Learnt)
 
-  returns : lts.Need-returns env (trees-at t) trees.Post
-  returns c = search (chain-laws, needs)
+  loop-holds : lts.Need-loop-holds env (trees-at t) trees.Post Inv-loop μ-loop
+  loop-holds c = search (chain-laws, needs)
 
-  tree-requires : lts.Need-tree-requires env (trees-at t) trees.Post
+  tree-requires : lts.Need-tree-requires env (trees-at t) trees.Post Inv-loop μ-loop
   tree-requires c κs = search (chain-laws, needs)
 
-  sub-trees : lts.Need-sub-trees env (trees-at t) trees.Post
-  sub-trees c = search (chain-laws, needs)
-
-  trees-requires : lts.Need-trees-requires env (trees-at t) trees.Post
-  trees-requires c κs = search (chain-laws, needs)
-
-  link-requires : lts.Need-link-requires env (trees-at t) trees.Post
+  link-requires : lts.Need-link-requires env (trees-at t) trees.Post Inv-loop μ-loop
   link-requires c κs = search (chain-laws, needs)
 
-  same-length : lts.Need-same-length env (trees-at t) trees.Post
+  sub-left : lts.Need-sub-left env (trees-at t) trees.Post Inv-loop μ-loop
+  sub-left c = search (chain-laws, needs)
+
+  loop-less : lts.Need-loop-less env (trees-at t) trees.Post Inv-loop μ-loop
+  loop-less c = search (chain-laws, needs)
+
+  loop-again : lts.Need-loop-again env (trees-at t) trees.Post Inv-loop μ-loop
+  loop-again c = search (chain-laws, needs)
+
+  turn-requires : lts.Need-turn-requires env (trees-at t) trees.Post Inv-loop μ-loop
+  turn-requires c κs = search (chain-laws, needs)
+
+  same-length : lts.Need-same-length env (trees-at t) trees.Post Inv-loop μ-loop
   same-length c = search (chain-laws, needs)
 
-  returns-2 : lts.Need-returns-2 env (trees-at t) trees.Post
-  returns-2 c = search (chain-laws, needs)
+  returns : lts.Need-returns env (trees-at t) trees.Post Inv-loop μ-loop
+  returns c = search (chain-laws, needs)
 
   pub closed : {M : Type 1} → lts.Closed env (trees-at t) trees.Post M
   closed = lts.spec env (trees-at t) trees.Post
-      returns
+      Inv-loop
+      μ-loop
+      loop-holds
       tree-requires
-      sub-trees
-      trees-requires
       link-requires
+      sub-left
+      loop-less
+      loop-again
+      turn-requires
       same-length
-      returns-2
+      returns

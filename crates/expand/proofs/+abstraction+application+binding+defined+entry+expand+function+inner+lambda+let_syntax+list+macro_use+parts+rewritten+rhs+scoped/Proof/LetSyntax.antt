@@ -1,0 +1,65 @@
+use Rattle.expand.proofs.Cycle.{let-binding-ready}
+use borrow.Author.Needs.{needs}
+use Prim.Native.Nat.{ℕ}
+use Rattle.expand.proofs.Cycle.{laws}
+use Rattle.expand.proofs.binding.Reads as binding
+use Rattle.forms.proofs.is_identifier.Reads as is-identifier-reads
+use Rattle.expand.proofs.let_syntax.Reads as let-syntax
+use Rattle.forms.proofs.three_parts.Reads as three-parts-reads
+use Rattle.expand.proofs.+abstraction+application+binding+defined+entry+expand+function+inner+lambda+let_syntax+list+macro_use+parts+rewritten+rhs+scoped.Lts-let_syntax as lts
+use Rattle.expand.proofs.+abstraction+application+binding+defined+entry+expand+function+inner+lambda+let_syntax+list+macro_use+parts+rewritten+rhs+scoped.Proof.Measures.{let-syntax-at, binding-below}
+
+module _ (t : ℕ) where
+  abbrev env : lts.Claims
+  env = (three-parts-reads.Asked, three-parts-reads.Learnt, is-identifier-reads.Asked, is-identifier-reads.Learnt, binding-below t, binding.Post)
+
+  three-parts-requires : lts.Need-three-parts-requires env (let-syntax-at t) let-syntax.Post
+  three-parts-requires c κs = search (laws, needs)
+
+  enum-told : lts.Need-enum-told env (let-syntax-at t) let-syntax.Post
+  enum-told c = search (laws, needs)
+
+  enum-known-id : lts.Need-enum-known-id env (let-syntax-at t) let-syntax.Post
+  enum-known-id c = search (laws, needs)
+
+  is-identifier-requires : lts.Need-is-identifier-requires env (let-syntax-at t) let-syntax.Post
+  is-identifier-requires c κs = search (laws, needs)
+
+  binding-requires : lts.Need-binding-requires env (let-syntax-at t) let-syntax.Post
+  binding-requires c κs = (search (laws, needs), let-binding-ready _ (c .before .before .before .before .before .before .before .before .three-parts .ensures) (search needs) (c .before .before .before .is-identifier .ensures) (c .before .before .if1 .taken) (c .before .before .before .before .before .before .before .before .before .before .before .before .pre .1))
+
+  same-length : lts.Need-same-length env (let-syntax-at t) let-syntax.Post
+  same-length c = search (laws, needs)
+
+  same-length-2 : lts.Need-same-length-2 env (let-syntax-at t) let-syntax.Post
+  same-length-2 c = search (laws, needs)
+
+  returns : lts.Need-returns env (let-syntax-at t) let-syntax.Post
+  returns c = search (laws, needs)
+
+  same-length-3 : lts.Need-same-length-3 env (let-syntax-at t) let-syntax.Post
+  same-length-3 c = search (laws, needs)
+
+  returns-2 : lts.Need-returns-2 env (let-syntax-at t) let-syntax.Post
+  returns-2 c = search (laws, needs)
+
+  same-length-4 : lts.Need-same-length-4 env (let-syntax-at t) let-syntax.Post
+  same-length-4 c = search (laws, needs)
+
+  returns-3 : lts.Need-returns-3 env (let-syntax-at t) let-syntax.Post
+  returns-3 c = search (laws, needs)
+
+  pub closed : {M : Type 1} → lts.Closed env (let-syntax-at t) let-syntax.Post M
+  closed = lts.spec env (let-syntax-at t) let-syntax.Post
+      three-parts-requires
+      enum-told
+      enum-known-id
+      is-identifier-requires
+      binding-requires
+      same-length
+      same-length-2
+      returns
+      same-length-3
+      returns-2
+      same-length-4
+      returns-3
