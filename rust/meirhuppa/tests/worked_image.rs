@@ -35,6 +35,5 @@ mod on_x86_64 {
 
 #[cfg(not(target_arch = "x86_64"))]
 #[test]
-fn the_library_is_for_x86_64() {
-    println!("skipped: the archive links only into x86-64 programs");
-}
+#[ignore = "the archive links only into x86-64 programs"]
+fn the_library_is_for_x86_64() {}

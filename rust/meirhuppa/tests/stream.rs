@@ -1,0 +1,106 @@
+//! A slice of the second program's corpus, all four jobs, each answer held against the line that is kept for it. `tests/slice` makes the slice,
+//! for C as well. The archive is for x86-64, so elsewhere this says so and tests nothing.
+
+#[cfg(target_arch = "x86_64")]
+mod on_x86_64 {
+    use meirhuppa::{evaluate, expand, parse, resolve, Answer, Refusal, WORDS_PER_UNIT};
+    use std::process::Command;
+
+    const TABLE_FILL: u32 = 0xa5a5_a5a5;
+    const OUTPUT_FILL: u8 = 0x5a;
+
+    struct Call<'a> {
+        job: u32,
+        phase: u32,
+        budget: u32,
+        table_words: usize,
+        output_length: usize,
+        image: &'a [u8],
+    }
+
+    /// The stream's next number: groups of seven bits, the low group first, the top bit set on all but the last.
+    fn next_number(stream: &mut &[u8]) -> u32 {
+        let last = stream.iter().position(|&group| group < 128).expect("a number has an end");
+        let (groups, rest) = stream.split_at(last + 1);
+        *stream = rest;
+        groups.iter().rev().fold(0, |number, &group| (number << 7) | u32::from(group & 127))
+    }
+
+    /// The stream's next call: six numbers, then the image.
+    fn next_call<'a>(stream: &mut &'a [u8]) -> Call<'a> {
+        let [job, phase, budget, table_words, output_length, image_length] = std::array::from_fn(|_| next_number(stream));
+        let (image, rest) = stream.split_at(image_length as usize);
+        *stream = rest;
+        Call { job, phase, budget, table_words: table_words as usize, output_length: output_length as usize, image }
+    }
+
+    fn ask(call: &Call, table: &mut [u32], output: &mut [u8]) -> Result<Answer, Refusal> {
+        match call.job {
+            0 => resolve(call.image, call.phase, call.budget, table),
+            1 => expand(call.image, call.phase, call.budget, table, output),
+            2 => parse(call.image, call.budget, table, output),
+            3 => evaluate(call.image, call.budget, table, output),
+            job => panic!("there is no job {job}"),
+        }
+    }
+
+    fn all_are<T: PartialEq>(value: T, elements: &[T]) -> bool {
+        elements.iter().all(|element| *element == value)
+    }
+
+    fn table_column(table: &[u32], budget: u32) -> &'static str {
+        let cleared = WORDS_PER_UNIT * budget as usize;
+        if all_are(TABLE_FILL, table) {
+            "kept"
+        } else if cleared <= table.len() && all_are(0, &table[..cleared]) && all_are(TABLE_FILL, &table[cleared..]) {
+            "clear"
+        } else {
+            "bad"
+        }
+    }
+
+    fn output_column(output: &[u8], length: usize) -> String {
+        let (written, behind) = output.split_at(length);
+        let hexadecimal: String = written.iter().map(|byte| format!("{byte:02x}")).collect();
+        let shown = if written.is_empty() { "-" } else { &hexadecimal };
+        let touched = if all_are(OUTPUT_FILL, behind) { "" } else { "!" };
+        format!("{shown}{touched}")
+    }
+
+    /// The line that answers a call. Name and length of a refusal are 0, and this crate does not hand them on.
+    fn line_of(call: &Call) -> String {
+        let mut table = vec![TABLE_FILL; call.table_words];
+        let mut output = vec![OUTPUT_FILL; call.output_length];
+        let (code, units, name, length) = match ask(call, &mut table, &mut output) {
+            Ok(Answer { units, name, length }) => (0, units, name, length),
+            Err(Refusal { code, units }) => (code.number(), units, 0, 0),
+        };
+        let (table, output) = (table_column(&table, call.budget), output_column(&output, length));
+        format!("{code} {units} {name} {length} {table} {output}")
+    }
+
+    /// The slice's stream and its kept lines.
+    fn slice() -> (Vec<u8>, String) {
+        let folder = env!("CARGO_TARGET_TMPDIR");
+        let maker = concat!(env!("CARGO_MANIFEST_DIR"), "/../../tests/slice");
+        assert!(Command::new(maker).arg(folder).status().expect("python3 runs it").success());
+        let stream = std::fs::read(format!("{folder}/stdin")).expect("it writes the stream");
+        let lines = std::fs::read_to_string(format!("{folder}/stdout")).expect("it writes the lines");
+        (stream, lines)
+    }
+
+    #[test]
+    fn every_answer_is_the_kept_one() {
+        let (stream, lines) = slice();
+        let mut rest = &stream[..];
+        for (place, line) in lines.lines().enumerate() {
+            assert_eq!(line_of(&next_call(&mut rest)), line, "call {place}");
+        }
+        assert!(rest.is_empty(), "every call has a line");
+    }
+}
+
+#[cfg(not(target_arch = "x86_64"))]
+#[test]
+#[ignore = "the archive links only into x86-64 programs"]
+fn the_library_is_for_x86_64() {}

@@ -1,0 +1,124 @@
+/* Reads a stream of calls on standard input, as second/README.md describes it, makes each through the library's header as any C program would,
+ * and prints the line that the program `replay` prints. The second program's reader reads the stream; the library's answer is what is tried.
+ *
+ * The buffers are exactly as long as the call says: behind each begins a page that may not be touched, so that reading or writing one element
+ * too many ends this program, and a buffer of no elements is an address and nothing else. */
+#define _DEFAULT_SOURCE /* MAP_ANONYMOUS */
+
+#include <stdlib.h>
+#include <string.h>
+#include <sys/mman.h>
+#include <unistd.h>
+
+#include "../../second/source/stream.h"
+#include "meirhuppa.h"
+
+#define TABLE_FILL 0xa5a5a5a5u
+#define OUTPUT_FILL 0x5a
+
+/* Where the lent buffers end. */
+static uint8_t *image_end;
+static uint32_t *table_end;
+static uint8_t *output_end;
+
+/* The end of so many bytes of memory, with the page behind them. */
+static void *fenced(size_t bytes)
+{
+    size_t page = (size_t)sysconf(_SC_PAGESIZE);
+    size_t room = (bytes + page - 1) / page * page;
+    uint8_t *start = mmap(NULL, room + page, PROT_READ | PROT_WRITE, MAP_PRIVATE | MAP_ANONYMOUS, -1, 0);
+    if (start == MAP_FAILED || mprotect(start + room, page, PROT_NONE) != 0) {
+        perror("replay");
+        exit(2);
+    }
+    return start + room;
+}
+
+static meirhuppa_answer ask(const Call *call, uint32_t *table, uint8_t *output)
+{
+    switch (call->job) {
+    case JOB_RESOLVE:
+        return meirhuppa_resolve(call->image, call->image_length, call->phase, call->budget, table, call->table_words);
+    case JOB_EXPAND:
+        return meirhuppa_expand(call->image, call->image_length, call->phase, call->budget, table, call->table_words,
+                                output, call->output_length);
+    case JOB_PARSE:
+        return meirhuppa_parse(call->image, call->image_length, call->budget, table, call->table_words,
+                               output, call->output_length);
+    default:
+        return meirhuppa_evaluate(call->image, call->image_length, call->budget, table, call->table_words,
+                                  output, call->output_length);
+    }
+}
+
+static bool words_are(uint32_t value, const uint32_t *words, size_t count)
+{
+    for (size_t i = 0; i < count; i++)
+        if (words[i] != value)
+            return false;
+    return true;
+}
+
+static bool bytes_are(uint8_t value, const uint8_t *bytes, size_t count)
+{
+    for (size_t i = 0; i < count; i++)
+        if (bytes[i] != value)
+            return false;
+    return true;
+}
+
+static const char *table_column(const Call *call, const uint32_t *table)
+{
+    size_t cleared = (size_t)MEIRHUPPA_WORDS_PER_UNIT * call->budget;
+    if (words_are(TABLE_FILL, table, call->table_words))
+        return "kept";
+    if (cleared <= call->table_words && words_are(0, table, cleared) &&
+        words_are(TABLE_FILL, table + cleared, call->table_words - cleared))
+        return "clear";
+    return "bad";
+}
+
+/* A length that is over the output's makes the column too short, and is seen by that. */
+static void print_output(const uint8_t *output, size_t length, size_t output_length)
+{
+    if (length > output_length)
+        length = output_length;
+    if (length == 0)
+        putchar('-');
+    for (size_t i = 0; i < length; i++)
+        printf("%02x", output[i]);
+    if (!bytes_are(OUTPUT_FILL, output + length, output_length - length))
+        putchar('!');
+}
+
+static void answer(Call *call)
+{
+    uint8_t *image = image_end - call->image_length;
+    uint32_t *table = table_end - call->table_words;
+    uint8_t *output = output_end - call->output_length;
+    memcpy(image, call->image, call->image_length);
+    call->image = image;
+    for (size_t i = 0; i < call->table_words; i++)
+        table[i] = TABLE_FILL;
+    memset(output, OUTPUT_FILL, call->output_length);
+    meirhuppa_answer given = ask(call, table, output);
+    printf("%u %u %u %u %s ", (unsigned)given.code, (unsigned)given.units, (unsigned)given.name, (unsigned)given.length,
+           table_column(call, table));
+    print_output(output, given.length, call->output_length);
+    putchar('\n');
+}
+
+int main(void)
+{
+    static uint8_t image[LARGEST_STREAM_SIZE];
+    Call call;
+    Met met;
+    image_end = fenced(LARGEST_STREAM_SIZE);
+    table_end = fenced(LARGEST_STREAM_TABLE * sizeof *table_end);
+    output_end = fenced(LARGEST_STREAM_SIZE);
+    while ((met = read_call(stdin, &call, image)) == A_CALL)
+        answer(&call);
+    if (met == CUT)
+        puts("cut");
+    return fflush(stdout) == 0 ? 0 : 1;
+}

@@ -1,0 +1,83 @@
+"""The shapes of images that should take most stack, each with a name that says what it is."""
+import os
+import sys
+
+SECOND = os.path.join(os.path.dirname(os.path.dirname(os.path.dirname(os.path.abspath(__file__)))), "second")
+sys.dont_write_bytecode = True
+sys.path.insert(0, SECOND)
+import image
+
+BUDGET = 4096
+NESTING = 64
+WIDE = 4095
+HALF = 2047
+JUDGED = 13000
+
+
+def wide(parts, what="1"):
+    return "(" + f"{what} " * parts + ")"
+
+
+def nested(levels, before="", after="", inmost="1"):
+    return f"({before} " * levels + inmost + f" {after})" * levels
+
+
+def syntax(text, words=()):
+    return image.syntax_image(text, words=words)
+
+
+def tree(text, words=(), made=1):
+    return image.tree_image(text, words=words, made=made)
+
+
+def giving(*parts):
+    """A macro m whose use gives the list of these parts, and that is used."""
+    chain = "(quote ())"
+    for part in reversed(parts):
+        chain = f"(#4 {part} {chain})"
+    return syntax(f"(let-syntax m (lambda z (#1 {chain} z)) (m))", words=("m", "z", "x"))
+
+
+def syntax_images():
+    """For resolve, expand and parse."""
+    yield "one list of 4,095 numbers", syntax(wide(WIDE))
+    yield "one list of 2,047 numbers", syntax(wide(HALF))
+    yield "one quoted list of 1,300 numbers", syntax(f"(quote {wide(1300)})")
+    yield "2,000 empty syntax forms", syntax(wide(1000, "(syntax 1)"))
+    yield "13,000 numbers judged", syntax(wide(JUDGED))
+    yield "64 lists in each other", syntax(nested(NESTING - 1))
+    yield "wide lists at every level", syntax(nested(NESTING - 2, before="1 " * 32, after="1 " * 30))
+    yield "62 functions in each other", syntax(nested(NESTING - 2, before="lambda x"), words=("x",))
+    yield "62 macros in each other", syntax(nested(NESTING - 2, before="let-syntax x 1"), words=("x",))
+    yield "a macro that gives itself back", syntax("(let-syntax m (lambda z z) (m))", words=("m", "z"))
+    yield "a macro that gives itself back, in 60 lists", syntax("(let-syntax m (lambda z z) " + nested(58, inmost="(m)") + ")", words=("m", "z"))
+    yield "a macro that gives itself back in a list", giving("z")
+    yield "a macro that gives itself back in a list, last of four", giving("(syntax 1)", "(syntax 1)", "(syntax 1)", "z")
+    yield "a macro that gives itself back in a function", giving("(syntax lambda)", "(syntax x)", "z")
+    yield "a macro that gives itself back in a let-syntax", giving("(syntax let-syntax)", "(syntax x)", "(syntax 1)", "z")
+    yield "a macro that gives itself back as a right-hand side", giving("(syntax let-syntax)", "(syntax x)", "z", "(syntax 1)")
+    yield "a macro whose work never ends", syntax("(let-syntax m (lambda z ((lambda y (y y)) (lambda y (y y)))) (m))", words=("m", "z", "y"))
+    yield "a wide macro that gives itself back", syntax(f"(let-syntax m (lambda z z) (m {'1 ' * 20}))", words=("m", "z"))
+
+
+def tree_images():
+    """For evaluate."""
+    yield "one application of 4,000 numbers", tree(wide(4000))
+    yield "one list value of 4,000 numbers", tree("<" + "1 " * 4000 + ">")
+    yield "13,000 numbers judged", tree("<" + "1 " * JUDGED + ">")
+    yield "62 list values in each other", tree("<" * 62 + "1" + ">" * 62)
+    yield "62 functions in each other", tree("[4 " * 62 + "1" + "]" * 62)
+    yield "62 applications in each other", tree("(#0 " * 62 + "1" + ")" * 62)
+    yield "a function applied to itself", tree("([4 ($4 $4)] [4 ($4 $4)])")
+    yield "a wide body, substituted into", tree(f"([4 (1 {'$4 ' * 1900})] 1)")
+    yield "wide bodies at every level, substituted into", tree("([4 " + ("(1 " + "$4 " * 20) * 59 + ")" * 59 + "] 1)")
+    yield "a function applied to itself, with a deep body", tree("([4 ($4 $4 )] [4 (" + "[5 " * 50 + "($4 $4)" + "]" * 50 + " $4)])", made=2)
+
+
+def calls():
+    """Names with calls of the stream."""
+    for name, given in syntax_images():
+        for job in ("resolve", "expand", "parse"):
+            yield f"{job}: {name}", image.call(job, given, budget=BUDGET)
+    for name, given in tree_images():
+        yield f"evaluate: {name}", image.call("evaluate", given, budget=BUDGET)
