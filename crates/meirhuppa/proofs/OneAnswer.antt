@@ -3,12 +3,8 @@ use mathlib.Core.Path.{_≡_, sym, ap, _∙_}
 use mathlib.Core.List.{List}
 use Prim.Native.Nat.{ℕ}
 use Rattle.model.specs.Jobs.{Result}
-use Rattle.meirhuppa.specs.Endings.{answerIs}
+use Rattle.meirhuppa.specs.Endings.{answerIs, Answered}
 use Rattle.meirhuppa.specs.declared.answers.Answer.{Answer}
-
--- what each public function promises of its answer, and of output and table after it: they are the job's. Resolve has no output.
-abbrev pub Answered : Result → Answer → List ℕ → List ℕ → Type 0
-Answered job a output table = record { answer = answerIs a; output = output; table = table } ≡ job
 
 same-answer : (a b : Answer) → answerIs a ≡ answerIs b → a ≡ b
 same-answer a b e = λ i. record { code = e i .code; units = e i .units; name = e i .name; length = e i .len }

@@ -2,9 +2,8 @@
 use crate::answers::Answer;
 use crate::limits;
 use crate::writing;
-ghost use mathlib.Core.Path.{_≡_};
 ghost use Rattle.model.specs.Jobs.{evaluateJob};
-ghost use Rattle.meirhuppa.specs.Endings.{answerIs};
+ghost use Rattle.meirhuppa.specs.Endings.{Answered};
 
 // The image of the value of a tree image.
 #[no_mangle]
@@ -14,7 +13,7 @@ pub extern "C" fn meirhuppa_evaluate(
     table: &mut [u32],
     out: &mut [u8],
 ) -> Answer
-    ensures { λ r. ⌜ record { answer = answerIs r; output = now (out .exit); table = now (table .exit) } ≡ evaluateJob (now (image .entry)) budget (now (table .entry)) (now (out .entry)) ⌝ }
+    ensures { λ r. ⌜ Answered (evaluateJob (now (image .entry)) budget (now (table .entry)) (now (out .entry))) r (now (out .exit)) (now (table .exit)) ⌝ }
 {
     if limits::MOST_BUDGET < budget {
         return writing::small_table();

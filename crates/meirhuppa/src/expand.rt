@@ -2,9 +2,8 @@
 use crate::answers::Answer;
 use crate::limits;
 use crate::writing;
-ghost use mathlib.Core.Path.{_≡_};
 ghost use Rattle.model.specs.Jobs.{expandJob};
-ghost use Rattle.meirhuppa.specs.Endings.{answerIs};
+ghost use Rattle.meirhuppa.specs.Endings.{Answered};
 
 // A syntax image without macros, from one with macros, at a phase.
 #[no_mangle]
@@ -15,7 +14,7 @@ pub extern "C" fn meirhuppa_expand(
     table: &mut [u32],
     out: &mut [u8],
 ) -> Answer
-    ensures { λ r. ⌜ record { answer = answerIs r; output = now (out .exit); table = now (table .exit) } ≡ expandJob (now (image .entry)) phase budget (now (table .entry)) (now (out .entry)) ⌝ }
+    ensures { λ r. ⌜ Answered (expandJob (now (image .entry)) phase budget (now (table .entry)) (now (out .entry))) r (now (out .exit)) (now (table .exit)) ⌝ }
 {
     if limits::MOST_BUDGET < budget {
         return writing::small_table();

@@ -23,7 +23,7 @@ ghost use Rattle.store.specs.Words.{bindsOf};
 ghost use mathlib.Core.List.{[]};
 ghost use Rattle.model.specs.Resolving as model;
 ghost use Rattle.model.specs.Jobs.{resolveEnding, resolveJob};
-ghost use Rattle.meirhuppa.specs.Endings.{endingOf, answerIs, foundEnding};
+ghost use Rattle.meirhuppa.specs.Endings.{endingOf, foundEnding, Answered};
 ghost use Rattle.meirhuppa.specs.Stages.{phased, RootEnds, RootRead, BindsRead, imageEnding};
 ghost use Rattle.store.specs.Sizes.{bindingSize, storeSize};
 
@@ -188,7 +188,7 @@ pub extern "C" fn meirhuppa_resolve(
     budget: u32,
     table: &mut [u32],
 ) -> Answer
-    ensures { λ r. ⌜ record { answer = answerIs r; output = []; table = now (table .exit) } ≡ resolveJob (now (image .entry)) phase budget (now (table .entry)) ⌝ }
+    ensures { λ r. ⌜ Answered (resolveJob (now (image .entry)) phase budget (now (table .entry))) r [] (now (table .exit)) ⌝ }
 {
     if limits::MOST_BUDGET < budget {
         return Ending::Refused(Refusal::SmallTable, 0).answer();

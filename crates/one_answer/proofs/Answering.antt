@@ -1,0 +1,11 @@
+-- What a public function promises is the only answer.
+use mathlib.Core.List.{List}
+use Prim.Native.Nat.{ℕ}
+use Rattle.model.specs.Jobs.{Result}
+use Rattle.meirhuppa.specs.Endings.{Answered}
+use Rattle.meirhuppa.specs.declared.answers.Answer.{Answer}
+use Rattle.meirhuppa.proofs.OneAnswer.{answered-once}
+use Rattle.one_answer.specs.Once.{Once}
+
+pub once : {job : Result} {a : Answer} {output table : List ℕ} → Answered job a output table → Once job a output table
+once {job} {a} {output} {table} e = record { is = e; only = λ b p u f. answered-once job a b output p table u e f }

@@ -1,0 +1,12 @@
+-- One answer, one output and one table.
+use mathlib.Core.Path.{_≡_}
+use mathlib.Core.List.{List}
+use Prim.Native.Nat.{ℕ}
+use Rattle.model.specs.Jobs.{Result}
+use Rattle.meirhuppa.specs.Endings.{Answered}
+use Rattle.meirhuppa.specs.declared.answers.Answer.{Answer}
+
+-- they are the job's, and whatever else is the job's is the same
+pub record Once (job : Result) (a : Answer) (output table : List ℕ) : Type 0 where
+  pub is : Answered job a output table
+  pub only : (b : Answer) (p u : List ℕ) → Answered job b p u → (a ≡ b) × (output ≡ p) × (table ≡ u)

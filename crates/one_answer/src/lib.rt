@@ -1,0 +1,40 @@
+// Condition 2 of the public functions themselves: each function here calls one of them and says that what came back, and what output and table
+// hold, is the job's and could be nothing else. A public contract that said less would not do for this.
+use meirhuppa::answers::Answer;
+use meirhuppa::evaluate;
+use meirhuppa::expand;
+use meirhuppa::parse;
+use meirhuppa::resolve;
+ghost use mathlib.Core.List.{[]};
+ghost use Rattle.model.specs.Jobs.{resolveJob, expandJob, parseJob, evaluateJob};
+ghost use Rattle.one_answer.specs.Once.{Once};
+
+pub fn resolve_once(image: &[u8], phase: u32, budget: u32, table: &mut [u32]) -> Answer
+    ensures { λ r. ⌜ Once (resolveJob (now (image .entry)) phase budget (now (table .entry))) r [] (now (table .exit)) ⌝ }
+{
+    resolve::meirhuppa_resolve(image, phase, budget, table)
+}
+
+pub fn expand_once(
+    image: &[u8],
+    phase: u32,
+    budget: u32,
+    table: &mut [u32],
+    out: &mut [u8],
+) -> Answer
+    ensures { λ r. ⌜ Once (expandJob (now (image .entry)) phase budget (now (table .entry)) (now (out .entry))) r (now (out .exit)) (now (table .exit)) ⌝ }
+{
+    expand::meirhuppa_expand(image, phase, budget, table, out)
+}
+
+pub fn parse_once(image: &[u8], budget: u32, table: &mut [u32], out: &mut [u8]) -> Answer
+    ensures { λ r. ⌜ Once (parseJob (now (image .entry)) budget (now (table .entry)) (now (out .entry))) r (now (out .exit)) (now (table .exit)) ⌝ }
+{
+    parse::meirhuppa_parse(image, budget, table, out)
+}
+
+pub fn evaluate_once(image: &[u8], budget: u32, table: &mut [u32], out: &mut [u8]) -> Answer
+    ensures { λ r. ⌜ Once (evaluateJob (now (image .entry)) budget (now (table .entry)) (now (out .entry))) r (now (out .exit)) (now (table .exit)) ⌝ }
+{
+    evaluate::meirhuppa_evaluate(image, budget, table, out)
+}
