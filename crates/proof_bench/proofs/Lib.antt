@@ -1,5 +1,6 @@
 -- The proof bench of document 01.
 pub mod Answers
+pub mod ResolveJob
 pub mod Uniqueness
 pub mod Samples
 pub mod ShamsRefuted
