@@ -1,3 +1,6 @@
 pub mod Notation
+pub mod Images
+pub mod Samples
+pub mod InNotation
 pub mod Cases
 pub mod UseScope

@@ -6,7 +6,7 @@ use mathlib.Core.List.{List, [], _∷_}
 use Rattle.model.specs.Objects.{noSets, Stx, nil}
 use Rattle.model.specs.Writing.{syntaxBytes}
 use Rattle.model.specs.Jobs.{expandJob}
-use Rattle.cases.proofs.Notation.{id, ls, _▹_, lambda′, let-syntax′, syntax′, call, wx, wm, wz, lentTable, lentOutput, writes, expanded}
+use Rattle.cases.proofs.Notation.{id, ls, _▹_, lambda′, let-syntax′, syntax′, call, image-xmz, lentTable, lentOutput, writes, expanded}
 
 abbrev handed-on : Stx → Stx
 handed-on u =
@@ -24,7 +24,7 @@ image-survives =
     1 ∷ 3 ∷ 1 ∷ 120 ∷ 1 ∷ 109 ∷ 1 ∷ 122 ∷ 2 ∷ 4 ∷ 2 ∷ 5 ∷ 7 ∷ 1 ∷ 1 ∷ 6 ∷ 8 ∷ 1 ∷ 2 ∷ 5 ∷ 2 ∷ 1 ∷ 3 ∷ 0 ∷ 0 ∷ 2 ∷ 0 ∷ 2 ∷ 1 ∷ 3 ∷ 0 ∷ 0 ∷ 3 ∷ 0 ∷ 0 ∷ 0 ∷ 0
     ∷ 4 ∷ []
 
-use-scope-survives : expanded (wx ∷ wm ∷ wz ∷ []) 7 (handed-on syntax-x) ≡ writes 400 86 image-survives
+use-scope-survives : expanded (image-xmz (handed-on syntax-x)) ≡ writes 400 86 image-survives
 unfolding expandJob syntaxBytes lentTable lentOutput noSets image-survives
 use-scope-survives = refl
 
@@ -35,6 +35,6 @@ image-survives-inside =
     1 ∷ 3 ∷ 1 ∷ 120 ∷ 1 ∷ 109 ∷ 1 ∷ 122 ∷ 3 ∷ 5 ∷ 3 ∷ 5 ∷ 7 ∷ 1 ∷ 1 ∷ 6 ∷ 9 ∷ 3 ∷ 1 ∷ 3 ∷ 5 ∷ 6 ∷ 8 ∷ 1 ∷ 2 ∷ 5 ∷ 2 ∷ 1 ∷ 3 ∷ 0 ∷ 0 ∷ 3 ∷ 0 ∷ 2 ∷ 1 ∷ 3 ∷ 0 ∷ 0 ∷ 0
     ∷ 0 ∷ 3 ∷ 1 ∷ 3 ∷ 5 ∷ 0 ∷ 0 ∷ 6 ∷ 5 ∷ 3 ∷ 1 ∷ 3 ∷ 5 ∷ 0 ∷ 0 ∷ 2 ∷ 0 ∷ 3 ∷ 1 ∷ 3 ∷ 5 ∷ 0 ∷ 0 ∷ 3 ∷ 0 ∷ 0 ∷ 0 ∷ 0 ∷ 4 ∷ []
 
-use-scope-survives-inside : expanded (wx ∷ wm ∷ wz ∷ []) 7 (handed-on (ls (lambda′ ▹ id 6 0 ▹ syntax-x ▹ nil))) ≡ writes 400 106 image-survives-inside
+use-scope-survives-inside : expanded (image-xmz (handed-on (ls (lambda′ ▹ id 6 0 ▹ syntax-x ▹ nil)))) ≡ writes 400 106 image-survives-inside
 unfolding expandJob syntaxBytes lentTable lentOutput noSets image-survives-inside
 use-scope-survives-inside = refl
