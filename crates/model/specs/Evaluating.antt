@@ -11,7 +11,7 @@ use Rattle.model.specs.Steps.{Step, _>>=_, _>>_, done, refuse, unless, c
 
 -- ---- primitives: the value, or none where an argument is of the wrong kind (11)
 
--- how many arguments
+-- how many arguments. 6 is the last primitive: no image holds a larger one, and none is made
 unfoldable pub arity : ℕ → ℕ
 arity zero = 1
 arity (suc zero) = 2
@@ -86,7 +86,7 @@ eachTree self (tcons t l) = do
   r ← eachTree self l
   done (tcons v r)
 
--- argument i of l; never asked for one that is not there
+-- argument i of l. Where there is none it is something that no primitive looks at, since `applicable` has held the count against `arity`
 unfoldable pub argument : Trees → ℕ → Tree
 argument tnil i = lst tnil
 argument (tcons t l) zero = t

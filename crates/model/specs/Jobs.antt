@@ -46,7 +46,7 @@ outputAfter (refused r u) output = output
 outputAfter (named n u) output = output
 outputAfter (written b u) output = b ++ drop (length b) output
 
--- the first 16 times budget words are zero and the rest untouched
+-- the words that the budget wants are zero and the rest untouched
 unfoldable pub cleared : ℕ → List ℕ → List ℕ
 unfolding wordsPerUnit
 cleared budget table = replicate (wordsPerUnit * budget) 0 ++ drop (wordsPerUnit * budget) table
@@ -57,7 +57,7 @@ pub record Result : Type 0 where
   pub output : List ℕ
   pub table : List ℕ
 
--- ---- code 5 comes before all else and leaves the table untouched; after all else the table is cleared
+-- ---- The steps of a job, in this order. 1: code 5 comes before all else and leaves the table untouched; after all else the table is cleared
 
 unfoldable pub budgetFits : ℕ → ℕ → Bool
 unfolding mostBudget wordsPerUnit
@@ -70,7 +70,7 @@ lent budget table output e =
     then record { answer = answerOf e; output = outputAfter e output; table = cleared budget table }
     else record { answer = answerOf (refused smallTable 0); output = output; table = table }
 
--- ---- then the phase argument, then the image, its faults with no units charged
+-- ---- 2: the phase argument (12). 3: an image that is too long (2), and then from its front (1, 2, 4), with no units charged
 
 unfoldable pub atPhase : ℕ → Ending → Ending
 unfolding lastPhase
@@ -88,7 +88,7 @@ unfoldable pub worked : {A : Type 0} → ℕ → Out A → (A → State → Endi
 worked budget (ok a s) f = f a s
 worked budget (no r left) f = refused r (budget - left)
 
--- ---- and last the result's length, for an output of `room` bytes
+-- ---- 7, the last: the result's length (20), for an output of `room` bytes
 
 unfoldable pub fitted : ℕ → List ℕ → ℕ → Ending
 unfolding mostImage
@@ -98,7 +98,7 @@ fitted room b u = if leb (length b) room && leb (length b) mostImage then writte
 unfoldable pub reached : Head → State → Head
 reached h s = record { words = h .words; names = s .names; scopes = s .scopes }
 
--- ---- the work of each job: the charge for loading, then its rules
+-- ---- 5: the charge for loading (19). 6: the work of each job by its rules
 
 unfoldable pub resolveRoot : ℕ → Stx → Step ℕ
 unfolding charge size identifier resolveAt
@@ -124,7 +124,7 @@ evaluateRoot t = do
   charge (loadSize t)
   evaluate mostEntries t
 
--- ---- code 3: every variable, outside syntax values, has an enclosing function of its name; `around` has the names of those
+-- ---- 4: code 3: every variable, outside syntax values, has an enclosing function of its name; `around` has the names of those
 
 unfoldable pub isAmong : ℕ → List ℕ → Bool
 isAmong n [] = false
@@ -218,7 +218,7 @@ unfoldable pub program : List ℕ → Line
 unfolding thenParsed expandEnding programBudget mostImage
 program image = thenParsed (expandEnding image 0 programBudget mostImage)
 
--- the digits of n, at most k
+-- the digits of n, at most k (no number of 32 bits has more than ten)
 unfoldable pub digits : ℕ → ℕ → List ℕ → List ℕ
 digits zero n after = after
 digits (suc k) n after = if ltb n 10 then (48 + n) ∷ after else digits k (n / 10) ((48 + n % 10) ∷ after)

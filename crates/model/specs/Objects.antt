@@ -40,6 +40,7 @@ pub record Sets : Type 0 where
 unfoldable pub noSets : Sets
 noSets = record { at0 = 0; at1 = 0; at2 = 0 }
 
+-- 2 is the last phase: a larger one is refused with 12 before it is asked for
 unfoldable pub setAt : ℕ → Sets → Scopes
 setAt zero c = c .at0
 setAt (suc zero) c = c .at1

@@ -53,7 +53,8 @@ parseForm self ph none h l = do
   r ← parseAll self l
   done (app f r)
 
--- one entry. A tree is never nested deeper than the object that it is parsed from, so nothing is tested for 17.
+-- one entry. A tree is never nested deeper than the object that it is parsed from, so nothing is tested for 17: `parse-keeps-limits`
+-- (`addresses/proofs/ParseLimits`).
 unfoldable pub parseEntry : (Stx → Step Tree) → ℕ → Stx → Step Tree
 unfolding resolveAt headForm parseForm
 parseEntry self ph (atom c (symbol x)) = do

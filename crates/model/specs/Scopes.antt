@@ -8,6 +8,8 @@ use lib.Bits.{bitAnd, bitOr, bitXor}
 use Rattle.model.specs.Choice.{if_then_else_}
 use Rattle.model.specs.Limits.{mostScopes}
 
+-- Which scopes each operation's result has is a law of its own: `has-only`, `has-add`, `has-prune`, `has-flip`, `within→sub` and `sub→within`; sets with
+-- the same members are the same: `set-ext` (`laws/proofs/ScopeSets`).
 abbrev pub Scopes : Type 0
 Scopes = ℕ
 

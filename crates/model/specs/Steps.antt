@@ -74,7 +74,8 @@ madeTree t = do
   unless tooDeep (leb (tnesting t) mostNesting)
   done t
 
--- ---- scopes of a piece at a phase. A change of sets changes no nesting, so it needs no test.
+-- ---- scopes of a piece at a phase. A change of sets changes no nesting, so it needs no test for 17: `addScope-nesting`, `flipScope-nesting` and
+-- `pruneScopes-nesting` (`addresses/proofs/Fitting`).
 
 unfoldable pub addTo : ℕ → ℕ → Stx → Step Stx
 unfolding charge size addScope

@@ -12,6 +12,7 @@ use Rattle.model.specs.Resolving.{Bind}
 use Rattle.model.specs.Reading.{Head}
 
 -- groups of seven bits, low group first, top bit set on all but the last; at most k groups before the last
+-- (no number of 32 bits has more than four)
 unfoldable pub groupsOf : ℕ → ℕ → List ℕ
 groupsOf zero n = n ∷ []
 groupsOf (suc k) n = if ltb n 128 then n ∷ [] else (n % 128 + 128) ∷ groupsOf k (n / 128)
