@@ -5,12 +5,17 @@ use meirhuppa::parse;
 ghost use mathlib.Core.Path.{_≡_};
 ghost use Prim.Native.Nat.{_≤_};
 ghost use Rattle.model.specs.Limits.{programBudget, mostImage};
-ghost use Rattle.model.specs.Jobs.{parseEnding, lineOf, program};
+ghost use lib.ListN.{length};
+ghost use Rattle.model.specs.Jobs.{parseEnding, lineOf, program, lineBytes};
 ghost use Rattle.line.specs.Lines.{lineIs, Lent};
+ghost use Rattle.line.specs.Bytes.{Printed};
 
 const BUDGET: u32 = 400;
 
 const WORDS: usize = BUDGET as usize * limits::WORDS_PER_UNIT;
+
+// Two words, two numbers of at most ten digits, three spaces and a line end.
+pub const MOST_BYTES: usize = 33;
 
 // The code, and the units of both jobs.
 pub struct Line {
@@ -54,4 +59,22 @@ pub fn of_image(image: &[u8]) -> Line
     let mut out = [0u8; limits::MOST_IMAGE];
     let mut tree = [0u8; limits::MOST_IMAGE];
     expanded(image, &mut table, &mut out, &mut tree)
+}
+
+// Writes a line to the start of a buffer, and gives its length.
+pub fn put_line(l: Line, out: &mut [u8]) -> usize
+    requires { ⌜ 33 ≤ length (now out) ⌝ }
+    ensures { λ r. ⌜ Printed (lineBytes (lineIs l)) (now (out .entry)) (now (out .exit)) r ⌝ }
+{
+    let units = text::put_named(out, 0, b"code ", l.code);
+    let end = text::put_named(out, units, b" units ", l.units);
+    text::put_text(out, end, b"\n")
+}
+
+// All that the program prints for an image.
+pub fn print(image: &[u8], out: &mut [u8]) -> usize
+    requires { ⌜ 33 ≤ length (now out) ⌝ }
+    ensures { λ r. ⌜ Printed (lineBytes (program (now (image .entry)))) (now (out .entry)) (now (out .exit)) r ⌝ }
+{
+    put_line(of_image(image), out)
 }

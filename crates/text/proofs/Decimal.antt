@@ -75,4 +75,7 @@ module _ (out : List ℕ) (at left n : ℕ) where
         (sym (more-digits (left - 1) n l) ∙ ap (λ (k : ℕ). digits k n []) (one-less left h))
         (placed-then w (record { ends = refl; is = refl }))
 
-pub ruleset digit-laws = (no-digits, last-digit, digit-room, digit-fits, next-digit, placed-length)
+pub placed-few : {out out′ : List ℕ} {at past : ℕ} (k n : ℕ) → Placed out at (digits k n []) out′ past → past ≤ at + k
+placed-few k n w = let e = w .ends in let f = few-digits k n in omega arith
+
+pub ruleset digit-laws = (no-digits, last-digit, digit-room, digit-fits, next-digit, placed-few, placed-then, placed-length)

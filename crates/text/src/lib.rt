@@ -1,5 +1,5 @@
 // Text written into a buffer: bytes as they are, numbers in decimal, bytes in hexadecimal.
-ghost use mathlib.Core.List.{[]};
+ghost use mathlib.Core.List.{[], _++_};
 ghost use Prim.Native.Nat.{_+_, _*_, _/_, _%_, _≤_, _<_};
 ghost use mathlib.Core.Path.{_≡_};
 ghost use lib.ListN.{length};
@@ -44,9 +44,20 @@ fn put_digits(out: &mut [u8], at: usize, left: usize, n: u32) -> usize
 
 pub fn put_decimal(out: &mut [u8], at: usize, n: u32) -> usize
     requires { ⌜ at + 10 ≤ length (now out) ⌝ }
-    ensures { λ r. ⌜ Placed (now (out .entry)) at (digits 10 n []) (now (out .exit)) r ⌝ }
+    ensures bytes { λ r. ⌜ Placed (now (out .entry)) at (digits 10 n []) (now (out .exit)) r ⌝ }
+    ensures few { λ r. ⌜ r ≤ at + 10 ⌝ }
 {
     put_digits(out, at, MOST_DIGITS, n)
+}
+
+// A word and the number behind it.
+pub fn put_named(out: &mut [u8], at: usize, word: &[u8], n: u32) -> usize
+    requires { ⌜ at + length (now word) + 10 ≤ length (now out) ⌝ }
+    ensures bytes { λ r. ⌜ Placed (now (out .entry)) at (now (word .entry) ++ digits 10 n []) (now (out .exit)) r ⌝ }
+    ensures few { λ r. ⌜ r ≤ at + length (now (word .entry)) + 10 ⌝ }
+{
+    let number = put_text(out, at, word);
+    put_decimal(out, number, n)
 }
 
 fn digit(d: u8) -> u8
