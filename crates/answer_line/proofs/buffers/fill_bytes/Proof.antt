@@ -1,0 +1,48 @@
+use Rattle.answer_line.proofs.Lent.{Filled, buffer-laws}
+use Prim.Native.Nat.{_-_}
+use lib.ListN.{length}
+use Rattle.answer_line.specs.Format.{byteFill}
+use borrow.Author.Needs.{needs}
+use Rattle.answer_line.proofs.buffers.fill_bytes.Statement.{statement}
+use Rattle.answer_line.proofs.buffers.fill_bytes.Tie as tie
+
+abbrev Inv-loop : tie.InvT-loop
+Inv-loop bytes₀ i₀ bytes i = Filled byteFill bytes₀ bytes i
+
+abbrev μ-loop : tie.MeasureT-loop
+μ-loop bytes₀ i₀ bytes i = length bytes₀ - i
+
+loop-holds : tie.Need-loop-holds Inv-loop μ-loop
+loop-holds c = search (buffer-laws, needs)
+
+slice-write-bytes : tie.Need-slice-write-bytes Inv-loop μ-loop
+slice-write-bytes c = search (buffer-laws, needs)
+
+add-i : tie.Need-add-i Inv-loop μ-loop
+add-i c = search (buffer-laws, needs)
+
+loop-less : tie.Need-loop-less Inv-loop μ-loop
+loop-less c = search (buffer-laws, needs)
+
+loop-again : tie.Need-loop-again Inv-loop μ-loop
+loop-again c = search (buffer-laws, needs)
+
+same-length : tie.Need-same-length Inv-loop μ-loop
+same-length c = search (buffer-laws, needs)
+
+returns : tie.Need-returns Inv-loop μ-loop
+returns c = search (buffer-laws, needs)
+
+pub fill-bytes-spec : {M : Type 1} → statement M
+fill-bytes-spec =
+    tie.close
+    (tie.spec
+    Inv-loop
+    μ-loop
+    loop-holds
+    slice-write-bytes
+    add-i
+    loop-less
+    loop-again
+    same-length
+    returns)

@@ -1,0 +1,68 @@
+-- The lines of the replay stream: CODE UNITS NAME LENGTH TABLE OUTPUT.
+use Prim.Native.Nat.{ℕ, _*_}
+use mathlib.Core.List.{List, [], _∷_, _++_}
+use mathlib.Core.Bool.{Bool, true, false, _&&_}
+use lib.Dec.{eqb, leb}
+use lib.ListN.{length, take, drop}
+use Rattle.model.specs.Choice.{if_then_else_}
+use Rattle.model.specs.Limits.{wordsPerUnit}
+use Rattle.model.specs.Jobs.{Answer, Result, digits}
+use Rattle.text.specs.Hexadecimal.{hexOf}
+
+-- what every word of the table and every byte of the output is before a call
+abbrev pub wordFill : ℕ
+wordFill = 2779096485
+
+abbrev pub byteFill : ℕ
+byteFill = 90
+
+unfoldable pub allAre : ℕ → List ℕ → Bool
+allAre v [] = true
+allAre v (x ∷ l) = eqb x v && allAre v l
+
+-- the words of the budget are 0, and every later word has the fill
+unfoldable pub isClear : ℕ → List ℕ → Bool
+unfolding wordsPerUnit allAre
+isClear budget table =
+    leb (wordsPerUnit * budget) (length table)
+    && (allAre 0 (take (wordsPerUnit * budget) table) && allAre wordFill (drop (wordsPerUnit * budget) table))
+
+-- ---- columns, each but the last with a space behind it
+
+-- a number in decimal
+unfoldable pub numberColumn : ℕ → List ℕ
+unfolding digits
+numberColumn n = digits 10 n (32 ∷ [])
+
+-- `kept`, `clear` or `bad`
+unfoldable pub tableColumn : ℕ → List ℕ → List ℕ
+unfolding allAre isClear
+tableColumn budget table =
+    if allAre wordFill table then 107 ∷ 101 ∷ 112 ∷ 116 ∷ 32 ∷ []
+    else if isClear budget table then 99 ∷ 108 ∷ 101 ∷ 97 ∷ 114 ∷ 32 ∷ []
+    else 98 ∷ 97 ∷ 100 ∷ 32 ∷ []
+
+-- the written bytes in hexadecimal, or `-`
+unfoldable pub writtenColumn : ℕ → List ℕ → List ℕ
+unfolding hexOf
+writtenColumn len output = if eqb len 0 then 45 ∷ [] else hexOf (take len output)
+
+-- and `!` where a byte behind them lost the fill
+unfoldable pub outputColumn : ℕ → List ℕ → List ℕ
+unfolding writtenColumn allAre
+outputColumn len output = writtenColumn len output ++ (if allAre byteFill (drop len output) then [] else 33 ∷ [])
+
+-- ---- the line
+
+unfoldable pub numberColumns : Answer → List ℕ
+unfolding numberColumn
+numberColumns a = (numberColumn (a .code) ++ numberColumn (a .units)) ++ (numberColumn (a .name) ++ numberColumn (a .len))
+
+unfoldable pub bufferColumns : ℕ → ℕ → List ℕ → List ℕ → List ℕ
+unfolding tableColumn outputColumn
+bufferColumns budget len table output = tableColumn budget table ++ outputColumn len output
+
+-- of a job with that budget that ended so
+unfoldable pub answerLine : ℕ → Result → List ℕ
+unfolding numberColumns bufferColumns
+answerLine budget r = numberColumns (r .answer) ++ bufferColumns budget (r .answer .len) (r .table) (r .output) ++ 10 ∷ []
