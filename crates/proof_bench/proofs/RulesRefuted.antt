@@ -1,6 +1,6 @@
 -- With the rules as defined, `ruled` is the expand job; with one wrong rule it does not meet that job's contract. So condition 2 rejects the
--- third sham, which copies all parts of an application but the first, and three slips: a fresh name not advanced, a body without its
--- binder's scope, an identifier answered with itself. Of these condition 3 rejects the first by itself.
+-- third sham, which copies all parts of an application but the first (by its units, and by what it writes alone), and three slips: a fresh
+-- name not advanced, a body without its binder's scope, an identifier answered with itself. Of the slips condition 3 rejects the first by itself.
 use mathlib.Core.Path.{_≡_, refl, sym, ap, _∙_, fun-ext}
 use Prim.Native.Nat.{ℕ, zero, suc, _-_}
 use native.Mathlib.Omega.{arith}
@@ -18,10 +18,10 @@ use Rattle.model.specs.Writing.{syntaxBytes}
 use Rattle.model.specs.Jobs.{Result, lent, atPhase, withImage, start, worked, fitted, reached, expandRoot, expandEnding, expandJob}
 use Rattle.codec_laws.proofs.NumberTrip.{fault≢got}
 use Rattle.addresses.specs.OneNameOneAddress.{imageWritten}
-use Rattle.proof_bench.specs.Contracts.{MeetsExpand}
-use Rattle.proof_bench.specs.Rules.{ruledForm, ruledEntry, ruledExpand, ruledRoot, ruledEnding, ruled, rightRules, copiesOthers, staleNames, bareBodies, ownIdentifiers}
-use Rattle.proof_bench.specs.Shams.{Condition3Of}
-use Rattle.proof_bench.proofs.Samples.{identity, applied, nested, words, room, identity-code, identity-image, applied-units, nested-length, identity-call, applied-call, nested-call, as-defined, image-is, units-are}
+use Rattle.proof_bench.specs.Contracts.{Expanding, MeetsExpand}
+use Rattle.proof_bench.specs.Rules.{ruledForm, ruledEntry, ruledExpand, ruledRoot, ruledEnding, ruled, rightRules, copiesOthers, copiesPaid, staleNames, bareBodies, ownIdentifiers}
+use Rattle.proof_bench.specs.Shams.{WritesCopies, Condition3Of}
+use Rattle.proof_bench.proofs.Samples.{identity, applied, doubled, nested, words, room, expanded, identity-code, identity-image, applied-units, doubled-code, doubled-units, doubled-length, nested-length, identity-call, applied-call, doubled-call, nested-call, as-defined, code-is, image-is, units-are}
 
 -- ---- with the rules as defined
 
@@ -86,6 +86,45 @@ pub copying-the-others-is-rejected : MeetsExpand (ruled copiesOthers) → ⊥
 copying-the-others-is-rejected meets = clash (sym copied-units ∙ units-are (ruled copiesOthers) meets applied applied-call ∙ applied-units)
   where
     clash : _≡_ {A = ℕ} 8 12 → ⊥
+    clash q = omega arith
+
+-- and by what it writes, whatever the units: both answer 0, and the second function is written as it was given
+pub copied-code : (ruled copiesOthers doubled 0 32 words room) .answer .code ≡ 0
+unfolding doubled words room ruled copiesOthers
+copied-code = refl
+
+copied-length : length (imageWritten (ruled copiesOthers doubled 0 32 words room)) ≡ 58
+unfolding doubled words room ruled copiesOthers imageWritten
+copied-length = refl
+
+pub copying-the-others-writes-another-image : imageWritten (ruled copiesOthers doubled 0 32 words room) ≡ imageWritten (expanded doubled) → ⊥
+copying-the-others-writes-another-image e = clash (sym copied-length ∙ ap length e ∙ doubled-length)
+  where
+    clash : _≡_ {A = ℕ} 58 64 → ⊥
+    clash q = omega arith
+
+pub writing-copies-is-rejected : (f : Expanding) → WritesCopies f → MeetsExpand f → ⊥
+writing-copies-is-rejected f sham meets =
+    copying-the-others-writes-another-image
+    (sym (sham doubled 0 32 words room doubled-call (code-is f meets doubled doubled-call doubled-code)) ∙ image-is f meets doubled doubled-call)
+
+-- so too where the others' units are charged: here they are the right ones, and the image is another
+paid-units : (ruled copiesPaid doubled 0 32 words room) .answer .units ≡ 18
+unfolding doubled words room ruled copiesPaid
+paid-units = refl
+
+paid-length : length (imageWritten (ruled copiesPaid doubled 0 32 words room)) ≡ 62
+unfolding doubled words room ruled copiesPaid imageWritten
+paid-length = refl
+
+pub copied-for-the-right-units : (ruled copiesPaid doubled 0 32 words room) .answer .units ≡ (expanded doubled) .answer .units
+copied-for-the-right-units = paid-units ∙ sym doubled-units
+
+pub charging-and-copying-is-rejected : MeetsExpand (ruled copiesPaid) → ⊥
+charging-and-copying-is-rejected meets =
+    clash (sym paid-length ∙ ap length (image-is (ruled copiesPaid) meets doubled doubled-call) ∙ doubled-length)
+  where
+    clash : _≡_ {A = ℕ} 62 64 → ⊥
     clash q = omega arith
 
 -- ---- a fresh name not advanced: the image has no made name

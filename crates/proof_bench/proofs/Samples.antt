@@ -29,6 +29,13 @@ applied =
     1 ∷ 1 ∷ 1 ∷ 120 ∷ 0 ∷ 0 ∷ 0 ∷ 5 ∷ 0 ∷ 0 ∷ 0 ∷ 2 ∷ 1 ∷ 0 ∷ 0 ∷ 0 ∷ 7
     ∷ 5 ∷ 0 ∷ 0 ∷ 0 ∷ 3 ∷ 0 ∷ 0 ∷ 0 ∷ 0 ∷ 0 ∷ 0 ∷ 0 ∷ 0 ∷ 0 ∷ 4 ∷ 0 ∷ 0 ∷ 0 ∷ 0 ∷ 4 ∷ []
 
+-- ((lambda x x) (lambda x x))
+unfoldable pub doubled : List ℕ
+doubled =
+    1 ∷ 1 ∷ 1 ∷ 120 ∷ 0 ∷ 0 ∷ 0 ∷ 5 ∷ 0 ∷ 0 ∷ 0 ∷ 2
+    ∷ 5 ∷ 0 ∷ 0 ∷ 0 ∷ 3 ∷ 0 ∷ 0 ∷ 0 ∷ 0 ∷ 0 ∷ 0 ∷ 0 ∷ 0 ∷ 0 ∷ 4 ∷ 0 ∷ 0 ∷ 0 ∷ 0 ∷ 4
+    ∷ 5 ∷ 0 ∷ 0 ∷ 0 ∷ 3 ∷ 0 ∷ 0 ∷ 0 ∷ 0 ∷ 0 ∷ 0 ∷ 0 ∷ 0 ∷ 0 ∷ 4 ∷ 0 ∷ 0 ∷ 0 ∷ 0 ∷ 4 ∷ []
+
 -- (lambda x (lambda y x))
 unfoldable pub nested : List ℕ
 nested =
@@ -76,6 +83,18 @@ identity-image = refl
 pub applied-units : (expanded applied) .answer .units ≡ 12
 unfolding expanded applied words room expandJob
 applied-units = refl
+
+pub doubled-code : (expanded doubled) .answer .code ≡ 0
+unfolding expanded doubled words room expandJob
+doubled-code = refl
+
+pub doubled-units : (expanded doubled) .answer .units ≡ 18
+unfolding expanded doubled words room expandJob
+doubled-units = refl
+
+pub doubled-length : length (imageWritten (expanded doubled)) ≡ 64
+unfolding expanded doubled words room expandJob imageWritten
+doubled-length = refl
 
 pub nested-length : (expanded nested) .answer .len ≡ 59
 unfolding expanded nested words room expandJob
@@ -131,6 +150,10 @@ identity-call = call identity (small-bytes identity refl) (omega arith)
 pub applied-call : Call applied 0 32 words room
 unfolding applied small
 applied-call = call applied (small-bytes applied refl) (omega arith)
+
+pub doubled-call : Call doubled 0 32 words room
+unfolding doubled small
+doubled-call = call doubled (small-bytes doubled refl) (omega arith)
 
 pub nested-call : Call nested 0 32 words room
 unfolding nested small

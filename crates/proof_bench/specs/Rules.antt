@@ -109,6 +109,19 @@ unfoldable pub copiesOthers : Rules
 unfolding bindFresh addTo expandFirst
 copiesOthers = record { binder = bindFresh; inScope = addTo; means = λ c x m. m; parts = expandFirst }
 
+-- the others expanded too, so that their units are charged, and copied all the same
+unfoldable pub expandKeepFirst : (Stx → Step Stx) → Stxs → Step Stxs
+unfolding expandAll
+expandKeepFirst self nil = done nil
+expandKeepFirst self (cons s l) = do
+  t ← self s
+  r ← expandAll self l
+  done (cons t l)
+
+unfoldable pub copiesPaid : Rules
+unfolding bindFresh addTo expandKeepFirst
+copiesPaid = record { binder = bindFresh; inScope = addTo; means = λ c x m. m; parts = expandKeepFirst }
+
 -- the fresh name not advanced
 unfoldable pub staleBinder : ℕ → Sets → ℕ → Step Binder
 unfolding freshScope charge changeAt add bind setAt

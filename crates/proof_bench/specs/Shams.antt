@@ -6,6 +6,7 @@ use Rattle.model.specs.Refusals.{noRule}
 use Rattle.model.specs.Jobs.{refused, written, lent}
 use Rattle.addresses.specs.OneNameOneAddress.{imageWritten, OneNameOneAddress}
 use Rattle.proof_bench.specs.Contracts.{Call, Expanding}
+use Rattle.proof_bench.specs.Rules.{ruled, copiesOthers}
 
 -- 1. refuses all
 abbrev pub RefusesAll : Expanding → Type 0
@@ -45,7 +46,11 @@ UnitsAtBudget f = (image : List ℕ) (ph budget : ℕ) (table output : List ℕ)
 abbrev pub UnitsInvented : ℕ → Expanding → Type 0
 UnitsInvented units f = (image : List ℕ) (ph budget : ℕ) (table output : List ℕ) → Call image ph budget table output → (f image ph budget table output) .answer .units ≡ units
 
--- 3. expands the first part of an application and copies the others: `copiesOthers`, of Rules
+-- 3. expands the first part of an application and copies the others: `copiesOthers`, of Rules; or writes what it writes, for any units
+abbrev pub WritesCopies : Expanding → Type 0
+WritesCopies f =
+    (image : List ℕ) (ph budget : ℕ) (table output : List ℕ) → Call image ph budget table output → (f image ph budget table output) .answer .code ≡ 0
+    → imageWritten (f image ph budget table output) ≡ imageWritten (ruled copiesOthers image ph budget table output)
 
 -- ---- condition 3, said of any function in place of the expand job
 
