@@ -139,6 +139,14 @@ module _ (image : List ℕ) (is-bytes : Bytes image) (budget : ℕ) (b : List �
       st : State
       st = record { left = x .cost; names = run .s .names; scopes = run .s .scopes; binds = run .s .binds }
 
+  -- with any units that cover it
+  tree-is : (n : ℕ) → entryCharge 0 (result .binds) (result .root) ≤ n
+      → parse mostEntries 0 (result .root) (start n result) ≡ ok tree (start (n - entryCharge 0 (result .binds) (result .root)) result)
+  unfolding result tree start spend
+  tree-is n h =
+      costs-enough (subst (λ (c : ℕ). Costs Tree (x .tree) c (start n result) (parse mostEntries 0 (run .r) (start n result))) cost-is
+      (x .parses mostEntries (le-refl mostEntries) (start n result) same)) h
+
   parse-costs : (st : State) → st .binds ≡ run .s .binds → Costs Tree tree (parseCharge (run .s .binds) (run .r)) st (parseRoot (run .r) st)
   unfolding tree parseCharge spend
   parse-costs st q =
@@ -208,9 +216,9 @@ module _ (image : List ℕ) (is-bytes : Bytes image) (budget : ℕ) (b : List �
   tree-read : Image Tree
   tree-read = record { head = result .head; binds = []; root = tree }
 
-  tree-is : readImage readTreeImage (treeImageBytes (result .head) tree) ≡ got tree-read []
+  tree-reads : readImage readTreeImage (treeImageBytes (result .head) tree) ≡ got tree-read []
   unfolding tree-read
-  tree-is = tree-written-then-read (result .head) tree tree-fits
+  tree-reads = tree-written-then-read (result .head) tree tree-fits
 
   owned : closed [] tree ≡ true
   unfolding tree vars
@@ -241,7 +249,7 @@ module _ (image : List ℕ) (is-bytes : Bytes image) (budget : ℕ) (b : List �
   never-unowned : (n : ℕ) (table output : List ℕ) → (evaluateJob (treeImageBytes (result .head) tree) n table output) .answer .code ≡ 3 → ⊥
   never-unowned n table output q =
       lent-fine n table output (evaluateEnding treeImage′ n (length output))
-      (subst Fine (sym (evaluateEnding-is treeImage′ n (length output) ∙ with-read (readImage readTreeImage treeImage′) (evaluateWork n (length output)) tree-read [] tree-is))
+      (subst Fine (sym (evaluateEnding-is treeImage′ n (length output) ∙ with-read (readImage readTreeImage treeImage′) (evaluateWork n (length output)) tree-read [] tree-reads))
       (evaluate-fine n (length output)))
       (ap (λ (z : Result). z .answer .code) (sym (evaluateJob-is treeImage′ n table output)) ∙ q)
     where
@@ -260,6 +268,7 @@ module _ (image : List ℕ) (is-bytes : Bytes image) (budget : ℕ) (b : List �
     result = result;
     result-is = result-is;
     tree = tree;
+    tree-is = tree-is;
     parses = parses;
     parses-no-less = parses-no-less;
     no-longer = no-longer;

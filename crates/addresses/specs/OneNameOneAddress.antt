@@ -1,16 +1,19 @@
 -- Condition 3, one name is one address, from image bytes to image bytes. The theorem is `one-name-one-address` in proofs/Condition3:
 -- it gives `OneNameOneAddress` for every image that the expand job at phase 0 answers with code 0, and for the image that it writes.
-use Prim.Native.Nat.{ℕ, _≤_, _<_}
+use Prim.Native.Nat.{ℕ, _-_, _≤_, _<_}
 use mathlib.Core.Path.{_≡_}
 use mathlib.Core.Bool.{true, false}
 use mathlib.Core.List.{List, [], _∷_, _++_}
 use lib.ListN.{length, take}
+use Rattle.model.specs.Limits.{mostEntries}
 use Rattle.model.specs.Objects.{Stx}
 use Rattle.model.specs.Trees.{Tree, var, app, fun, datum, lst, stx, Trees, tnil, tcons}
 use Rattle.model.specs.Reading.{got, Image, readSyntax, readImage}
 use Rattle.model.specs.Writing.{treeImageBytes}
-use Rattle.model.specs.Jobs.{Result, written, lent, budgetFits, isAmong, closed, parseJob, evaluateJob}
-use Rattle.addresses.specs.Charge.{parseCharge}
+use Rattle.model.specs.Steps.{ok}
+use Rattle.model.specs.Parsing.{parse}
+use Rattle.model.specs.Jobs.{Result, written, lent, budgetFits, start, isAmong, closed, parseJob, evaluateJob}
+use Rattle.addresses.specs.Charge.{entryCharge, parseCharge}
 
 -- the names of a tree's functions, a whole before its parts, left to right
 unfoldable mutual
@@ -45,9 +48,12 @@ pub record OneNameOneAddress (image expanded : List ℕ) : Type 0 where
   pub given-is : readImage readSyntax image ≡ got given []
   pub result : Image Stx
   pub result-is : readImage readSyntax expanded ≡ got result []
+  -- the tree is what `parse` makes of the expanded image's root with any units that cover the entries, also more than a budget can be
+  pub tree : Tree
+  pub tree-is : (units : ℕ) → entryCharge 0 (result .binds) (result .root) ≤ units
+      → parse mostEntries 0 (result .root) (start units result) ≡ ok tree (start (units - entryCharge 0 (result .binds) (result .root)) result)
   -- the tree and the units of the parse job on the expanded image: it answers 0 and writes the tree wherever the budget covers the
   -- charge, and 19 wherever it does not (so always, where 4,096 does not cover it); the tree's image is never longer than its object's
-  pub tree : Tree
   pub parses : (budget : ℕ) (table output : List ℕ) → budgetFits budget (length table) ≡ true
       → length (treeImageBytes (result .head) tree) ≤ length output → parseCharge (result .binds) (result .root) ≤ budget
       → parseJob expanded budget table output
