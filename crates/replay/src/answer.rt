@@ -1,11 +1,17 @@
 // One call and the line that answers it.
-use crate::columns;
-use crate::lines::Lines;
+use answer_line::Numbers;
+use answer_line::buffers;
 use meirhuppa::answers::Answer;
 use meirhuppa::evaluate;
 use meirhuppa::expand;
 use meirhuppa::parse;
 use meirhuppa::resolve;
+ghost use mathlib.Core.Path.{_≡_};
+ghost use Prim.Native.Nat.{_+_, _*_, _≤_};
+ghost use lib.ListN.{length};
+ghost use Rattle.text.specs.Placing.{Placed};
+ghost use Rattle.meirhuppa.specs.Endings.{answerIs};
+ghost use Rattle.answer_line.specs.Calls.{jobOf, freshJob, callLine};
 
 // The numbers at the head of a call; the last three are sizes.
 pub struct Call {
@@ -24,68 +30,52 @@ impl Call {
 
     pub const PARSE: u32 = 2;
 
-    pub const EVALUATE: u32 = 3;
-
     pub const LAST_JOB: u32 = 3;
 }
 
-// What a job gave back, where the library has it yet.
-enum Done {
-    Now(Answer),
-    Later,
-}
-
-fn do_job(call: Call, image: &[u8], table: &mut [u32], output: &mut [u8]) -> Done {
+// Every number above those of the others is evaluate's: no call has one over `LAST_JOB`.
+fn do_job(call: Call, image: &[u8], table: &mut [u32], output: &mut [u8]) -> Answer
+    ensures { λ r. ⌜ record { answer = answerIs r; output = now (output .exit); table = now (table .exit) } ≡ jobOf (call .job) (now (image .entry)) (call .phase) (call .budget) (now (table .entry)) (now (output .entry)) ⌝ }
+{
     if call.job == Call::RESOLVE {
-        let a = resolve::meirhuppa_resolve(image, call.phase, call.budget, table);
-        return Done::Now(a);
+        return resolve::meirhuppa_resolve(image, call.phase, call.budget, table);
     }
     if call.job == Call::EXPAND {
-        let a = expand::meirhuppa_expand(image, call.phase, call.budget, table, output);
-        return Done::Now(a);
+        return expand::meirhuppa_expand(image, call.phase, call.budget, table, output);
     }
     if call.job == Call::PARSE {
-        let a = parse::meirhuppa_parse(image, call.budget, table, output);
-        return Done::Now(a);
+        return parse::meirhuppa_parse(image, call.budget, table, output);
     }
-    if call.job == Call::EVALUATE {
-        let a = evaluate::meirhuppa_evaluate(image, call.budget, table, output);
-        return Done::Now(a);
-    }
-    Done::Later
+    evaluate::meirhuppa_evaluate(image, call.budget, table, output)
 }
 
-// The line of a job that gave back `a` and left the buffers so.
-fn line(
-    a: Answer,
-    budget: u32,
-    table: &[u32],
-    output: &[u8],
-    lines: Lines,
-    page: &mut [u8; Lines::PAGE],
-) -> Lines {
-    let numbers = lines
-        .decimal(a.code, page)
-        .decimal(a.units, page)
-        .decimal(a.name, page)
-        .decimal(a.length, page);
-    let buffers = columns::put_table(table, budget, numbers, page);
-    columns::put_output(output, a.length, buffers, page).byte(b'\n', page)
+// The same with buffers that are filled first.
+fn do_fresh(call: Call, image: &[u8], table: &mut [u32], output: &mut [u8]) -> Answer
+    ensures { λ r. ⌜ record { answer = answerIs r; output = now (output .exit); table = now (table .exit) } ≡ freshJob (call .job) (now (image .entry)) (call .phase) (call .budget) (length (now (table .entry))) (length (now (output .entry))) ⌝ }
+{
+    buffers::fill_words(table);
+    buffers::fill_bytes(output);
+    do_job(call, image, table, output)
 }
 
-// The line of a call, whose buffers are exactly as long as it says; `later` for a job that the library does not have yet.
-pub fn answered(
+// Puts the line of a call on the page, and gives the place past it. The buffers are exactly as long as the call says.
+pub fn answer(
     call: Call,
     image: &[u8],
     table: &mut [u32],
     output: &mut [u8],
-    lines: Lines,
-    page: &mut [u8; Lines::PAGE],
-) -> Lines {
-    columns::fill_words(table);
-    columns::fill_bytes(output);
-    match do_job(call, image, table, output) {
-        Done::Now(a) => line(a, call.budget, table, output, lines, page),
-        Done::Later => lines.text(b"later\n", page),
-    }
+    page: &mut [u8],
+    at: usize,
+) -> usize
+    requires { ⌜ at + length (now output) * 2 + 53 ≤ length (now page) ⌝ }
+    ensures { λ r. ⌜ Placed (now (page .entry)) at (callLine (call .job) (now (image .entry)) (call .phase) (call .budget) (length (now (table .entry))) (length (now (output .entry)))) (now (page .exit)) r ⌝ }
+{
+    let a = do_fresh(call, image, table, output);
+    let numbers = Numbers {
+        code: a.code,
+        units: a.units,
+        name: a.name,
+        length: a.length,
+    };
+    answer_line::put_line(page, at, numbers, call.budget, table, output)
 }

@@ -1,40 +1,49 @@
 // Reads a stream of job calls on standard input, and prints a line for each: what the job gave back, and what it did to the
 // table and the output that it was lent.
 mod answer;
-mod columns;
-mod lines;
+mod page;
 mod stream;
 
 use crate::answer::Call;
-use crate::lines::Lines;
+use crate::page::MOST_BYTES;
+use crate::page::PAGE;
 use crate::stream::Input;
 use crate::stream::Number;
 use crate::stream::Place;
+ghost use mathlib.Core.Path.{_≡_};
+ghost use mathlib.Core.Bool.{false};
+ghost use mathlib.Core.List.{_∷_, []};
+ghost use Prim.Native.Nat.{_≤_};
+ghost use lib.ListN.{length};
+ghost use Rattle.text.specs.Placing.{Placed};
 
-// The most that a call may ask for: bytes of image and output, words of the table.
-const MOST_BYTES: usize = 70000;
-
+// The most words of the table that a call may ask for.
 const MOST_WORDS: usize = 170000;
 
-// How far the run is: what is left of the input, what is printed, and whether a call may follow.
+// How far the run is: what is left of the input, how many bytes of the page are still to be written, and whether a call may follow.
 struct Run {
     input: Input,
-    lines: Lines,
-    goes_on: bool,
+    count: usize,
+    ongoing: bool,
 }
 
-fn ended(input: Input, lines: Lines) -> Run {
+fn ended(input: Input, count: usize) -> Run
+    ensures { λ r. ⌜ (r .count ≡ count) × (r .ongoing ≡ false) ⌝ }
+{
     Run {
         input,
-        lines,
-        goes_on: false,
+        count,
+        ongoing: false,
     }
 }
 
-// The run that a stream ends which breaks the format.
-fn cut(input: Input, lines: Lines, page: &mut [u8; Lines::PAGE]) -> Run {
-    let said = lines.text(b"cut\n", page);
-    ended(input, said)
+// The run that a stream ends which breaks the format: with the line `cut`.
+fn cut(input: Input, count: usize, page: &mut [u8; PAGE]) -> Run
+    requires { ⌜ count ≤ 65536 ⌝ }
+    ensures { λ r. ⌜ Placed (now (page .entry)) count (99 ∷ 117 ∷ 116 ∷ 10 ∷ []) (now (page .exit)) (r .count) × (r .ongoing ≡ false) ⌝ }
+{
+    let past = text::put_text(page, count, b"cut\n");
+    ended(input, past)
 }
 
 // A call whose head is read, with buffers exactly as long as it says.
@@ -45,19 +54,21 @@ fn exact(
     image: &mut [u8],
     table: &mut [u32],
     output: &mut [u8],
-    lines: Lines,
-    page: &mut [u8; Lines::PAGE],
-) -> Run {
+    count: usize,
+    page: &mut [u8; PAGE],
+) -> Run
+    requires { ⌜ (count ≤ 65536) × (length (now output) ≤ 70000) ⌝ }
+{
     match input.fill(room, image) {
         Place::At(past) => {
-            let said = answer::answered(call, image, table, output, lines, page);
+            let end = answer::answer(call, image, table, output, page, count);
             Run {
                 input: past,
-                lines: said,
-                goes_on: true,
+                count: end,
+                ongoing: true,
             }
         }
-        Place::Cut => cut(input, lines, page),
+        Place::Cut => cut(input, count, page),
     }
 }
 
@@ -69,9 +80,11 @@ fn sized(
     image: &mut [u8],
     table: &mut [u32],
     output: &mut [u8],
-    lines: Lines,
-    page: &mut [u8; Lines::PAGE],
-) -> Run {
+    count: usize,
+    page: &mut [u8; PAGE],
+) -> Run
+    requires { ⌜ (count ≤ 65536) × (length (now output) ≤ 70000) ⌝ }
+{
     let words = call.words as usize;
     let bytes = call.output as usize;
     let length = call.image as usize;
@@ -80,7 +93,7 @@ fn sized(
         || output.len() < bytes
         || image.len() < length
     {
-        return cut(input, lines, page);
+        return cut(input, count, page);
     }
     exact(
         call,
@@ -89,7 +102,7 @@ fn sized(
         &mut image[0..length],
         &mut table[0..words],
         &mut output[0..bytes],
-        lines,
+        count,
         page,
     )
 }
@@ -100,11 +113,11 @@ fn next(
     room: &mut [u8; Input::ROOM],
     image: &mut [u8],
     table: &mut [u32],
-    output: &mut [u8],
-    page: &mut [u8; Lines::PAGE],
+    output: &mut [u8; MOST_BYTES],
+    page: &mut [u8; PAGE],
 ) -> Run {
     let input = run.input;
-    let lines = run.lines;
+    let count = page::next_start(page, run.count);
     let mut head = [0u32; 5];
     match input.number(room) {
         Number::Read(job, past) => match past.numbers(room, &mut head) {
@@ -117,12 +130,12 @@ fn next(
                     output: head[3],
                     image: head[4],
                 };
-                sized(call, behind, room, image, table, output, lines, page)
+                sized(call, behind, room, image, table, output, count, page)
             }
-            Place::Cut => cut(input, lines, page),
+            Place::Cut => cut(input, count, page),
         },
-        Number::End => ended(input, lines),
-        Number::Cut => cut(input, lines, page),
+        Number::End => ended(input, count),
+        Number::Cut => cut(input, count, page),
     }
 }
 
@@ -131,26 +144,25 @@ fn answer_all(
     room: &mut [u8; Input::ROOM],
     image: &mut [u8],
     table: &mut [u32],
-    output: &mut [u8],
-    page: &mut [u8; Lines::PAGE],
+    output: &mut [u8; MOST_BYTES],
+    page: &mut [u8; PAGE],
 ) {
     let mut run = Run {
         input: Input::start(),
-        lines: Lines::start(),
-        goes_on: true,
+        count: 0,
+        ongoing: true,
     };
     let mut turns = u64::MAX;
-    while turns > 0 && run.goes_on {
+    while turns > 0 && run.ongoing {
         run = next(run, room, image, table, output, page);
         turns -= 1;
     }
-    let lines = run.lines;
-    lines.close(page);
+    page::write_front(page, run.count);
 }
 
 fn main() {
     let mut room = [0u8; Input::ROOM];
-    let mut page = [0u8; Lines::PAGE];
+    let mut page = [0u8; PAGE];
     let mut image = [0u8; MOST_BYTES];
     let mut table = [0u32; MOST_WORDS];
     let mut output = [0u8; MOST_BYTES];

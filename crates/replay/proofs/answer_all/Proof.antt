@@ -7,16 +7,13 @@ use Rattle.replay.proofs.answer_all.Statement.{statement}
 use Rattle.replay.proofs.answer_all.Tie as tie
 
 abbrev Inv-loop : tie.InvT-loop
-Inv-loop room₀ image₀ table₀ output₀ page₀ run₀ turns₀ room image table output page run turns = (turns ≤ 18446744073709551615) × (length image ≡ length image₀) × (length table ≡ length table₀) × (length output ≡ length output₀)
+Inv-loop room₀ image₀ table₀ output₀ page₀ run₀ turns₀ room image table output page run turns = (turns ≤ 18446744073709551615) × (length image ≡ length image₀) × (length table ≡ length table₀)
 
 abbrev μ-loop : tie.MeasureT-loop
 μ-loop room₀ image₀ table₀ output₀ page₀ run₀ turns₀ room image table output page run turns = turns
 
 start-requires : tie.Need-start-requires Inv-loop μ-loop
 start-requires c κs = search needs
-
-start-requires-2 : tie.Need-start-requires-2 Inv-loop μ-loop
-start-requires-2 c κs = search needs
 
 loop-holds : tie.Need-loop-holds Inv-loop μ-loop
 loop-holds c = search needs
@@ -33,8 +30,8 @@ loop-less c = search needs
 loop-again : tie.Need-loop-again Inv-loop μ-loop
 loop-again c = search needs
 
-close-requires : tie.Need-close-requires Inv-loop μ-loop
-close-requires c κs = search needs
+write-front-requires : tie.Need-write-front-requires Inv-loop μ-loop
+write-front-requires c κs = search needs
 
 same-length : tie.Need-same-length Inv-loop μ-loop
 same-length c = search needs
@@ -42,11 +39,22 @@ same-length c = search needs
 same-length-2 : tie.Need-same-length-2 Inv-loop μ-loop
 same-length-2 c = search needs
 
-same-length-3 : tie.Need-same-length-3 Inv-loop μ-loop
-same-length-3 c = search needs
-
 returns : tie.Need-returns Inv-loop μ-loop
 returns c = search needs
 
 pub answer-all-spec : {M : Type 1} → statement M
-answer-all-spec = tie.close (tie.spec Inv-loop μ-loop start-requires start-requires-2 loop-holds next-requires sub-turns loop-less loop-again close-requires same-length same-length-2 same-length-3 returns)
+answer-all-spec =
+    tie.close
+    (tie.spec
+    Inv-loop
+    μ-loop
+    start-requires
+    loop-holds
+    next-requires
+    sub-turns
+    loop-less
+    loop-again
+    write-front-requires
+    same-length
+    same-length-2
+    returns)
