@@ -1,8 +1,8 @@
 -- The job that a call asks for, by the tests of its number, and its line.
 use Prim.Native.Nat.{ℕ}
-use mathlib.Core.Path.{_≡_, sym, ap, _∙_, subst}
+use mathlib.Core.Path.{_≡_, ap, _∙_, subst}
 use mathlib.Core.List.{List, []}
-use lib.ListN.{length, replicate}
+use lib.ListN.{replicate}
 use borrow.Author.Tests.{eq-eqb, ne-eqb}
 use Rattle.model.specs.Jobs.{Answer, Result, resolveJob, expandJob, parseJob, evaluateJob}
 use Rattle.text.specs.Placing.{Placed}

@@ -1,18 +1,16 @@
 -- The columns one behind another, by what the code tests.
 use Prim.Native.Nat.{ℕ, _+_, _-_, _*_, _≤_, _<_}
-use mathlib.Core.Path.{_≡_, refl, sym, ap, _∙_, subst}
+use mathlib.Core.Path.{_≡_, sym, ap, _∙_, subst}
 use mathlib.Core.List.{List, [], _∷_, _++_, append-nil}
 use mathlib.Core.Bool.{Bool, true, false}
 use native.Mathlib.Omega.{arith}
-use lib.Dec.{eqb}
 use lib.ListN.{length, take, drop, length-append, take-append-drop, drop-of-length-le}
 use lib.Seq.{take-all, length-take-le}
 use borrow.Author.Tests.{eq-eqb, ne-eqb}
-use Rattle.model.specs.Choice.{if_then_else_}
 use Rattle.model.specs.Jobs.{digits, Result}
 use Rattle.text.specs.Placing.{Placed}
 use Rattle.text.specs.Hexadecimal.{hexOf}
-use Rattle.text.proofs.Placing.{placed-then, placed-length}
+use Rattle.text.proofs.Placing.{placed-then}
 use Rattle.text.proofs.Decimal.{digits-before}
 use Rattle.text.proofs.Hexadecimal.{hex-length}
 use Rattle.answer_line.specs.Format.{wordFill, byteFill, allAre, isClear, numberColumn, tableColumn, writtenColumn, outputColumn, numberColumns, bufferColumns, answerLine}

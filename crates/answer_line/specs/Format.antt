@@ -1,7 +1,7 @@
 -- The lines of the replay stream: CODE UNITS NAME LENGTH TABLE OUTPUT.
 use Prim.Native.Nat.{ℕ, _*_}
 use mathlib.Core.List.{List, [], _∷_, _++_}
-use mathlib.Core.Bool.{Bool, true, false, _&&_}
+use mathlib.Core.Bool.{Bool, true, _&&_}
 use lib.Dec.{eqb, leb}
 use lib.ListN.{length, take, drop}
 use Rattle.model.specs.Choice.{if_then_else_}

@@ -2,7 +2,6 @@
 pub mod buffers;
 mod columns;
 
-ghost use mathlib.Core.List.{List};
 ghost use Prim.Native.Nat.{_+_, _*_, _≤_};
 ghost use lib.ListN.{length};
 ghost use Rattle.text.specs.Placing.{Placed};

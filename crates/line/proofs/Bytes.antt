@@ -1,14 +1,12 @@
 -- The line's parts one behind another.
-use mathlib.Core.Path.{_≡_, refl, sym, ap, _∙_, subst}
+use mathlib.Core.Path.{_≡_, sym, ap, _∙_, subst}
 use Prim.Native.Nat.{ℕ, _+_, _≤_}
 use native.Mathlib.Nat.{zero-add}
 use native.Mathlib.Omega.{arith}
 use mathlib.Core.List.{List, [], _∷_, _++_, append-assoc}
-use mir.Syntax.{w64}
-use mir.Val.{Fits}
-use lib.ListN.{length, take, drop, length-append, length-drop}
-use lib.Seq.{sets, sets-eq, length-take-le}
-use Rattle.model.specs.Jobs.{Line, digits, lineBytes, program}
+use lib.ListN.{length, length-append}
+use lib.Seq.{sets-eq, length-take-le}
+use Rattle.model.specs.Jobs.{Line, digits, lineBytes}
 use Rattle.text.specs.Placing.{Placed}
 use Rattle.text.proofs.Placing.{placed-then, placed-length}
 use Rattle.text.proofs.Decimal.{digits-before, few-digits}

@@ -1,4 +1,5 @@
 // Standard input, byte by byte out of a room that is filled again where all of it is taken.
+ghost use mathlib.Core.Path.{_≡_};
 
 // The bytes in the room that are still to be taken: those from `at` to `end`.
 pub struct Input {
@@ -23,7 +24,9 @@ pub enum Place {
     Cut,
 }
 
-fn wide(b: u8) -> u64 {
+fn wide(b: u8) -> u64
+    ensures { λ r. ⌜ r ≡ b ⌝ }
+{
     b as u64
 }
 
@@ -40,7 +43,9 @@ impl Input {
     // A number has at most five groups of seven bits.
     const BITS: u32 = 35;
 
-    pub fn start() -> Input {
+    pub fn start() -> Input
+        ensures { λ r. ⌜ (r .at ≡ 0) × (r .end ≡ 0) ⌝ }
+    {
         Input { at: 0, end: 0 }
     }
 

@@ -1,13 +1,13 @@
 -- Bytes in hexadecimal, placed one after another.
-use Prim.Native.Nat.{ℕ, suc, _+_, _*_, _/_, _%_, _≤_, _<_}
-use mathlib.Core.Path.{_≡_, refl, ap, _∙_, sym, subst}
+use Prim.Native.Nat.{ℕ, _+_, _*_, _/_, _%_, _≤_, _<_}
+use mathlib.Core.Path.{_≡_, refl, sym}
 use mathlib.Core.List.{List, [], _∷_}
 use native.Mathlib.Omega.{arith}
 use native.Mathlib.Numerals.{add-one}
 use mir.Syntax.{w64}
 use mir.Val.{Fits}
 use lib.ListN.{length, drop, getD, set, length-set, length-drop, drop-of-length-le}
-use lib.Seq.{sets, drop-cons}
+use lib.Seq.{drop-cons}
 use borrow.Author.Tests.{lt-ltb, le-ltb}
 use Rattle.text.specs.Placing.{Placed}
 use Rattle.text.specs.Hexadecimal.{hexDigit, hexOf}
