@@ -4,14 +4,13 @@
  * with status 1 where the two answer differently. */
 #define _POSIX_C_SOURCE 200809L
 
-#include <pthread.h>
 #include <string.h>
 #include <time.h>
 
-#include "../include/meirhuppa.h"
-#include "../second/source/stream.h"
+#include "../tests/library_call.h"
+#include "../tests/painted_stack.h"
 
-enum { ROUNDS = 5, ROUND_NANOSECONDS = 200000, STACK_BYTES = 2 << 20, PAINT = 0xa5 };
+enum { ROUNDS = 5, ROUND_NANOSECONDS = 200000 };
 
 static uint32_t table[MEIRHUPPA_WORDS_PER_UNIT * MEIRHUPPA_MOST_BUDGET];
 static uint8_t output[MEIRHUPPA_MOST_IMAGE];
@@ -19,17 +18,9 @@ static meirhuppa_answer of_library;
 static Answer of_second;
 static Memory *memory;
 
-static void ask_library(const Call *call)
+static void ask_first(const Call *call)
 {
-    size_t words = (size_t)MEIRHUPPA_WORDS_PER_UNIT * call->budget;
-    if (call->job == JOB_RESOLVE)
-        of_library = meirhuppa_resolve(call->image, call->image_length, call->phase, call->budget, table, words);
-    else if (call->job == JOB_EXPAND)
-        of_library = meirhuppa_expand(call->image, call->image_length, call->phase, call->budget, table, words, output, sizeof output);
-    else if (call->job == JOB_PARSE)
-        of_library = meirhuppa_parse(call->image, call->image_length, call->budget, table, words, output, sizeof output);
-    else
-        of_library = meirhuppa_evaluate(call->image, call->image_length, call->budget, table, words, output, sizeof output);
+    of_library = ask_library(call, table, output);
 }
 
 static void ask_second(const Call *call)
@@ -64,25 +55,8 @@ static double time_of(void (*ask)(const Call *), const Call *call)
 
 static void *ask_on_stack(void *call)
 {
-    ask_library(call);
+    ask_first(call);
     return NULL;
-}
-
-/* The stack of one call: a thread's stack is painted first, and what has lost its paint was used. The thread itself uses some of it. */
-static size_t stack_of(Call *call)
-{
-    static _Alignas(4096) uint8_t stack[STACK_BYTES];
-    pthread_attr_t attributes;
-    pthread_t thread;
-    size_t unused = 0;
-    memset(stack, PAINT, sizeof stack);
-    if (pthread_attr_init(&attributes) != 0 || pthread_attr_setstack(&attributes, stack, sizeof stack) != 0 ||
-        pthread_create(&thread, &attributes, ask_on_stack, call) != 0 || pthread_join(thread, NULL) != 0)
-        return 0;
-    pthread_attr_destroy(&attributes);
-    while (unused < sizeof stack && stack[unused] == PAINT)
-        unused++;
-    return sizeof stack - unused;
 }
 
 static bool answers_agree(void)
@@ -101,12 +75,12 @@ int main(void)
             continue;
         call.table_words = MEIRHUPPA_WORDS_PER_UNIT * call.budget;
         call.output_length = sizeof output;
-        double library = time_of(ask_library, &call), second = time_of(ask_second, &call);
+        double library = time_of(ask_first, &call), second = time_of(ask_second, &call);
         if (!answers_agree()) {
             fprintf(stderr, "measure: the two programs answer differently\n");
             return 1;
         }
-        printf("%d %u %u %u %.1f %.1f %zu\n", (int)call.job, call.budget, of_library.code, of_library.units, library, second, stack_of(&call));
+        printf("%d %u %u %u %.1f %.1f %zu\n", (int)call.job, call.budget, of_library.code, of_library.units, library, second, stack_of(ask_on_stack, &call));
     }
     free_memory(memory);
     return 0;

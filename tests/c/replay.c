@@ -10,8 +10,7 @@
 #include <sys/mman.h>
 #include <unistd.h>
 
-#include "../../second/source/stream.h"
-#include "meirhuppa.h"
+#include "../library_call.h"
 
 #define TABLE_FILL 0xa5a5a5a5u
 #define OUTPUT_FILL 0x5a
@@ -32,23 +31,6 @@ static void *fenced(size_t bytes)
         exit(2);
     }
     return start + room;
-}
-
-static meirhuppa_answer ask(const Call *call, uint32_t *table, uint8_t *output)
-{
-    switch (call->job) {
-    case JOB_RESOLVE:
-        return meirhuppa_resolve(call->image, call->image_length, call->phase, call->budget, table, call->table_words);
-    case JOB_EXPAND:
-        return meirhuppa_expand(call->image, call->image_length, call->phase, call->budget, table, call->table_words,
-                                output, call->output_length);
-    case JOB_PARSE:
-        return meirhuppa_parse(call->image, call->image_length, call->budget, table, call->table_words,
-                               output, call->output_length);
-    default:
-        return meirhuppa_evaluate(call->image, call->image_length, call->budget, table, call->table_words,
-                                  output, call->output_length);
-    }
 }
 
 static bool words_are(uint32_t value, const uint32_t *words, size_t count)
@@ -101,7 +83,7 @@ static void answer(Call *call)
     for (size_t i = 0; i < call->table_words; i++)
         table[i] = TABLE_FILL;
     memset(output, OUTPUT_FILL, call->output_length);
-    meirhuppa_answer given = ask(call, table, output);
+    meirhuppa_answer given = ask_library(call, table, output);
     printf("%u %u %u %u %s ", (unsigned)given.code, (unsigned)given.units, (unsigned)given.name, (unsigned)given.length,
            table_column(call, table));
     print_output(output, given.length, call->output_length);

@@ -1,0 +1,25 @@
+/* A call of the stream, made of the library as any C program would, with the sizes that the call has. */
+#ifndef LIBRARY_CALL_H
+#define LIBRARY_CALL_H
+
+#include "../include/meirhuppa.h"
+#include "../second/source/stream.h"
+
+static inline meirhuppa_answer ask_library(const Call *call, uint32_t *table, uint8_t *output)
+{
+    switch (call->job) {
+    case JOB_RESOLVE:
+        return meirhuppa_resolve(call->image, call->image_length, call->phase, call->budget, table, call->table_words);
+    case JOB_EXPAND:
+        return meirhuppa_expand(call->image, call->image_length, call->phase, call->budget, table, call->table_words,
+                                output, call->output_length);
+    case JOB_PARSE:
+        return meirhuppa_parse(call->image, call->image_length, call->budget, table, call->table_words,
+                               output, call->output_length);
+    default:
+        return meirhuppa_evaluate(call->image, call->image_length, call->budget, table, call->table_words,
+                                  output, call->output_length);
+    }
+}
+
+#endif
