@@ -7,7 +7,7 @@ use Rattle.model.specs.Choice.{if_then_else_, given}
 use Rattle.model.specs.Refusals.{unowned, notApplicable, wrongArgument, tooManyEntries}
 use Rattle.model.specs.Objects.{Atom, symbol, number, point, prim, rung, Sets, Stx, atom, list, sameAtom}
 use Rattle.model.specs.Trees.{Tree, var, app, fun, datum, lst, stx, Trees, tnil, tcons, tcount, tsize, substitute, asStx, asAtom, asList, asNumber, fromStxs, toStxs}
-use Rattle.model.specs.Steps.{Step, _>>=_, _>>_, done, refuse, unless, charge, madeTree}
+use Rattle.model.specs.Steps.{Entries, Step, _>>=_, _>>_, done, refuse, unless, charge, madeTree}
 
 -- ---- primitives: the value, or none where an argument is of the wrong kind (11)
 
@@ -130,8 +130,8 @@ evalEntry self (datum a) = done (datum a)
 evalEntry self (lst l) = done (lst l)
 evalEntry self (stx s) = done (stx s)
 
--- evaluate with d entries to spare
-unfoldable pub evaluate : ℕ → Tree → Step Tree
+-- with d entries to spare
+unfoldable pub evaluate : Entries → Tree → Step Tree
 unfolding charge evalEntry
 evaluate zero t = refuse tooManyEntries
 evaluate (suc d) t = do

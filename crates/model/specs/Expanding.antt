@@ -6,11 +6,11 @@ use lib.Dec.{eqb, leb}
 use Rattle.model.specs.Choice.{if_then_else_}
 use Rattle.model.specs.Limits.{lastPhase}
 use Rattle.model.specs.Refusals.{noMeaning, noRule, noSyntax, noPhase, tooManyEntries}
-use Rattle.model.specs.Scopes.{Scopes, add}
-use Rattle.model.specs.Objects.{Atom, symbol, number, point, prim, rung, Sets, setAt, changeAt, Stx, atom, list, Stxs, nil, cons, size}
+use Rattle.model.specs.Scopes.{Scope, Scopes, noScopes, add}
+use Rattle.model.specs.Objects.{Name, Symbol, Phase, Atom, symbol, number, point, prim, rung, Sets, setAt, changeAt, Stx, atom, list, Stxs, nil, cons, size}
 use Rattle.model.specs.Trees.{Tree, var, app, fun, datum, lst, stx, Trees, tnil, tcons, asStx}
 use Rattle.model.specs.Resolving.{Bind}
-use Rattle.model.specs.Steps.{Step, _>>=_, _>>_, done, refuse, unless, charge, made, addTo, flipIn, pruneFrom, freshName, freshScope, bind, resolveAt, parts1, parts2, parts3, identifier}
+use Rattle.model.specs.Steps.{Entries, Step, _>>=_, _>>_, done, refuse, unless, charge, made, addTo, flipIn, pruneFrom, freshName, freshScope, bind, resolveAt, parts1, parts2, parts3, identifier}
 use Rattle.model.specs.Evaluating.{evaluate}
 use Rattle.model.specs.Parsing.{Form, lambda, letSyntax, quote, syntax, formOf, parse}
 
@@ -18,26 +18,26 @@ use Rattle.model.specs.Parsing.{Form, lambda, letSyntax, quote, syntax, 
 
 pub data Meaning : Type 0 where
   core : Form → Meaning
-  variable : Sets → ℕ → Meaning
+  variable : Sets → Symbol → Meaning
   macro : Tree → Meaning
   unknown : Meaning
 
 -- meanings beyond the core, the last first
 pub data Env : Type 0 where
   coreOnly : Env
-  extend : ℕ → Meaning → Env → Env
+  extend : Name → Meaning → Env → Env
 
 unfoldable pub coreMeaning : Option Form → Meaning
 coreMeaning none = unknown
 coreMeaning (some f) = core f
 
-unfoldable pub meaning : ℕ → Env → Meaning
+unfoldable pub meaning : Name → Env → Meaning
 unfolding coreMeaning formOf
 meaning n coreOnly = coreMeaning (formOf n)
 meaning n (extend k m e) = if eqb n k then m else meaning n e
 
 -- what the head of a list means: `unknown` where it is no identifier
-unfoldable pub headMeaning : ℕ → Env → Stx → Step Meaning
+unfoldable pub headMeaning : Phase → Env → Stx → Step Meaning
 unfolding resolveAt meaning
 headMeaning ph e (atom c (symbol x)) = do
   n ← resolveAt ph c x
@@ -58,12 +58,12 @@ expandName unknown = refuse noMeaning
 -- ---- binders
 
 pub record Binder : Type 0 where
-  pub name : ℕ
-  pub scope : ℕ
+  pub name : Name
+  pub scope : Scope
   pub sets : Sets
 
 -- a fresh name and scope for the binder with sets c and symbol x; the scope is added, at a charge of 1, and bound
-unfoldable pub bindFresh : ℕ → Sets → ℕ → Step Binder
+unfoldable pub bindFresh : Phase → Sets → Symbol → Step Binder
 unfolding freshName freshScope charge changeAt add bind setAt
 bindFresh ph c x = do
   n ← freshName
@@ -75,7 +75,7 @@ bindFresh ph c x = do
 -- ---- forms. `self ph e p` expands at a phase, with meanings and a prunable set, as a further entry.
 
 abbrev pub Expander : Type 0
-Expander = ℕ → Env → Scopes → Stx → Step Stx
+Expander = Phase → Env → Scopes → Stx → Step Stx
 
 unfoldable pub expandAll : (Stx → Step Stx) → Stxs → Step Stxs
 expandAll self nil = done nil
@@ -84,14 +84,14 @@ expandAll self (cons s l) = do
   r ← expandAll self l
   done (cons t r)
 
-unfoldable pub expandApplication : Expander → ℕ → Env → Scopes → Sets → Stxs → Step Stx
+unfoldable pub expandApplication : Expander → Phase → Env → Scopes → Sets → Stxs → Step Stx
 unfolding expandAll made
 expandApplication self ph e p c l = do
   r ← expandAll (self ph e p) l
   made (list c r)
 
 -- (lambda id body) with sets c and head h, where id has sets ci and symbol x
-unfoldable pub expandFunction : Expander → ℕ → Env → Scopes → Sets → Stx → Sets → ℕ → Stx → Step Stx
+unfoldable pub expandFunction : Expander → Phase → Env → Scopes → Sets → Stx → Sets → Symbol → Stx → Step Stx
 unfolding bindFresh addTo made add
 expandFunction self ph e p c h ci x body = do
   b ← bindFresh ph ci x
@@ -99,29 +99,29 @@ expandFunction self ph e p c h ci x body = do
   out ← self ph (extend (b .name) (variable (b .sets) x) e) (add (b .scope) p) in-scope
   made (list c (cons h (cons (atom (b .sets) (symbol x)) (cons out nil))))
 
-unfoldable pub expandLambda : Expander → ℕ → Env → Scopes → Sets → Stx → Stxs → Step Stx
+unfoldable pub expandLambda : Expander → Phase → Env → Scopes → Sets → Stx → Stxs → Step Stx
 unfolding parts2 identifier expandFunction
 expandLambda self ph e p c h l = parts2 l (λ i body. identifier i (λ ci x. expandFunction self ph e p c h ci x body))
 
-unfoldable pub expandSyntax : ℕ → Scopes → Sets → Stx → Stxs → Step Stx
+unfoldable pub expandSyntax : Phase → Scopes → Sets → Stx → Stxs → Step Stx
 unfolding parts1 pruneFrom
 expandSyntax ph p c h l = parts1 l (λ s. do
   t ← pruneFrom p ph s
   done (list c (cons h (cons t nil))))
 
 -- (let-syntax id rhs body), where id has sets ci and symbol x; d: entries to spare for the right-hand side
-unfoldable pub expandBinding : Expander → ℕ → ℕ → Env → Scopes → Sets → ℕ → Stx → Stx → Step Stx
+unfoldable pub expandBinding : Expander → Entries → Phase → Env → Scopes → Sets → Symbol → Stx → Stx → Step Stx
 unfolding bindFresh addTo add parse evaluate lastPhase
 expandBinding self d ph e p ci x rhs body = do
   b ← bindFresh ph ci x
   unless noPhase (leb (ph + 1) lastPhase)
-  r ← self (ph + 1) coreOnly 0 rhs
+  r ← self (ph + 1) coreOnly noScopes rhs
   t ← parse d (ph + 1) r
   v ← evaluate d t
   in-scope ← addTo (b .scope) ph body
   self ph (extend (b .name) (macro v) e) (add (b .scope) p) in-scope
 
-unfoldable pub expandLetSyntax : Expander → ℕ → ℕ → Env → Scopes → Stxs → Step Stx
+unfoldable pub expandLetSyntax : Expander → Entries → Phase → Env → Scopes → Stxs → Step Stx
 unfolding parts3 identifier expandBinding
 expandLetSyntax self d ph e p l = parts3 l (λ i rhs body. identifier i (λ ci x. expandBinding self d ph e p ci x rhs body))
 
@@ -129,7 +129,7 @@ unfoldable pub orNoSyntax : Option Stx → Step Stx
 orNoSyntax none = refuse noSyntax
 orNoSyntax (some s) = done s
 
-unfoldable pub expandMacro : Expander → ℕ → ℕ → Env → Scopes → Tree → Stx → Step Stx
+unfoldable pub expandMacro : Expander → Entries → Phase → Env → Scopes → Tree → Stx → Step Stx
 unfolding freshScope addTo flipIn evaluate asStx orNoSyntax add
 expandMacro self d ph e p v form = do
   use-scope ← freshScope
@@ -142,7 +142,7 @@ expandMacro self d ph e p v form = do
   self ph e (add use-scope p) back
 
 -- the list with sets c of head h and tail l, by the head's meaning
-unfoldable pub expandForm : Expander → ℕ → ℕ → Env → Scopes → Sets → Stx → Stxs → Meaning → Step Stx
+unfoldable pub expandForm : Expander → Entries → Phase → Env → Scopes → Sets → Stx → Stxs → Meaning → Step Stx
 unfolding expandLambda expandLetSyntax expandSyntax expandMacro expandApplication parts1
 expandForm self d ph e p c h l (core lambda) = expandLambda self ph e p c h l
 expandForm self d ph e p c h l (core letSyntax) = expandLetSyntax self d ph e p l
@@ -152,7 +152,7 @@ expandForm self d ph e p c h l (variable b x) = expandApplication self ph e p c 
 expandForm self d ph e p c h l (macro v) = expandMacro self d ph e p v (list c (cons h l))
 expandForm self d ph e p c h l unknown = expandApplication self ph e p c (cons h l)
 
-unfoldable pub expandEntry : Expander → ℕ → ℕ → Env → Scopes → Stx → Step Stx
+unfoldable pub expandEntry : Expander → Entries → Phase → Env → Scopes → Stx → Step Stx
 unfolding resolveAt meaning expandName headMeaning expandForm
 expandEntry self d ph e p (atom c (symbol x)) = do
   n ← resolveAt ph c x
@@ -167,7 +167,7 @@ expandEntry self d ph e p (list c (cons h l)) = do
   expandForm self d ph e p c h l m
 
 -- expand with d entries to spare
-unfoldable pub expand : ℕ → ℕ → Env → Scopes → Stx → Step Stx
+unfoldable pub expand : Entries → Phase → Env → Scopes → Stx → Step Stx
 unfolding charge expandEntry
 expand zero ph e p s = refuse tooManyEntries
 expand (suc d) ph e p s = do

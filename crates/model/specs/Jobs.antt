@@ -8,11 +8,12 @@ use lib.ListN.{length, drop, replicate}
 use Rattle.model.specs.Choice.{if_then_else_}
 use Rattle.model.specs.Limits.{mostEntries, mostBudget, mostImage, lastPhase, wordsPerUnit, programBudget}
 use Rattle.model.specs.Refusals.{Refusal, unowned, smallTable, noPhase, tooLong, codeOf}
-use Rattle.model.specs.Objects.{Stx, size}
+use Rattle.model.specs.Scopes.{noScopes}
+use Rattle.model.specs.Objects.{Name, Phase, Stx, size}
 use Rattle.model.specs.Trees.{Tree, var, app, fun, datum, lst, stx, Trees, tnil, tcons, loadSize}
 use Rattle.model.specs.Reading.{Read, got, fault, Head, Image, readSyntax, readTreeImage, readImage}
 use Rattle.model.specs.Writing.{syntaxBytes, treeImageBytes}
-use Rattle.model.specs.Steps.{State, Out, ok, no, Step, _>>=_, _>>_, done, charge, resolveAt, identifier}
+use Rattle.model.specs.Steps.{Units, State, Out, ok, no, Step, _>>=_, _>>_, done, charge, resolveAt, identifier}
 use Rattle.model.specs.Evaluating.{evaluate}
 use Rattle.model.specs.Parsing.{parse}
 use Rattle.model.specs.Expanding.{expand, coreOnly}
@@ -20,18 +21,18 @@ use Rattle.model.specs.Expanding.{expand, coreOnly}
 -- ---- how a job ends, each after so many units
 
 pub data Ending : Type 0 where
-  refused : Refusal → ℕ → Ending
+  refused : Refusal → Units → Ending
   -- resolve: the name
-  named : ℕ → ℕ → Ending
+  named : Name → Units → Ending
   -- the others: the written image
-  written : List ℕ → ℕ → Ending
+  written : List ℕ → Units → Ending
 
 -- ---- what comes back: each answer has code, units, name and length
 
 pub record Answer : Type 0 where
   pub code : ℕ
-  pub units : ℕ
-  pub name : ℕ
+  pub units : Units
+  pub name : Name
   pub len : ℕ
 
 unfoldable pub answerOf : Ending → Answer
@@ -47,7 +48,7 @@ outputAfter (named n u) output = output
 outputAfter (written b u) output = b ++ drop (length b) output
 
 -- the words that the budget wants are zero and the rest untouched
-unfoldable pub cleared : ℕ → List ℕ → List ℕ
+unfoldable pub cleared : Units → List ℕ → List ℕ
 unfolding wordsPerUnit
 cleared budget table = replicate (wordsPerUnit * budget) 0 ++ drop (wordsPerUnit * budget) table
 
@@ -59,11 +60,11 @@ pub record Result : Type 0 where
 
 -- ---- The steps of a job, in this order. 1: code 5 comes before all else and leaves the table untouched; after all else the table is cleared
 
-unfoldable pub budgetFits : ℕ → ℕ → Bool
+unfoldable pub budgetFits : Units → ℕ → Bool
 unfolding mostBudget wordsPerUnit
 budgetFits budget words = leb budget mostBudget && leb (wordsPerUnit * budget) words
 
-unfoldable pub lent : ℕ → List ℕ → List ℕ → Ending → Result
+unfoldable pub lent : Units → List ℕ → List ℕ → Ending → Result
 unfolding budgetFits answerOf outputAfter cleared
 lent budget table output e =
     if budgetFits budget (length table)
@@ -72,7 +73,7 @@ lent budget table output e =
 
 -- ---- 2: the phase argument (12). 3: an image that is too long (2), and then from its front (1, 2, 4), with no units charged
 
-unfoldable pub atPhase : ℕ → Ending → Ending
+unfoldable pub atPhase : Phase → Ending → Ending
 unfolding lastPhase
 atPhase ph e = if leb ph lastPhase then e else refused noPhase 0
 
@@ -80,17 +81,17 @@ unfoldable pub withImage : {R : Type 0} → Read (Image R) → (Image R → Endi
 withImage (got i s) f = f i
 withImage (fault r) f = refused r 0
 
-unfoldable pub start : ℕ → {R : Type 0} → Image R → State
+unfoldable pub start : Units → {R : Type 0} → Image R → State
 start budget i = record { left = budget; names = i .head .names; scopes = i .head .scopes; binds = i .binds }
 
 -- the work's result and last state, or its refusal with the units charged before it
-unfoldable pub worked : {A : Type 0} → ℕ → Out A → (A → State → Ending) → Ending
+unfoldable pub worked : {A : Type 0} → Units → Out A → (A → State → Ending) → Ending
 worked budget (ok a s) f = f a s
 worked budget (no r left) f = refused r (budget - left)
 
 -- ---- 7, the last: the result's length (20), for an output of `room` bytes
 
-unfoldable pub fitted : ℕ → List ℕ → ℕ → Ending
+unfoldable pub fitted : ℕ → List ℕ → Units → Ending
 unfolding mostImage
 fitted room b u = if leb (length b) room && leb (length b) mostImage then written b u else refused tooLong u
 
@@ -100,17 +101,17 @@ reached h s = record { words = h .words; names = s .names; scopes = s .scopes }
 
 -- ---- 5: the charge for loading (19). 6: the work of each job by its rules
 
-unfoldable pub resolveRoot : ℕ → Stx → Step ℕ
+unfoldable pub resolveRoot : Phase → Stx → Step Name
 unfolding charge size identifier resolveAt
 resolveRoot ph x = do
   charge (size x)
   identifier x (λ c n. resolveAt ph c n)
 
-unfoldable pub expandRoot : ℕ → Stx → Step Stx
+unfoldable pub expandRoot : Phase → Stx → Step Stx
 unfolding charge size expand mostEntries
 expandRoot ph x = do
   charge (size x)
-  expand mostEntries ph coreOnly 0 x
+  expand mostEntries ph coreOnly noScopes x
 
 unfoldable pub parseRoot : Stx → Step Tree
 unfolding charge size parse mostEntries
@@ -126,14 +127,14 @@ evaluateRoot t = do
 
 -- ---- 4: code 3: every variable, outside syntax values, has an enclosing function of its name; `around` has the names of those
 
-unfoldable pub isAmong : ℕ → List ℕ → Bool
+unfoldable pub isAmong : Name → List Name → Bool
 isAmong n [] = false
 isAmong n (m ∷ l) = eqb n m || isAmong n l
 
 unfoldable mutual
   unfolding isAmong
 
-  pub closed : List ℕ → Tree → Bool
+  pub closed : List Name → Tree → Bool
   closed around (var n) = isAmong n around
   closed around (app h l) = closed around h && closedAll around l
   closed around (fun n b) = closed (n ∷ around) b
@@ -141,33 +142,33 @@ unfoldable mutual
   closed around (lst l) = closedAll around l
   closed around (stx s) = true
 
-  pub closedAll : List ℕ → Trees → Bool
+  pub closedAll : List Name → Trees → Bool
   closedAll around tnil = true
   closedAll around (tcons t l) = closed around t && closedAll around l
 
 -- ---- how each job ends, of the image's bytes, the phase, the budget and the output's length
 
-unfoldable pub resolveEnding : List ℕ → ℕ → ℕ → Ending
+unfoldable pub resolveEnding : List ℕ → Phase → Units → Ending
 unfolding atPhase withImage readImage readSyntax worked start resolveRoot
 resolveEnding image ph budget =
     atPhase ph (withImage (readImage readSyntax image) (λ i.
     worked budget (resolveRoot ph (i .root) (start budget i)) (λ n s. named n (budget - s .left))))
 
-unfoldable pub expandEnding : List ℕ → ℕ → ℕ → ℕ → Ending
+unfoldable pub expandEnding : List ℕ → Phase → Units → ℕ → Ending
 unfolding atPhase withImage readImage readSyntax worked start expandRoot fitted syntaxBytes reached
 expandEnding image ph budget room =
     atPhase ph (withImage (readImage readSyntax image) (λ i.
     worked budget (expandRoot ph (i .root) (start budget i)) (λ r s.
     fitted room (syntaxBytes (reached (i .head) s) (s .binds) r) (budget - s .left))))
 
-unfoldable pub parseEnding : List ℕ → ℕ → ℕ → Ending
+unfoldable pub parseEnding : List ℕ → Units → ℕ → Ending
 unfolding withImage readImage readSyntax worked start parseRoot fitted treeImageBytes reached
 parseEnding image budget room =
     withImage (readImage readSyntax image) (λ i.
     worked budget (parseRoot (i .root) (start budget i)) (λ r s.
     fitted room (treeImageBytes (reached (i .head) s) r) (budget - s .left)))
 
-unfoldable pub evaluateEnding : List ℕ → ℕ → ℕ → Ending
+unfoldable pub evaluateEnding : List ℕ → Units → ℕ → Ending
 unfolding withImage readImage readTreeImage worked start evaluateRoot fitted treeImageBytes reached closed
 evaluateEnding image budget room =
     withImage (readImage readTreeImage image) (λ i.
@@ -179,19 +180,19 @@ evaluateEnding image budget room =
 -- ---- the four jobs, of what is lent: image, phase, budget, the table's contents and the output's contents
 
 -- resolve writes nothing
-unfoldable pub resolveJob : List ℕ → ℕ → ℕ → List ℕ → Result
+unfoldable pub resolveJob : List ℕ → Phase → Units → List ℕ → Result
 unfolding lent resolveEnding
 resolveJob image ph budget table = lent budget table [] (resolveEnding image ph budget)
 
-unfoldable pub expandJob : List ℕ → ℕ → ℕ → List ℕ → List ℕ → Result
+unfoldable pub expandJob : List ℕ → Phase → Units → List ℕ → List ℕ → Result
 unfolding lent expandEnding
 expandJob image ph budget table output = lent budget table output (expandEnding image ph budget (length output))
 
-unfoldable pub parseJob : List ℕ → ℕ → List ℕ → List ℕ → Result
+unfoldable pub parseJob : List ℕ → Units → List ℕ → List ℕ → Result
 unfolding lent parseEnding
 parseJob image budget table output = lent budget table output (parseEnding image budget (length output))
 
-unfoldable pub evaluateJob : List ℕ → ℕ → List ℕ → List ℕ → Result
+unfoldable pub evaluateJob : List ℕ → Units → List ℕ → List ℕ → Result
 unfolding lent evaluateEnding
 evaluateJob image budget table output = lent budget table output (evaluateEnding image budget (length output))
 
@@ -199,9 +200,9 @@ evaluateJob image budget table output = lent budget table output (evaluateEnding
 
 pub record Line : Type 0 where
   pub code : ℕ
-  pub units : ℕ
+  pub units : Units
 
-unfoldable pub lineOf : ℕ → Ending → Line
+unfoldable pub lineOf : Units → Ending → Line
 unfolding codeOf
 lineOf before (refused r u) = record { code = codeOf r; units = before + u }
 lineOf before (named n u) = record { code = 0; units = before + u }

@@ -3,11 +3,22 @@
 use Prim.Native.Nat.{ℕ, zero, suc, _+_, max}
 use mathlib.Core.Bool.{Bool, true, false, _&&_}
 use lib.Dec.{eqb}
-use Rattle.model.specs.Scopes.{Scopes, add, flip, prune}
+use Rattle.model.specs.Scopes.{Scope, Scopes, noScopes, add, flip, prune}
+
+-- names 0 to 3 are the core forms'; then come the image's words, then made names. Symbols are numbered as names 0 to 3 and words
+abbrev pub Name : Type 0
+Name = ℕ
+
+abbrev pub Symbol : Type 0
+Symbol = ℕ
+
+abbrev pub Phase : Type 0
+Phase = ℕ
 
 -- number 0 to 4,294,967,295; point 0 to 1023, a terminal of the panel; primitive 0 to 6; rung word 0 to 15
 pub data Atom : Type 0 where
-  symbol number point prim rung : ℕ → Atom
+  symbol : Symbol → Atom
+  number point prim rung : ℕ → Atom
   deriving Discrete as Atom-discrete
   deriving IsSet as Atom-set
 
@@ -38,15 +49,15 @@ pub record Sets : Type 0 where
   pub at2 : Scopes
 
 unfoldable pub noSets : Sets
-noSets = record { at0 = 0; at1 = 0; at2 = 0 }
+noSets = record { at0 = noScopes; at1 = noScopes; at2 = noScopes }
 
 -- 2 is the last phase: a larger one is refused with 12 before it is asked for
-unfoldable pub setAt : ℕ → Sets → Scopes
+unfoldable pub setAt : Phase → Sets → Scopes
 setAt zero c = c .at0
 setAt (suc zero) c = c .at1
 setAt (suc (suc p)) c = c .at2
 
-unfoldable pub changeAt : (Scopes → Scopes) → ℕ → Sets → Sets
+unfoldable pub changeAt : (Scopes → Scopes) → Phase → Sets → Sets
 changeAt f zero c = record { at0 = f (c .at0); at1 = c .at1; at2 = c .at2 }
 changeAt f (suc zero) c = record { at0 = c .at0; at1 = f (c .at1); at2 = c .at2 }
 changeAt f (suc (suc p)) c = record { at0 = c .at0; at1 = c .at1; at2 = f (c .at2) }
@@ -96,14 +107,14 @@ unfoldable mutual
   onSetsAll f nil = nil
   onSetsAll f (cons s l) = cons (onSets f s) (onSetsAll f l)
 
-unfoldable pub addScope : ℕ → ℕ → Stx → Stx
+unfoldable pub addScope : Scope → Phase → Stx → Stx
 unfolding onSets changeAt add
 addScope k ph s = onSets (changeAt (add k) ph) s
 
-unfoldable pub flipScope : ℕ → ℕ → Stx → Stx
+unfoldable pub flipScope : Scope → Phase → Stx → Stx
 unfolding onSets changeAt flip
 flipScope k ph s = onSets (changeAt (flip k) ph) s
 
-unfoldable pub pruneScopes : Scopes → ℕ → Stx → Stx
+unfoldable pub pruneScopes : Scopes → Phase → Stx → Stx
 unfolding onSets changeAt prune
 pruneScopes p ph s = onSets (changeAt (prune p) ph) s

@@ -2,15 +2,15 @@
 use Prim.Native.Nat.{ℕ, zero, suc}
 use mathlib.Core.Option.{Option, none, some}
 use Rattle.model.specs.Refusals.{noRule, tooManyEntries}
-use Rattle.model.specs.Objects.{Atom, symbol, number, point, prim, rung, Sets, Stx, atom, list, Stxs, nil, cons, size}
+use Rattle.model.specs.Objects.{Name, Phase, Atom, symbol, number, point, prim, rung, Sets, Stx, atom, list, Stxs, nil, cons, size}
 use Rattle.model.specs.Trees.{Tree, var, app, fun, datum, lst, stx, Trees, tnil, tcons, strip}
-use Rattle.model.specs.Steps.{Step, _>>=_, _>>_, done, refuse, unless, charge, resolveAt, parts1, parts2, identifier}
+use Rattle.model.specs.Steps.{Entries, Step, _>>=_, _>>_, done, refuse, unless, charge, resolveAt, parts1, parts2, identifier}
 
 -- the core forms are names 0 to 3; any other name heads none
 pub data Form : Type 0 where
   lambda letSyntax quote syntax : Form
 
-unfoldable pub formOf : ℕ → Option Form
+unfoldable pub formOf : Name → Option Form
 formOf zero = some lambda
 formOf (suc zero) = some letSyntax
 formOf (suc (suc zero)) = some quote
@@ -18,7 +18,7 @@ formOf (suc (suc (suc zero))) = some syntax
 formOf (suc (suc (suc (suc n)))) = none
 
 -- the form that head h makes
-unfoldable pub headForm : ℕ → Stx → Step (Option Form)
+unfoldable pub headForm : Phase → Stx → Step (Option Form)
 unfolding resolveAt formOf
 headForm ph (atom c (symbol x)) = do
   n ← resolveAt ph c x
@@ -37,7 +37,7 @@ parseAll self (cons s l) = do
   done (tcons t r)
 
 -- the list of head h and tail l, whose head makes the form
-unfoldable pub parseForm : (Stx → Step Tree) → ℕ → Option Form → Stx → Stxs → Step Tree
+unfoldable pub parseForm : (Stx → Step Tree) → Phase → Option Form → Stx → Stxs → Step Tree
 unfolding parts1 parts2 identifier resolveAt charge size strip parseAll
 parseForm self ph (some lambda) h l = parts2 l (λ i body. identifier i (λ c x. do
   n ← resolveAt ph c x
@@ -55,7 +55,7 @@ parseForm self ph none h l = do
 
 -- one entry. A tree is never nested deeper than the object that it is parsed from, so nothing is tested for 17: `parse-keeps-limits`
 -- (`addresses/proofs/ParseLimits`).
-unfoldable pub parseEntry : (Stx → Step Tree) → ℕ → Stx → Step Tree
+unfoldable pub parseEntry : (Stx → Step Tree) → Phase → Stx → Step Tree
 unfolding resolveAt headForm parseForm
 parseEntry self ph (atom c (symbol x)) = do
   n ← resolveAt ph c x
@@ -70,7 +70,7 @@ parseEntry self ph (list c (cons h l)) = do
   parseForm self ph f h l
 
 -- parse at a phase with d entries to spare
-unfoldable pub parse : ℕ → ℕ → Stx → Step Tree
+unfoldable pub parse : Entries → Phase → Stx → Step Tree
 unfolding charge parseEntry
 parse zero ph s = refuse tooManyEntries
 parse (suc d) ph s = do

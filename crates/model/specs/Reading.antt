@@ -8,7 +8,7 @@ use lib.ListN.{length}
 use Rattle.model.specs.Choice.{if_then_else_}
 use Rattle.model.specs.Limits.{mostScopes, mostNames, coreNames, mostBindings, mostNesting, mostWordLength, mostImage, lastPoint, lastPrimitive, lastRungWord}
 use Rattle.model.specs.Refusals.{Refusal, layout, overLimit, wrongKind}
-use Rattle.model.specs.Scopes.{Scopes, add}
+use Rattle.model.specs.Scopes.{Scope, Scopes, noScopes, add}
 use Rattle.model.specs.Objects.{Atom, symbol, number, point, prim, rung, Sets, Stx, atom, list, Stxs, nil, cons}
 use Rattle.model.specs.Trees.{Tree, var, app, fun, datum, lst, stx, Trees, tnil, tcons}
 use Rattle.model.specs.Resolving.{Bind, bindBefore}
@@ -179,7 +179,7 @@ readHead kind = do
 -- ---- sets
 
 -- c more members, above p and at most n, joined to m
-unfoldable pub readMembers : ℕ → ℕ → ℕ → Scopes → Reader Scopes
+unfoldable pub readMembers : ℕ → ℕ → Scope → Scopes → Reader Scopes
 unfolding num add
 readMembers zero n p m = give m
 readMembers (suc c) n p m = do
@@ -191,7 +191,7 @@ unfoldable pub readSet : ℕ → Reader Scopes
 unfolding num readMembers
 readSet n = do
   c ← num
-  readMembers c n 0 0
+  readMembers c n 0 noScopes
 
 unfoldable pub readSets : ℕ → Reader Sets
 unfolding readSet

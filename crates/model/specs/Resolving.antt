@@ -1,14 +1,14 @@
 -- Document 01, 'Resolving': bindings, their order, and what an identifier's name is.
-use Prim.Native.Nat.{ℕ, zero, suc}
 use mathlib.Core.Bool.{Bool, true, false, _&&_}
 use mathlib.Core.List.{List, [], _∷_}
 use lib.Dec.{eqb, ltb}
 use Rattle.model.specs.Choice.{if_then_else_}
 use Rattle.model.specs.Scopes.{Scopes, within, lessThen, setBefore}
+use Rattle.model.specs.Objects.{Name, Symbol}
 
 pub record Bind : Type 0 where
-  pub symb : ℕ
-  pub target : ℕ
+  pub symb : Symbol
+  pub target : Name
   pub set : Scopes
 
 -- ascending by symbol and then set
@@ -25,15 +25,15 @@ insert b (c ∷ l) = if bindBefore b c then b ∷ c ∷ l else c ∷ insert b l
 -- ---- resolving: a name, or several candidates none of which contains every other
 
 pub data Found : Type 0 where
-  means : ℕ → Found
+  means : Name → Found
   several : Found
 
 -- the candidates for symbol x with set s: the bindings of x whose set is contained in s
-unfoldable pub candidate : ℕ → Scopes → Bind → Bool
+unfoldable pub candidate : Symbol → Scopes → Bind → Bool
 unfolding within
 candidate x s b = eqb (b .symb) x && within (b .set) s
 
-unfoldable pub candidates : ℕ → Scopes → List Bind → List Bind
+unfoldable pub candidates : Symbol → Scopes → List Bind → List Bind
 unfolding candidate
 candidates x s [] = []
 candidates x s (b ∷ l) = if candidate x s b then b ∷ candidates x s l else candidates x s l
@@ -51,11 +51,11 @@ largest [] all = several
 largest (b ∷ l) all = if over b all then means (b .target) else largest l all
 
 -- no candidate: the name is the symbol itself
-unfoldable pub choose : ℕ → List Bind → Found
+unfoldable pub choose : Symbol → List Bind → Found
 unfolding largest
 choose x [] = means x
 choose x (b ∷ l) = largest (b ∷ l) (b ∷ l)
 
-unfoldable pub resolve : ℕ → Scopes → List Bind → Found
+unfoldable pub resolve : Symbol → Scopes → List Bind → Found
 unfolding choose candidates
 resolve x s bs = choose x (candidates x s bs)

@@ -8,15 +8,22 @@ use lib.ListN.{length}
 use Rattle.model.specs.Choice.{if_then_else_}
 use Rattle.model.specs.Limits.{mostNames, mostScopes, mostBindings, mostNesting}
 use Rattle.model.specs.Refusals.{Refusal, ambiguous, noRule, noNameLeft, noScopeLeft, noBindingLeft, tooDeep, overBudget}
-use Rattle.model.specs.Scopes.{Scopes, add, flip, prune}
-use Rattle.model.specs.Objects.{Sets, setAt, changeAt, Atom, symbol, Stx, atom, list, Stxs, nil, cons, size, nesting, addScope, flipScope, pruneScopes}
+use Rattle.model.specs.Scopes.{Scope, Scopes, add, flip, prune}
+use Rattle.model.specs.Objects.{Name, Symbol, Phase, Sets, setAt, changeAt, Atom, symbol, Stx, atom, list, Stxs, nil, cons, size, nesting, addScope, flipScope, pruneScopes}
 use Rattle.model.specs.Trees.{Tree, tnesting}
 use Rattle.model.specs.Resolving.{Bind, insert, Found, means, several, resolve}
+
+abbrev pub Units : Type 0
+Units = ℕ
+
+-- entries to spare
+abbrev pub Entries : Type 0
+Entries = ℕ
 
 -- units not yet charged; names and scopes reached: the next name is `names`, the next scope is `scopes + 1`; the bindings,
 -- ascending
 pub record State : Type 0 where
-  pub left : ℕ
+  pub left : Units
   pub names : ℕ
   pub scopes : ℕ
   pub binds : List Bind
@@ -24,7 +31,7 @@ pub record State : Type 0 where
 -- a value and the new state, or a refusal and the units not charged
 pub data Out (A : Type 0) : Type 0 where
   ok : A → State → Out A
-  no : Refusal → ℕ → Out A
+  no : Refusal → Units → Out A
 
 abbrev pub Step : Type 0 → Type 0
 Step A = State → Out A
@@ -54,7 +61,7 @@ unless c false = refuse c
 
 -- ---- units
 
-unfoldable pub charge : ℕ → Step (Unit {0})
+unfoldable pub charge : Units → Step (Unit {0})
 charge n = λ s.
     if leb n (s .left)
     then ok tt (record { left = s .left - n; names = s .names; scopes = s .scopes; binds = s .binds })
@@ -77,19 +84,19 @@ madeTree t = do
 -- ---- scopes of a piece at a phase. A change of sets changes no nesting, so it needs no test for 17: `addScope-nesting`, `flipScope-nesting` and
 -- `pruneScopes-nesting` (`addresses/proofs/Fitting`).
 
-unfoldable pub addTo : ℕ → ℕ → Stx → Step Stx
+unfoldable pub addTo : Scope → Phase → Stx → Step Stx
 unfolding charge size addScope
 addTo k ph x = do
   charge (size x)
   done (addScope k ph x)
 
-unfoldable pub flipIn : ℕ → ℕ → Stx → Step Stx
+unfoldable pub flipIn : Scope → Phase → Stx → Step Stx
 unfolding charge size flipScope
 flipIn k ph x = do
   charge (size x)
   done (flipScope k ph x)
 
-unfoldable pub pruneFrom : Scopes → ℕ → Stx → Step Stx
+unfoldable pub pruneFrom : Scopes → Phase → Stx → Step Stx
 unfolding charge size pruneScopes
 pruneFrom p ph x = do
   charge (size x)
@@ -97,14 +104,14 @@ pruneFrom p ph x = do
 
 -- ---- the next name and the next scope
 
-unfoldable pub freshName : Step ℕ
+unfoldable pub freshName : Step Name
 unfolding mostNames
 freshName = λ s.
     if ltb (s .names) mostNames
     then ok (s .names) (record { left = s .left; names = s .names + 1; scopes = s .scopes; binds = s .binds })
     else no noNameLeft (s .left)
 
-unfoldable pub freshScope : Step ℕ
+unfoldable pub freshScope : Step Scope
 unfolding mostScopes
 freshScope = λ s.
     if ltb (s .scopes) mostScopes
@@ -121,12 +128,12 @@ bind b = λ s.
     then ok tt (record { left = s .left; names = s .names; scopes = s .scopes; binds = insert b (s .binds) })
     else no noBindingLeft (s .left)
 
-unfoldable pub nameOf : Found → Step ℕ
+unfoldable pub nameOf : Found → Step Name
 nameOf (means n) = done n
 nameOf several = refuse ambiguous
 
 -- the name of the identifier with symbol x and sets c
-unfoldable pub resolveAt : ℕ → Sets → ℕ → Step ℕ
+unfoldable pub resolveAt : Phase → Sets → Symbol → Step Name
 unfolding nameOf resolve setAt
 resolveAt ph c x = λ s. nameOf (resolve x (setAt ph c) (s .binds)) s
 
@@ -150,7 +157,7 @@ parts3 (cons a (cons b nil)) f = refuse noRule
 parts3 (cons a (cons b (cons c nil))) f = f a b c
 parts3 (cons a (cons b (cons c (cons d l)))) f = refuse noRule
 
-unfoldable pub identifier : {A : Type 0} → Stx → (Sets → ℕ → Step A) → Step A
+unfoldable pub identifier : {A : Type 0} → Stx → (Sets → Symbol → Step A) → Step A
 identifier (atom c (symbol x)) f = f c x
 identifier (atom c (Atom.number x)) f = refuse noRule
 identifier (atom c (Atom.point x)) f = refuse noRule

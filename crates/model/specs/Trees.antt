@@ -5,16 +5,16 @@ use mathlib.Core.Bool.{Bool, true, false}
 use mathlib.Core.Option.{Option, none, some}
 use lib.Dec.{eqb}
 use Rattle.model.specs.Choice.{if_then_else_, given}
-use Rattle.model.specs.Objects.{Atom, symbol, number, point, prim, rung, Stx, atom, list, Stxs, nil, cons, size, nesting}
+use Rattle.model.specs.Objects.{Name, Atom, symbol, number, point, prim, rung, Stx, atom, list, Stxs, nil, cons, size, nesting}
 
 -- A tree is a variable, an application (of a head and arguments), a function (its name and body), or a value. A value is a
 -- function, an atom, a list of values, or a syntax object.
 
 mutual
   pub data Tree : Type 0 where
-    var : ℕ → Tree
+    var : Name → Tree
     app : Tree → Trees → Tree
-    fun : ℕ → Tree → Tree
+    fun : Name → Tree → Tree
     datum : Atom → Tree
     lst : Trees → Tree
     stx : Stx → Tree
@@ -69,7 +69,7 @@ unfoldable mutual
 
 -- ---- substitute v for the variable n, also inside list values, but not in syntax values nor in a function of the same name
 unfoldable mutual
-  pub substitute : ℕ → Tree → Tree → Tree
+  pub substitute : Name → Tree → Tree → Tree
   substitute n v (var m) = if eqb m n then v else var m
   substitute n v (app h l) = app (substitute n v h) (substituteAll n v l)
   substitute n v (fun m b) = if eqb m n then fun m b else fun m (substitute n v b)
@@ -77,7 +77,7 @@ unfoldable mutual
   substitute n v (lst l) = lst (substituteAll n v l)
   substitute n v (stx s) = stx s
 
-  pub substituteAll : ℕ → Tree → Trees → Trees
+  pub substituteAll : Name → Tree → Trees → Trees
   substituteAll n v tnil = tnil
   substituteAll n v (tcons t l) = tcons (substitute n v t) (substituteAll n v l)
 
