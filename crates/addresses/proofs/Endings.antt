@@ -16,7 +16,7 @@ use Rattle.model.specs.Writing.{syntaxBytes, treeImageBytes}
 use Rattle.model.specs.Steps.{State, Out, ok, no, after, charge}
 use Rattle.model.specs.Parsing.{parse}
 use Rattle.model.specs.Evaluating.{evaluate}
-use Rattle.model.specs.Expanding.{expand, coreOnly}
+use Rattle.model.specs.Expanding.{ofRoot, expand}
 use Rattle.model.specs.Jobs.{Ending, refused, named, written, answerOf, outputAfter, Result, budgetFits, lent, cleared, atPhase, withImage, start, worked, fitted, reached, expandRoot, parseRoot, evaluateRoot, closed, expandEnding, parseEnding, evaluateEnding, expandJob, parseJob, evaluateJob}
 use Rattle.laws.proofs.Tests.{leb-true, leb-le}
 use Rattle.codec_laws.proofs.Sequence.{and-both}
@@ -24,7 +24,7 @@ use Rattle.addresses.specs.OneNameOneAddress.{imageWritten}
 
 -- ---- the definitions, one step open
 
-pub expandRoot-is : (ph : ℕ) (x : Stx) (s : State) → expandRoot ph x s ≡ after (charge (size x) s) (λ v. expand mostEntries ph coreOnly 0 x)
+pub expandRoot-is : (ph : ℕ) (x : Stx) (s : State) → expandRoot ph x s ≡ after (charge (size x) s) (λ v. expand mostEntries (ofRoot ph) x)
 unfolding expandRoot
 expandRoot-is ph x s = refl
 

@@ -15,7 +15,7 @@ use Rattle.model.specs.Objects.{Stx, size}
 use Rattle.model.specs.Reading.{Read, got, symbols, Image, readSyntax, readImage}
 use Rattle.model.specs.Writing.{syntaxBytes}
 use Rattle.model.specs.Steps.{State, Out, ok}
-use Rattle.model.specs.Expanding.{expand, coreOnly}
+use Rattle.model.specs.Expanding.{coreOnly, ofRoot, expand}
 use Rattle.model.specs.Jobs.{Ending, refused, named, written, answerOf, Result, lent, atPhase, withImage, start, worked, fitted, reached, expandRoot, expandEnding, expandJob}
 use Rattle.codec_laws.specs.WellFormed.{Bytes, SyntaxFits}
 use Rattle.codec_laws.proofs.ImageLaws.{syntax-read-keeps-limits}
@@ -52,8 +52,8 @@ pub expand-root-good : (ph budget : ℕ) (i : Image Stx) → SyntaxFits (i .head
     → Outcome Stx (Expanded (symbols (i .head)) mostEntries ph coreOnly (start budget i)) (expandRoot ph (i .root) (start budget i))
 expand-root-good ph budget i f =
     subst (Outcome Stx (Expanded k mostEntries ph coreOnly s)) (sym (expandRoot-is ph (i .root) s))
-    (chain (λ v. expand mostEntries ph coreOnly 0 (i .root)) (charge-out (size (i .root)) s) (λ v t kp.
-    weaken (expand-good k mostEntries ph coreOnly 0 (i .root) t (kept-grows k s t kp .keeps g) tt (moved t kp)) (λ r s′ x.
+    (chain (λ v. expand mostEntries (ofRoot ph) (i .root)) (charge-out (size (i .root)) s) (λ v t kp.
+    weaken (expand-good k mostEntries (ofRoot ph) (i .root) t (kept-grows k s t kp .keeps g) tt (moved t kp)) (λ r s′ x.
     expanded-after k mostEntries mostEntries ph coreOnly s t s′ r (le-refl mostEntries) (kept-grows k s t kp) x)))
   where
     k : ℕ

@@ -7,12 +7,12 @@ use mathlib.Core.Option.{Option, none, some}
 use lib.Dec.{leb}
 use Rattle.model.specs.Limits.{mostNesting, lastPhase}
 use Rattle.model.specs.Refusals.{noMeaning, noRule, noSyntax, noPhase, tooManyEntries, overBudget}
-use Rattle.model.specs.Scopes.{Scopes, add}
+use Rattle.model.specs.Scopes.{Scopes}
 use Rattle.model.specs.Objects.{Atom, symbol, number, point, prim, rung, Sets, Stx, atom, list, Stxs, nil, cons, nesting, nestings, addScope, flipScope, pruneScopes}
 use Rattle.model.specs.Trees.{Tree, stx, tnil, tcons, tnesting, asStx}
 use Rattle.model.specs.Steps.{State, Out, ok, parts1}
 use Rattle.model.specs.Parsing.{lambda, letSyntax, quote, syntax, headForm}
-use Rattle.model.specs.Expanding.{Meaning, core, variable, macro, unknown, Env, coreOnly, extend, meaning, expandName, Expander, expandAll, expandApplication, expandFunction, expandLambda, expandSyntax, expandBinding, expandLetSyntax, orNoSyntax, expandMacro, expandForm, expandEntry, expand}
+use Rattle.model.specs.Expanding.{Meaning, core, variable, macro, unknown, coreOnly, extend, meaning, expandName, Surroundings, ofRightHandSide, ofBody, ofResult, Expander, expandAll, expandApplication, expandFunction, expandLambda, expandSyntax, expandBinding, expandLetSyntax, orNoSyntax, expandMacro, expandForm, expandEntry, expand}
 use Rattle.model.specs.Jobs.{closed}
 use Rattle.laws.specs.Ordered.{SetsIn}
 use Rattle.laws.proofs.Stable.{later-trans, same}
@@ -112,81 +112,89 @@ module _ (k : ℕ) where
       } in
       subst (λ (z : Stx). Piece u z) (f .0) (piece-grows s u (flipScope j ph x) (kept-grows k s u (f .1)) r)
 
+  -- the meanings around keep the limits in the state s
+  abbrev pub MeanWell : Surroundings → State → Type 0
+  MeanWell here s = EnvGood k (here .phase) s (here .meanings)
+
+  -- what expanding there gives, from the state s and with d entries to spare
+  abbrev pub ExpandedIn : ℕ → Surroundings → State → Stx → State → Type 0
+  ExpandedIn d here s = Expanded k d (here .phase) (here .meanings) s
+
   -- what a further entry does: the claim of this file
   abbrev pub ExpandGood : ℕ → Expander → Type 0
-  ExpandGood d self = (ph : ℕ) (e : Env) (p : Scopes) (x : Stx) (s : State) → StateFits k s → EnvGood k ph s e → Piece s x
-      → Outcome Stx (Expanded k d ph e s) (self ph e p x s)
+  ExpandGood d self = (here : Surroundings) (x : Stx) (s : State) → StateFits k s → MeanWell here s → Piece s x
+      → Outcome Stx (ExpandedIn d here s) (self here x s)
 
   -- ---- applications
 
-  all-out : (d : ℕ) (self : Expander) → ExpandGood d self → (ph : ℕ) (e : Env) (p : Scopes) (l : Stxs) (s : State)
-      → StateFits k s → EnvGood k ph s e → Pieces s l → Outcome Stxs (ExpandedAll k d ph e s) (expandAll (self ph e p) l s)
+  all-out : (d : ℕ) (self : Expander) → ExpandGood d self → (here : Surroundings) (l : Stxs) (s : State)
+      → StateFits k s → MeanWell here s → Pieces s l → Outcome Stxs (ExpandedAll k d (here .phase) (here .meanings) s) (expandAll (self here) l s)
   unfolding expandAll
-  all-out d self h ph e p nil s g v i = gives nil s (none-expanded k d ph e s)
-  all-out d self h ph e p (cons x l) s g v i =
-      chain _ (h ph e p x s g v (first-piece s x l i)) (λ y t a.
-      chain _ (all-out d self h ph e p l t (a .grows .keeps g) (env-grows k ph s t (a .grows) e v) (pieces-grow s t l (a .grows) (other-pieces s x l i))) (λ r u b.
-      gives (cons y r) u (cons-expanded k d ph e s t u y r a b)))
+  all-out d self h here nil s g v i = gives nil s (none-expanded k d (here .phase) (here .meanings) s)
+  all-out d self h here (cons x l) s g v i =
+      chain _ (h here x s g v (first-piece s x l i)) (λ y t a.
+      chain _ (all-out d self h here l t (a .grows .keeps g) (env-grows k (here .phase) s t (a .grows) (here .meanings) v) (pieces-grow s t l (a .grows) (other-pieces s x l i))) (λ r u b.
+      gives (cons y r) u (cons-expanded k d (here .phase) (here .meanings) s t u y r a b)))
 
   -- a head and parts, each expanded
-  record Parts (d ph : ℕ) (e : Env) (s : State) (l : Stxs) (s′ : State) : Type 0 where
+  record Parts (d : ℕ) (here : Surroundings) (s : State) (l : Stxs) (s′ : State) : Type 0 where
     head : Stx
     tail : Stxs
     is : cons head tail ≡ l
     between : State
-    first : Expanded k d ph e s head between
-    others : ExpandedAll k d ph e between tail s′
+    first : ExpandedIn d here s head between
+    others : ExpandedAll k d (here .phase) (here .meanings) between tail s′
 
-  parts-out : (d : ℕ) (self : Expander) → ExpandGood d self → (ph : ℕ) (e : Env) (p : Scopes) (x : Stx) (l : Stxs) (s : State)
-      → StateFits k s → EnvGood k ph s e → Pieces s (cons x l) → Outcome Stxs (Parts d ph e s) (expandAll (self ph e p) (cons x l) s)
+  parts-out : (d : ℕ) (self : Expander) → ExpandGood d self → (here : Surroundings) (x : Stx) (l : Stxs) (s : State)
+      → StateFits k s → MeanWell here s → Pieces s (cons x l) → Outcome Stxs (Parts d here s) (expandAll (self here) (cons x l) s)
   unfolding expandAll
-  parts-out d self h ph e p x l s g v i =
-      chain _ (h ph e p x s g v (first-piece s x l i)) (λ y t a.
-      chain _ (all-out d self h ph e p l t (a .grows .keeps g) (env-grows k ph s t (a .grows) e v) (pieces-grow s t l (a .grows) (other-pieces s x l i))) (λ r u b.
+  parts-out d self h here x l s g v i =
+      chain _ (h here x s g v (first-piece s x l i)) (λ y t a.
+      chain _ (all-out d self h here l t (a .grows .keeps g) (env-grows k (here .phase) s t (a .grows) (here .meanings) v) (pieces-grow s t l (a .grows) (other-pieces s x l i))) (λ r u b.
       gives (cons y r) u (record { head = y; tail = r; is = refl; between = t; first = a; others = b })))
 
-  application-out : (d : ℕ) (self : Expander) → ExpandGood d self → (ph : ℕ) (e : Env) (p : Scopes) (c : Sets) (x : Stx) (l : Stxs) (s : State)
-      → StateFits k s → EnvGood k ph s e → SetsIn (s .scopes) c → Pieces s (cons x l)
-      → Outcome Stx (Expanded k (suc d) ph e s) (expandApplication self ph e p c (cons x l) s)
+  application-out : (d : ℕ) (self : Expander) → ExpandGood d self → (here : Surroundings) (c : Sets) (x : Stx) (l : Stxs) (s : State)
+      → StateFits k s → MeanWell here s → SetsIn (s .scopes) c → Pieces s (cons x l)
+      → Outcome Stx (ExpandedIn (suc d) here s) (expandApplication self here c (cons x l) s)
   unfolding expandApplication
-  application-out d self h ph e p c x l s g v i j =
-      chain _ (parts-out d self h ph e p x l s g v j) (λ r u q. weaken (made-out (list c r) u) (λ y t m. whole r u q y t m))
+  application-out d self h here c x l s g v i j =
+      chain _ (parts-out d self h here x l s g v j) (λ r u q. weaken (made-out (list c r) u) (λ y t m. whole r u q y t m))
     where
-      whole : (r : Stxs) (u : State) → Parts d ph e s r u → (y : Stx) (t : State) → (list c r ≡ y) × (u ≡ t) × (nesting (list c r) ≤ mostNesting)
-          → Expanded k (suc d) ph e s y t
+      whole : (r : Stxs) (u : State) → Parts d here s r u → (y : Stx) (t : State) → (list c r ≡ y) × (u ≡ t) × (nesting (list c r) ≤ mostNesting)
+          → ExpandedIn (suc d) here s y t
       whole r u q y t m =
           let z = q .between in
           let all = grows-trans k s z u (q .first .grows) (q .others .grows) in
-          expanded-same k (suc d) ph e s u t (list c (cons (q .head) (q .tail))) y (m .1) (ap (list c) (q .is) ∙ m .0)
-          (application-expanded k d ph e c s z u (q .head) (q .tail) (sets-more (all .scopes-le) c i)
+          expanded-same k (suc d) (here .phase) (here .meanings) s u t (list c (cons (q .head) (q .tail))) y (m .1) (ap (list c) (q .is) ∙ m .0)
+          (application-expanded k d (here .phase) (here .meanings) c s z u (q .head) (q .tail) (sets-more (all .scopes-le) c i)
           (subst (λ (w : Stxs). nesting (list c w) ≤ mostNesting) (sym (q .is)) (m .2)) (q .first) (q .others))
 
   -- ---- lambda
 
-  function-out : (d : ℕ) (self : Expander) → ExpandGood d self → (ph : ℕ) (e : Env) (p : Scopes) (c : Sets) (h : Stx) (ci : Sets) (x : ℕ) (body : Stx) (s : State)
-      → StateFits k s → EnvGood k ph s e → SetsIn (s .scopes) c → StxFits k (s .scopes) h → SetsIn (s .scopes) ci → x < k → Piece s body → Stays k ph h lambda s
-      → Outcome Stx (Expanded k (suc d) ph e s) (expandFunction self ph e p c h ci x body s)
+  function-out : (d : ℕ) (self : Expander) → ExpandGood d self → (here : Surroundings) (c : Sets) (h : Stx) (ci : Sets) (x : ℕ) (body : Stx) (s : State)
+      → StateFits k s → MeanWell here s → SetsIn (s .scopes) c → StxFits k (s .scopes) h → SetsIn (s .scopes) ci → x < k → Piece s body → Stays k (here .phase) h lambda s
+      → Outcome Stx (ExpandedIn (suc d) here s) (expandFunction self here c h ci x body s)
   unfolding expandFunction
-  function-out d self rec ph e p c h ci x body s g v i j ic hx ib hd =
-      chain _ (bindFresh-out k ph ci x s g hx ic) (λ b t bd. chain _ (addTo-out (b .scope) ph body t) (λ y u ad.
+  function-out d self rec here c h ci x body s g v i j ic hx ib hd =
+      chain _ (bindFresh-out k (here .phase) ci x s g hx ic) (λ b t bd. chain _ (addTo-out (b .scope) (here .phase) body t) (λ y u ad.
       let grown : Grows k s u = grows-trans k s t u (bd .grows) (kept-grows k t u (ad .1)) in
-      let mean : MeaningGood k ph (b .name) u (variable (b .sets) x) =
-      meaning-grows k ph (b .name) t u (kept-grows k t u (ad .1)) (variable (b .sets) x)
+      let mean : MeaningGood k (here .phase) (b .name) u (variable (b .sets) x) =
+      meaning-grows k (here .phase) (b .name) t u (kept-grows k t u (ad .1)) (variable (b .sets) x)
       (le-trans (le-trans (g .core-first) (g .names-from)) (le-of-eq (sym (bd .name-is))), bd .bound-in, bd .sets-in) in
-      chain _ (rec ph (extend (b .name) (variable (b .sets) x) e) (add (b .scope) p) y u (grown .keeps g) (mean, env-grows k ph s u grown e v)
-      (added (b .scope) ph body y s t u (bd .scope-le) (bd .grows) ib ad)) (λ out s′ a.
+      chain _ (rec (ofBody b (variable (b .sets) x) here) y u (grown .keeps g) (mean, env-grows k (here .phase) s u grown (here .meanings) v)
+      (added (b .scope) (here .phase) body y s t u (bd .scope-le) (bd .grows) ib ad)) (λ out s′ a.
       weaken (made-out (list c (cons h (cons (atom (b .sets) (symbol x)) (cons out nil)))) s′) (λ r w m.
-      expanded-same k (suc d) ph e s s′ w (list c (cons h (cons (atom (b .sets) (symbol x)) (cons out nil)))) r (m .1) (m .0)
-      (function-expanded k d ph e c h x b s t u s′ out g i j hx hd bd (ad .1) (m .2) a)))))
+      expanded-same k (suc d) (here .phase) (here .meanings) s s′ w (list c (cons h (cons (atom (b .sets) (symbol x)) (cons out nil)))) r (m .1) (m .0)
+      (function-expanded k d (here .phase) (here .meanings) c h x b s t u s′ out g i j hx hd bd (ad .1) (m .2) a)))))
 
-  lambda-out : (d : ℕ) (self : Expander) → ExpandGood d self → (ph : ℕ) (e : Env) (p : Scopes) (c : Sets) (h : Stx) (l : Stxs) (s : State)
-      → StateFits k s → EnvGood k ph s e → SetsIn (s .scopes) c → StxFits k (s .scopes) h → Pieces s l → Stays k ph h lambda s
-      → Outcome Stx (Expanded k (suc d) ph e s) (expandLambda self ph e p c h l s)
+  lambda-out : (d : ℕ) (self : Expander) → ExpandGood d self → (here : Surroundings) (c : Sets) (h : Stx) (l : Stxs) (s : State)
+      → StateFits k s → MeanWell here s → SetsIn (s .scopes) c → StxFits k (s .scopes) h → Pieces s l → Stays k (here .phase) h lambda s
+      → Outcome Stx (ExpandedIn (suc d) here s) (expandLambda self here c h l s)
   unfolding expandLambda
-  lambda-out d self rec ph e p c h l s g v i j m hd =
+  lambda-out d self rec here c h l s g v i j m hd =
       parts2-out l _ s (λ a body q. let w : Pieces s (cons a (cons body nil)) = subst (λ (z : Stxs). Pieces s z) q m in
       identifier-out a _ s (λ ci x q′. let ia : StxFits k (s .scopes) (atom ci (symbol x)) = subst (λ (z : Stx). StxFits k (s .scopes) z) q′ (w .fits .0) in
-      function-out d self rec ph e p c h ci x body s g v i j (ia .0) (ia .1) (first-piece s body nil (other-pieces s a (cons body nil) w)) hd))
+      function-out d self rec here c h ci x body s g v i j (ia .0) (ia .1) (first-piece s body nil (other-pieces s a (cons body nil) w)) hd))
 
   -- ---- let-syntax
 
@@ -195,17 +203,17 @@ module _ (k : ℕ) where
   unfolding vars
   right-hand-side-has-no-free-variable d ph s s′ r x = record { fits = x .tree-fits; owned = x .owned; shallow = le-trans (x .tree-shallow) (x .shallow) }
 
-  binding-out : (d : ℕ) (self : Expander) → ExpandGood d self → (ph : ℕ) (e : Env) (p : Scopes) (ci : Sets) (x : ℕ) (rhs body : Stx) (s : State)
-      → StateFits k s → EnvGood k ph s e → SetsIn (s .scopes) ci → x < k → Piece s rhs → Piece s body
-      → Outcome Stx (Expanded k (suc d) ph e s) (expandBinding self d ph e p ci x rhs body s)
+  binding-out : (d : ℕ) (self : Expander) → ExpandGood d self → (here : Surroundings) (ci : Sets) (x : ℕ) (rhs body : Stx) (s : State)
+      → StateFits k s → MeanWell here s → SetsIn (s .scopes) ci → x < k → Piece s rhs → Piece s body
+      → Outcome Stx (ExpandedIn (suc d) here s) (expandBinding self d here ci x rhs body s)
   unfolding expandBinding vars
-  binding-out d self rec ph e p ci x rhs body s g v ic hx ir ib =
-      chain _ (bindFresh-out k ph ci x s g hx ic) (λ b t bd. chain _ (unless-out noPhase tt (leb (ph + 1) lastPhase) t) (λ n t₂ un.
+  binding-out d self rec here ci x rhs body s g v ic hx ir ib =
+      chain _ (bindFresh-out k (here .phase) ci x s g hx ic) (λ b t bd. chain _ (unless-out noPhase tt (leb (here .phase + 1) lastPhase) t) (λ n t₂ un.
       let g₂ : Grows k s t₂ = subst (λ (z : State). Grows k s z) (un .1) (bd .grows) in
-      chain _ (rec (ph + 1) coreOnly 0 rhs t₂ (g₂ .keeps g) tt (piece-grows s t₂ rhs g₂ ir)) (λ r t₃ rh.
+      chain _ (rec (ofRightHandSide here) rhs t₂ (g₂ .keeps g) tt (piece-grows s t₂ rhs g₂ ir)) (λ r t₃ rh.
       chain _ (costs-out (rh .parses d (le-refl d) t₃ same)) (λ tr t₄ pa.
-      let good : TreeGood k (t₃ .names) (t₃ .scopes) tr = subst (TreeGood k (t₃ .names) (t₃ .scopes)) (pa .0) (right-hand-side-has-no-free-variable d (ph + 1) t₂ t₃ r rh) in
-      chain _ (evaluate-good k (t₃ .names) (t₃ .scopes) d tr good t₄) (λ val t₅ ev. chain _ (addTo-out (b .scope) ph body t₅) (λ y u ad.
+      let good : TreeGood k (t₃ .names) (t₃ .scopes) tr = subst (TreeGood k (t₃ .names) (t₃ .scopes)) (pa .0) (right-hand-side-has-no-free-variable d (here .phase + 1) t₂ t₃ r rh) in
+      chain _ (evaluate-good k (t₃ .names) (t₃ .scopes) d tr good t₄) (λ val t₅ ev. chain _ (addTo-out (b .scope) (here .phase) body t₅) (λ y u ad.
       let kp₅ : Kept t₃ t₅ = kept-trans (pa .1) (ev .1) in
       let kp : Kept t₃ u = kept-trans kp₅ (ad .1) in
       let g₃ : Grows k s t₃ = grows-trans k s t₂ t₃ g₂ (rh .grows) in
@@ -213,20 +221,20 @@ module _ (k : ℕ) where
       let g₆ : Grows k s u = grows-trans k s t₃ u g₃ (kept-grows k t₃ u kp) in
       let reached : b .scope ≤ t₅ .scopes = le-trans (le-trans (bd .scope-le) (le-of-eq (ap (λ (z : State). z .scopes) (un .1))))
       (le-trans (rh .grows .scopes-le) (le-of-eq (kp₅ .scopes-is))) in
-      weaken (rec ph (extend (b .name) (macro val) e) (add (b .scope) p) y u (g₆ .keeps g)
-      (value-grows k t₃ u (kept-grows k t₃ u kp) val (ev .0 .0), env-grows k ph s u g₆ e v)
-      (added (b .scope) ph body y s t₅ u reached g₅ ib ad)) (λ out s′ a.
-      expanded-vars k (suc d) ph e (extend (b .name) (macro val) e) s s′ out refl
-      (expanded-after k d (suc d) ph (extend (b .name) (macro val) e) s u s′ out (up d) g₆ a))))))))
+      weaken (rec (ofBody b (macro val) here) y u (g₆ .keeps g)
+      (value-grows k t₃ u (kept-grows k t₃ u kp) val (ev .0 .0), env-grows k (here .phase) s u g₆ (here .meanings) v)
+      (added (b .scope) (here .phase) body y s t₅ u reached g₅ ib ad)) (λ out s′ a.
+      expanded-vars k (suc d) (here .phase) (here .meanings) (extend (b .name) (macro val) (here .meanings)) s s′ out refl
+      (expanded-after k d (suc d) (here .phase) (extend (b .name) (macro val) (here .meanings)) s u s′ out (up d) g₆ a))))))))
 
-  let-out : (d : ℕ) (self : Expander) → ExpandGood d self → (ph : ℕ) (e : Env) (p : Scopes) (l : Stxs) (s : State)
-      → StateFits k s → EnvGood k ph s e → Pieces s l → Outcome Stx (Expanded k (suc d) ph e s) (expandLetSyntax self d ph e p l s)
+  let-out : (d : ℕ) (self : Expander) → ExpandGood d self → (here : Surroundings) (l : Stxs) (s : State)
+      → StateFits k s → MeanWell here s → Pieces s l → Outcome Stx (ExpandedIn (suc d) here s) (expandLetSyntax self d here l s)
   unfolding expandLetSyntax
-  let-out d self rec ph e p l s g v m =
+  let-out d self rec here l s g v m =
       parts3-out l _ s (λ a rhs body q. let w : Pieces s (cons a (cons rhs (cons body nil))) = subst (λ (z : Stxs). Pieces s z) q m in
       let w₂ : Pieces s (cons rhs (cons body nil)) = other-pieces s a (cons rhs (cons body nil)) w in
       identifier-out a _ s (λ ci x q′. let ia : StxFits k (s .scopes) (atom ci (symbol x)) = subst (λ (z : Stx). StxFits k (s .scopes) z) q′ (w .fits .0) in
-      binding-out d self rec ph e p ci x rhs body s g v (ia .0) (ia .1) (first-piece s rhs (cons body nil) w₂)
+      binding-out d self rec here ci x rhs body s g v (ia .0) (ia .1) (first-piece s rhs (cons body nil) w₂)
       (first-piece s body nil (other-pieces s rhs (cons body nil) w₂))))
 
   -- ---- macro uses
@@ -241,29 +249,29 @@ module _ (k : ℕ) where
   unfolding tnesting closed
   piece-value s x i = record { fits = i .fits; owned = refl; shallow = i .shallow }
 
-  macro-out : (d : ℕ) (self : Expander) → ExpandGood d self → (ph : ℕ) (e : Env) (p : Scopes) (v : Tree) (form : Stx) (s : State)
-      → StateFits k s → EnvGood k ph s e → TreeGood k (s .names) (s .scopes) v → Piece s form
-      → Outcome Stx (Expanded k (suc d) ph e s) (expandMacro self d ph e p v form s)
+  macro-out : (d : ℕ) (self : Expander) → ExpandGood d self → (here : Surroundings) (v : Tree) (form : Stx) (s : State)
+      → StateFits k s → MeanWell here s → TreeGood k (s .names) (s .scopes) v → Piece s form
+      → Outcome Stx (ExpandedIn (suc d) here s) (expandMacro self d here v form s)
   unfolding expandMacro closed
-  macro-out d self rec ph e p v form s g w gv i =
+  macro-out d self rec here v form s g w gv i =
       chain _ (freshScope-out k s) (λ us t₁ f₁. chain _ (freshScope-out k t₁) (λ intro t₂ f₂.
       let g₂ : Grows k s t₂ = grows-trans k s t₁ t₂ (f₁ .0) (f₂ .0) in
-      chain _ (addTo-out us ph form t₂) (λ used t₃ ad.
-      let i₃ : Piece t₃ used = added us ph form used s t₂ t₃ (le-trans (f₁ .1) (f₂ .0 .scopes-le)) g₂ i ad in
-      chain _ (flipIn-out intro ph used t₃) (λ marked t₄ fl.
-      let i₄ : Piece t₄ marked = flipped intro ph used marked t₃ t₄ (le-trans (f₂ .1) (le-of-eq (ad .1 .scopes-is))) i₃ fl in
+      chain _ (addTo-out us (here .phase) form t₂) (λ used t₃ ad.
+      let i₃ : Piece t₃ used = added us (here .phase) form used s t₂ t₃ (le-trans (f₁ .1) (f₂ .0 .scopes-le)) g₂ i ad in
+      chain _ (flipIn-out intro (here .phase) used t₃) (λ marked t₄ fl.
+      let i₄ : Piece t₄ marked = flipped intro (here .phase) used marked t₃ t₄ (le-trans (f₂ .1) (le-of-eq (ad .1 .scopes-is))) i₃ fl in
       let kp₄ : Kept t₂ t₄ = kept-trans (ad .1) (fl .1) in
       let g₄ : Grows k s t₄ = grows-trans k s t₂ t₄ g₂ (kept-grows k t₂ t₄ kp₄) in
       chain _ (application-of k (t₄ .names) (t₄ .scopes) d v (tcons (stx marked) tnil) (value-grows k s t₄ g₄ v gv) (piece-value t₄ marked i₄, tt) t₄) (λ r t₅ ev.
       chain _ (syntax-out (asStx r) t₅) (λ x t₆ sy.
       let kp₆ : Kept t₄ t₆ = kept-trans (ev .1) (kept-same (sy .1)) in
       let i₆ : Piece t₆ x = piece-grows t₄ t₆ x (kept-grows k t₄ t₆ kp₆) (value-piece t₄ r x (ev .0 .0) (sy .0)) in
-      chain _ (flipIn-out intro ph x t₆) (λ back t₇ fl₇.
+      chain _ (flipIn-out intro (here .phase) x t₆) (λ back t₇ fl₇.
       let kp₂₆ : Kept t₂ t₆ = kept-trans kp₄ kp₆ in
-      let i₇ : Piece t₇ back = flipped intro ph x back t₆ t₇ (le-trans (f₂ .1) (le-of-eq (kp₂₆ .scopes-is))) i₆ fl₇ in
+      let i₇ : Piece t₇ back = flipped intro (here .phase) x back t₆ t₇ (le-trans (f₂ .1) (le-of-eq (kp₂₆ .scopes-is))) i₆ fl₇ in
       let g₇ : Grows k s t₇ = grows-trans k s t₂ t₇ g₂ (kept-grows k t₂ t₇ (kept-trans kp₂₆ (fl₇ .1))) in
-      weaken (rec ph e (add us p) back t₇ (g₇ .keeps g) (env-grows k ph s t₇ g₇ e w) i₇) (λ out s′ a.
-      expanded-after k d (suc d) ph e s t₇ s′ out (up d) g₇ a))))))))
+      weaken (rec (ofResult us here) back t₇ (g₇ .keeps g) (env-grows k (here .phase) s t₇ g₇ (here .meanings) w) i₇) (λ out s′ a.
+      expanded-after k d (suc d) (here .phase) (here .meanings) s t₇ s′ out (up d) g₇ a))))))))
 
   -- ---- quote and syntax
 
@@ -278,78 +286,78 @@ module _ (k : ℕ) where
       subst (λ (z : Stx). Piece t (list c (cons h (cons z nil)))) (f .0)
       (piece-grows s t (list c (cons h (cons (pruneScopes p ph x) nil))) (kept-grows k s t (f .1)) r)
 
-  syntax-form : (d ph : ℕ) (e : Env) (p : Scopes) (c : Sets) (h : Stx) (l : Stxs) (s : State) → Piece s (list c (cons h l)) → Stays k ph h syntax s
-      → Outcome Stx (Expanded k (suc d) ph e s) (expandSyntax ph p c h l s)
+  syntax-form : (d : ℕ) (here : Surroundings) (c : Sets) (h : Stx) (l : Stxs) (s : State) → Piece s (list c (cons h l)) → Stays k (here .phase) h syntax s
+      → Outcome Stx (ExpandedIn (suc d) here s) (expandSyntax here c h l s)
   unfolding expandSyntax
-  syntax-form d ph e p c h l s i hd =
-      parts1-out l _ s (λ x q. chain _ (pruneFrom-out p ph x s) (λ y t f.
+  syntax-form d here c h l s i hd =
+      parts1-out l _ s (λ x q. chain _ (pruneFrom-out (here .prunable) (here .phase) x s) (λ y t f.
       gives (list c (cons h (cons y nil))) t
-      (expanded-after k (suc d) (suc d) ph e s t t (list c (cons h (cons y nil))) (le-refl (suc d)) (kept-grows k s t (f .1))
-      (syntax-expanded k d ph e c h y t (pruned x y t q f .fits) (pruned x y t q f .shallow)
+      (expanded-after k (suc d) (suc d) (here .phase) (here .meanings) s t t (list c (cons h (cons y nil))) (le-refl (suc d)) (kept-grows k s t (f .1))
+      (syntax-expanded k d (here .phase) (here .meanings) c h y t (pruned x y t q f .fits) (pruned x y t q f .shallow)
       (λ st w. hd st (later-trans (s .scopes) (t .scopes) (s .binds) (t .binds) (st .binds) (kept-grows k s t (f .1) .scopes-le) (kept-grows k s t (f .1) .later) w))))))
     where
-      pruned : (x y : Stx) (t : State) → l ≡ cons x nil → (pruneScopes p ph x ≡ y) × Kept s t → Piece t (list c (cons h (cons y nil)))
-      pruned x y t q f = pruned-piece p ph c h x y s t (subst (λ (z : Stxs). Piece s (list c (cons h z))) q i) f
+      pruned : (x y : Stx) (t : State) → l ≡ cons x nil → (pruneScopes (here .prunable) (here .phase) x ≡ y) × Kept s t → Piece t (list c (cons h (cons y nil)))
+      pruned x y t q f = pruned-piece (here .prunable) (here .phase) c h x y s t (subst (λ (z : Stxs). Piece s (list c (cons h z))) q i) f
 
-  quote-form : (d ph : ℕ) (e : Env) (c : Sets) (h : Stx) (l : Stxs) (s : State) → Piece s (list c (cons h l)) → Stays k ph h quote s
-      → Outcome Stx (Expanded k (suc d) ph e s) (parts1 l (λ x. λ t. ok (list c (cons h l)) t) s)
-  quote-form d ph e c h l s i hd =
+  quote-form : (d : ℕ) (here : Surroundings) (c : Sets) (h : Stx) (l : Stxs) (s : State) → Piece s (list c (cons h l)) → Stays k (here .phase) h quote s
+      → Outcome Stx (ExpandedIn (suc d) here s) (parts1 l (λ x. λ t. ok (list c (cons h l)) t) s)
+  quote-form d here c h l s i hd =
       parts1-out l _ s (λ x q. let j : Piece s (list c (cons h (cons x nil))) = subst (λ (z : Stxs). Piece s (list c (cons h z))) q i in
       gives (list c (cons h l)) s
-      (expanded-same k (suc d) ph e s s s (list c (cons h (cons x nil))) (list c (cons h l)) refl (ap (λ (z : Stxs). list c (cons h z)) (sym q))
-      (quote-expanded k d ph e c h x s (j .fits) (j .shallow) hd)))
+      (expanded-same k (suc d) (here .phase) (here .meanings) s s s (list c (cons h (cons x nil))) (list c (cons h l)) refl (ap (λ (z : Stxs). list c (cons h z)) (sym q))
+      (quote-expanded k d (here .phase) (here .meanings) c h x s (j .fits) (j .shallow) hd)))
 
   -- ---- one entry
 
-  form-out : (d : ℕ) (self : Expander) → ExpandGood d self → (ph : ℕ) (e : Env) (p : Scopes) (c : Sets) (h : Stx) (l : Stxs) (m : Meaning) (s : State)
-      → StateFits k s → EnvGood k ph s e → Piece s (list c (cons h l)) → HeadGood k ph h s m
-      → Outcome Stx (Expanded k (suc d) ph e s) (expandForm self d ph e p c h l m s)
+  form-out : (d : ℕ) (self : Expander) → ExpandGood d self → (here : Surroundings) (c : Sets) (h : Stx) (l : Stxs) (m : Meaning) (s : State)
+      → StateFits k s → MeanWell here s → Piece s (list c (cons h l)) → HeadGood k (here .phase) h s m
+      → Outcome Stx (ExpandedIn (suc d) here s) (expandForm self d here c h l m s)
   unfolding expandForm
-  form-out d self rec ph e p c h l (core lambda) s g v i hm =
-      lambda-out d self rec ph e p c h l s g v (i .fits .0) (i .fits .1 .0) (other-pieces s h l (list-pieces s c (cons h l) i)) hm
-  form-out d self rec ph e p c h l (core letSyntax) s g v i hm = let-out d self rec ph e p l s g v (other-pieces s h l (list-pieces s c (cons h l) i))
-  form-out d self rec ph e p c h l (core quote) s g v i hm = quote-form d ph e c h l s i hm
-  form-out d self rec ph e p c h l (core syntax) s g v i hm = syntax-form d ph e p c h l s i hm
-  form-out d self rec ph e p c h l (variable b x) s g v i hm =
-      application-out d self rec ph e p c h l s g v (i .fits .0) (list-pieces s c (cons h l) i)
-  form-out d self rec ph e p c h l (macro w) s g v i hm = macro-out d self rec ph e p w (list c (cons h l)) s g v hm i
-  form-out d self rec ph e p c h l unknown s g v i hm =
-      application-out d self rec ph e p c h l s g v (i .fits .0) (list-pieces s c (cons h l) i)
+  form-out d self rec here c h l (core lambda) s g v i hm =
+      lambda-out d self rec here c h l s g v (i .fits .0) (i .fits .1 .0) (other-pieces s h l (list-pieces s c (cons h l) i)) hm
+  form-out d self rec here c h l (core letSyntax) s g v i hm = let-out d self rec here l s g v (other-pieces s h l (list-pieces s c (cons h l) i))
+  form-out d self rec here c h l (core quote) s g v i hm = quote-form d here c h l s i hm
+  form-out d self rec here c h l (core syntax) s g v i hm = syntax-form d here c h l s i hm
+  form-out d self rec here c h l (variable b x) s g v i hm =
+      application-out d self rec here c h l s g v (i .fits .0) (list-pieces s c (cons h l) i)
+  form-out d self rec here c h l (macro w) s g v i hm = macro-out d self rec here w (list c (cons h l)) s g v hm i
+  form-out d self rec here c h l unknown s g v i hm =
+      application-out d self rec here c h l s g v (i .fits .0) (list-pieces s c (cons h l) i)
 
-  name-out : (d ph n : ℕ) (e : Env) (m : Meaning) (s : State) → StateFits k s → EnvGood k ph s e → meaning n e ≡ m
-      → Outcome Stx (Expanded k (suc d) ph e s) (expandName m s)
+  name-out : (d : ℕ) (here : Surroundings) (n : ℕ) (m : Meaning) (s : State) → StateFits k s → MeanWell here s → meaning n (here .meanings) ≡ m
+      → Outcome Stx (ExpandedIn (suc d) here s) (expandName m s)
   unfolding expandName
-  name-out d ph n e (core f) s g v a = stops noRule (s .left) tt
-  name-out d ph n e (variable c x) s g v a =
-      let q = meaning-variable k ph s n e v c x a in
-      gives (atom c (symbol x)) s (variable-expanded k d ph n e c x s g (q .0) (q .1))
-  name-out d ph n e (macro w) s g v a = stops noRule (s .left) tt
-  name-out d ph n e unknown s g v a = stops noMeaning (s .left) tt
+  name-out d here n (core f) s g v a = stops noRule (s .left) tt
+  name-out d here n (variable c x) s g v a =
+      let q = meaning-variable k (here .phase) s n (here .meanings) v c x a in
+      gives (atom c (symbol x)) s (variable-expanded k d (here .phase) n (here .meanings) c x s g (q .0) (q .1))
+  name-out d here n (macro w) s g v a = stops noRule (s .left) tt
+  name-out d here n unknown s g v a = stops noMeaning (s .left) tt
 
-  entry-out : (d : ℕ) (self : Expander) → ExpandGood d self → ExpandGood (suc d) (λ ph e p x. expandEntry self d ph e p x)
+  entry-out : (d : ℕ) (self : Expander) → ExpandGood d self → ExpandGood (suc d) (λ here x. expandEntry self d here x)
   unfolding expandEntry headForm atom-tag
-  entry-out d self rec ph e p (atom c (symbol x)) s g v i =
-      chain _ (resolveAt-out ph c x s) (λ n t q. subst (λ (z : State). Outcome Stx (Expanded k (suc d) ph e s) (expandName (meaning n e) z)) (q .1)
-      (name-out d ph n e (meaning n e) s g v refl))
-  entry-out d self rec ph e p (atom c (number x)) s g v i =
-      gives (atom c (number x)) s (atom-expanded k d ph e c (number x) s (i .fits) (no-symbol (number x) refl) (λ st. refl))
-  entry-out d self rec ph e p (atom c (point x)) s g v i =
-      gives (atom c (point x)) s (atom-expanded k d ph e c (point x) s (i .fits) (no-symbol (point x) refl) (λ st. refl))
-  entry-out d self rec ph e p (atom c (prim x)) s g v i =
-      gives (atom c (prim x)) s (atom-expanded k d ph e c (prim x) s (i .fits) (no-symbol (prim x) refl) (λ st. refl))
-  entry-out d self rec ph e p (atom c (rung x)) s g v i =
-      gives (atom c (rung x)) s (atom-expanded k d ph e c (rung x) s (i .fits) (no-symbol (rung x) refl) (λ st. refl))
-  entry-out d self rec ph e p (list c nil) s g v i = stops noRule (s .left) tt
-  entry-out d self rec ph e p (list c (cons h l)) s g v i =
-      chain _ (head-out k ph e h s v (i .fits .1 .0)) (λ m t q. subst (λ (z : State). Outcome Stx (Expanded k (suc d) ph e s) (expandForm self d ph e p c h l m z)) (q .1)
-      (form-out d self rec ph e p c h l m s g v i (q .0)))
+  entry-out d self rec here (atom c (symbol x)) s g v i =
+      chain _ (resolveAt-out (here .phase) c x s) (λ n t q. subst (λ (z : State). Outcome Stx (ExpandedIn (suc d) here s) (expandName (meaning n (here .meanings)) z)) (q .1)
+      (name-out d here n (meaning n (here .meanings)) s g v refl))
+  entry-out d self rec here (atom c (number x)) s g v i =
+      gives (atom c (number x)) s (atom-expanded k d (here .phase) (here .meanings) c (number x) s (i .fits) (no-symbol (number x) refl) (λ st. refl))
+  entry-out d self rec here (atom c (point x)) s g v i =
+      gives (atom c (point x)) s (atom-expanded k d (here .phase) (here .meanings) c (point x) s (i .fits) (no-symbol (point x) refl) (λ st. refl))
+  entry-out d self rec here (atom c (prim x)) s g v i =
+      gives (atom c (prim x)) s (atom-expanded k d (here .phase) (here .meanings) c (prim x) s (i .fits) (no-symbol (prim x) refl) (λ st. refl))
+  entry-out d self rec here (atom c (rung x)) s g v i =
+      gives (atom c (rung x)) s (atom-expanded k d (here .phase) (here .meanings) c (rung x) s (i .fits) (no-symbol (rung x) refl) (λ st. refl))
+  entry-out d self rec here (list c nil) s g v i = stops noRule (s .left) tt
+  entry-out d self rec here (list c (cons h l)) s g v i =
+      chain _ (head-out k (here .phase) (here .meanings) h s v (i .fits .1 .0)) (λ m t q. subst (λ (z : State). Outcome Stx (ExpandedIn (suc d) here s) (expandForm self d here c h l m z)) (q .1)
+      (form-out d self rec here c h l m s g v i (q .0)))
 
   -- ---- the theorem
 
   pub expand-good : (d : ℕ) → ExpandGood d (expand d)
   unfolding expand
-  expand-good zero ph e p x s g v i = stops tooManyEntries (s .left) tt
-  expand-good (suc d) ph e p x s g v i =
+  expand-good zero here x s g v i = stops tooManyEntries (s .left) tt
+  expand-good (suc d) here x s g v i =
       chain _ (charge-out 1 s) (λ a t kp. let w : Grows k s t = kept-grows k s t kp in
-      weaken (entry-out d (λ q f r y. expand d q f r y) (expand-good d) ph e p x t (w .keeps g) (env-grows k ph s t w e v) (piece-grows s t x w i)) (λ r s′ b.
-      expanded-after k (suc d) (suc d) ph e s t s′ r (le-refl (suc d)) w b))
+      weaken (entry-out d (λ there y. expand d there y) (expand-good d) here x t (w .keeps g) (env-grows k (here .phase) s t w (here .meanings) v) (piece-grows s t x w i)) (λ r s′ b.
+      expanded-after k (suc d) (suc d) (here .phase) (here .meanings) s t s′ r (le-refl (suc d)) w b))

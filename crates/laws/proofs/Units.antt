@@ -17,7 +17,7 @@ use Rattle.model.specs.Resolving.{Bind, insert, Found, means, several, resolve}
 use Rattle.model.specs.Steps.{State, Out, ok, no, Step, after, done, refuse, unless, charge, made, madeTree, addTo, flipIn, pruneFrom, freshName, freshScope, bind, nameOf, resolveAt, parts1, parts2, parts3, identifier}
 use Rattle.model.specs.Evaluating.{evaluate, evalEntry, applicable, eachTree, argument, apply, primitive, orWrongKind}
 use Rattle.model.specs.Parsing.{Form, lambda, letSyntax, quote, syntax, formOf, headForm, parseAll, parseForm, parseEntry, parse}
-use Rattle.model.specs.Expanding.{Meaning, core, variable, macro, unknown, Env, coreOnly, extend, meaning, headMeaning, expandName, Binder, bindFresh, Expander, expandAll, expandApplication, expandFunction, expandLambda, expandSyntax, expandBinding, expandLetSyntax, orNoSyntax, expandMacro, expandForm, expandEntry, expand}
+use Rattle.model.specs.Expanding.{Meaning, core, variable, macro, unknown, Env, meaning, headMeaning, expandName, bindFresh, Surroundings, ofRightHandSide, ofBody, ofResult, Expander, expandAll, expandApplication, expandFunction, expandLambda, expandSyntax, expandBinding, expandLetSyntax, orNoSyntax, expandMacro, expandForm, expandEntry, expand}
 use Rattle.laws.proofs.StepLaws.{no≢ok, both-ok, spend, charge-ok}
 
 -- the units left after a step, granted or refused
@@ -372,7 +372,7 @@ orNoSyntax-no-rise (some s) = done-no-rise s
 
 -- an expander all of whose steps never rise
 abbrev Steady : Expander → Type 0
-Steady self = (ph : ℕ) (e : Env) (p : Scopes) (x : Stx) → NoRise (self ph e p x)
+Steady self = (here : Surroundings) (x : Stx) → NoRise (self here x)
 
 expandAll-no-rise : (self : Stx → Step Stx) → ((x : Stx) → NoRise (self x)) → (l : Stxs) → NoRise (expandAll self l)
 unfolding expandAll
@@ -381,70 +381,70 @@ expandAll-no-rise self h (cons x l) =
     then-no-rise (self x) _ (h x) (λ t. then-no-rise (expandAll self l) _ (expandAll-no-rise self h l) (λ r. done-no-rise (cons t r)))
 
 module _ (self : Expander) (steady : Steady self) where
-  application-no-rise : (ph : ℕ) (e : Env) (p : Scopes) (c : Sets) (l : Stxs) → NoRise (expandApplication self ph e p c l)
+  application-no-rise : (here : Surroundings) (c : Sets) (l : Stxs) → NoRise (expandApplication self here c l)
   unfolding expandApplication
-  application-no-rise ph e p c l =
-      then-no-rise (expandAll (self ph e p) l) _ (expandAll-no-rise (self ph e p) (steady ph e p) l) (λ r. made-no-rise (list c r))
+  application-no-rise here c l =
+      then-no-rise (expandAll (self here) l) _ (expandAll-no-rise (self here) (steady here) l) (λ r. made-no-rise (list c r))
 
-  function-no-rise : (ph : ℕ) (e : Env) (p : Scopes) (c : Sets) (h : Stx) (ci : Sets) (x : ℕ) (body : Stx) → NoRise (expandFunction self ph e p c h ci x body)
+  function-no-rise : (here : Surroundings) (c : Sets) (h : Stx) (ci : Sets) (x : ℕ) (body : Stx) → NoRise (expandFunction self here c h ci x body)
   unfolding expandFunction
-  function-no-rise ph e p c h ci x body =
-      then-no-rise (bindFresh ph ci x) _ (bindFresh-no-rise ph ci x) (λ b.
-      then-no-rise (addTo (b .scope) ph body) _ (addTo-no-rise (b .scope) ph body) (λ i.
-      then-no-rise (self ph (extend (b .name) (variable (b .sets) x) e) (add (b .scope) p) i) _ (steady ph _ _ i) (λ o. made-no-rise (list c (cons h (cons (atom (b .sets) (symbol x)) (cons o nil)))))))
+  function-no-rise here c h ci x body =
+      then-no-rise (bindFresh (here .phase) ci x) _ (bindFresh-no-rise (here .phase) ci x) (λ b.
+      then-no-rise (addTo (b .scope) (here .phase) body) _ (addTo-no-rise (b .scope) (here .phase) body) (λ i.
+      then-no-rise (self (ofBody b (variable (b .sets) x) here) i) _ (steady _ i) (λ o. made-no-rise (list c (cons h (cons (atom (b .sets) (symbol x)) (cons o nil)))))))
 
-  binding-no-rise : (d ph : ℕ) (e : Env) (p : Scopes) (ci : Sets) (x : ℕ) (rhs body : Stx) → NoRise (expandBinding self d ph e p ci x rhs body)
+  binding-no-rise : (d : ℕ) (here : Surroundings) (ci : Sets) (x : ℕ) (rhs body : Stx) → NoRise (expandBinding self d here ci x rhs body)
   unfolding expandBinding
-  binding-no-rise d ph e p ci x rhs body =
-      then-no-rise (bindFresh ph ci x) _ (bindFresh-no-rise ph ci x) (λ b.
-      then-no-rise (unless noPhase (leb (ph + 1) lastPhase)) _ (unless-no-rise noPhase (leb (ph + 1) lastPhase)) (λ u.
-      then-no-rise (self (ph + 1) coreOnly 0 rhs) _ (steady (ph + 1) coreOnly 0 rhs) (λ r.
-      then-no-rise (parse d (ph + 1) r) _ (parse-no-rise d (ph + 1) r) (λ t.
+  binding-no-rise d here ci x rhs body =
+      then-no-rise (bindFresh (here .phase) ci x) _ (bindFresh-no-rise (here .phase) ci x) (λ b.
+      then-no-rise (unless noPhase (leb (here .phase + 1) lastPhase)) _ (unless-no-rise noPhase (leb (here .phase + 1) lastPhase)) (λ u.
+      then-no-rise (self (ofRightHandSide here) rhs) _ (steady (ofRightHandSide here) rhs) (λ r.
+      then-no-rise (parse d (here .phase + 1) r) _ (parse-no-rise d (here .phase + 1) r) (λ t.
       then-no-rise (evaluate d t) _ (evaluate-no-rise d t) (λ v.
-      then-no-rise (addTo (b .scope) ph body) _ (addTo-no-rise (b .scope) ph body) (λ i. steady ph _ _ i))))))
+      then-no-rise (addTo (b .scope) (here .phase) body) _ (addTo-no-rise (b .scope) (here .phase) body) (λ i. steady _ i))))))
 
-  macro-no-rise : (d ph : ℕ) (e : Env) (p : Scopes) (v : Tree) (form : Stx) → NoRise (expandMacro self d ph e p v form)
+  macro-no-rise : (d : ℕ) (here : Surroundings) (v : Tree) (form : Stx) → NoRise (expandMacro self d here v form)
   unfolding expandMacro
-  macro-no-rise d ph e p v form =
+  macro-no-rise d here v form =
       then-no-rise freshScope _ freshScope-no-rise (λ outer.
       then-no-rise freshScope _ freshScope-no-rise (λ intro.
-      then-no-rise (addTo outer ph form) _ (addTo-no-rise outer ph form) (λ used.
-      then-no-rise (flipIn intro ph used) _ (flipIn-no-rise intro ph used) (λ marked.
+      then-no-rise (addTo outer (here .phase) form) _ (addTo-no-rise outer (here .phase) form) (λ used.
+      then-no-rise (flipIn intro (here .phase) used) _ (flipIn-no-rise intro (here .phase) used) (λ marked.
       then-no-rise (evaluate d (app v (tcons (stx marked) tnil))) _ (evaluate-no-rise d _) (λ r.
       then-no-rise (orNoSyntax (asStx r)) _ (orNoSyntax-no-rise (asStx r)) (λ s.
-      then-no-rise (flipIn intro ph s) _ (flipIn-no-rise intro ph s) (λ back. steady ph e (add outer p) back)))))))
+      then-no-rise (flipIn intro (here .phase) s) _ (flipIn-no-rise intro (here .phase) s) (λ back. steady (ofResult outer here) back)))))))
 
-  form-no-rise : (d ph : ℕ) (e : Env) (p : Scopes) (c : Sets) (h : Stx) (l : Stxs) (m : Meaning) → NoRise (expandForm self d ph e p c h l m)
+  form-no-rise : (d : ℕ) (here : Surroundings) (c : Sets) (h : Stx) (l : Stxs) (m : Meaning) → NoRise (expandForm self d here c h l m)
   unfolding expandForm expandLambda expandLetSyntax expandSyntax
-  form-no-rise d ph e p c h l (core lambda) =
-      parts2-no-rise l _ (λ i body. identifier-no-rise i _ (λ ci x. function-no-rise ph e p c h ci x body))
-  form-no-rise d ph e p c h l (core letSyntax) =
-      parts3-no-rise l _ (λ i rhs body. identifier-no-rise i _ (λ ci x. binding-no-rise d ph e p ci x rhs body))
-  form-no-rise d ph e p c h l (core quote) = parts1-no-rise l _ (λ s. done-no-rise (list c (cons h l)))
-  form-no-rise d ph e p c h l (core syntax) =
-      parts1-no-rise l _ (λ s. then-no-rise (pruneFrom p ph s) _ (pruneFrom-no-rise p ph s) (λ t. done-no-rise _))
-  form-no-rise d ph e p c h l (variable b x) = application-no-rise ph e p c (cons h l)
-  form-no-rise d ph e p c h l (macro v) = macro-no-rise d ph e p v (list c (cons h l))
-  form-no-rise d ph e p c h l unknown = application-no-rise ph e p c (cons h l)
+  form-no-rise d here c h l (core lambda) =
+      parts2-no-rise l _ (λ i body. identifier-no-rise i _ (λ ci x. function-no-rise here c h ci x body))
+  form-no-rise d here c h l (core letSyntax) =
+      parts3-no-rise l _ (λ i rhs body. identifier-no-rise i _ (λ ci x. binding-no-rise d here ci x rhs body))
+  form-no-rise d here c h l (core quote) = parts1-no-rise l _ (λ s. done-no-rise (list c (cons h l)))
+  form-no-rise d here c h l (core syntax) =
+      parts1-no-rise l _ (λ s. then-no-rise (pruneFrom (here .prunable) (here .phase) s) _ (pruneFrom-no-rise (here .prunable) (here .phase) s) (λ t. done-no-rise _))
+  form-no-rise d here c h l (variable b x) = application-no-rise here c (cons h l)
+  form-no-rise d here c h l (macro v) = macro-no-rise d here v (list c (cons h l))
+  form-no-rise d here c h l unknown = application-no-rise here c (cons h l)
 
-  expandEntry-no-rise : (d ph : ℕ) (e : Env) (p : Scopes) (x : Stx) → NoRise (expandEntry self d ph e p x)
+  expandEntry-no-rise : (d : ℕ) (here : Surroundings) (x : Stx) → NoRise (expandEntry self d here x)
   unfolding expandEntry
-  expandEntry-no-rise d ph e p (atom c (symbol x)) =
-      then-no-rise (resolveAt ph c x) _ (resolveAt-no-rise ph c x) (λ n. expandName-no-rise (meaning n e))
-  expandEntry-no-rise d ph e p (atom c (number x)) = done-no-rise _
-  expandEntry-no-rise d ph e p (atom c (point x)) = done-no-rise _
-  expandEntry-no-rise d ph e p (atom c (prim x)) = done-no-rise _
-  expandEntry-no-rise d ph e p (atom c (rung x)) = done-no-rise _
-  expandEntry-no-rise d ph e p (list c nil) = refuse-no-rise noRule
-  expandEntry-no-rise d ph e p (list c (cons h l)) =
-      then-no-rise (headMeaning ph e h) _ (headMeaning-no-rise ph e h) (λ m. form-no-rise d ph e p c h l m)
+  expandEntry-no-rise d here (atom c (symbol x)) =
+      then-no-rise (resolveAt (here .phase) c x) _ (resolveAt-no-rise (here .phase) c x) (λ n. expandName-no-rise (meaning n (here .meanings)))
+  expandEntry-no-rise d here (atom c (number x)) = done-no-rise _
+  expandEntry-no-rise d here (atom c (point x)) = done-no-rise _
+  expandEntry-no-rise d here (atom c (prim x)) = done-no-rise _
+  expandEntry-no-rise d here (atom c (rung x)) = done-no-rise _
+  expandEntry-no-rise d here (list c nil) = refuse-no-rise noRule
+  expandEntry-no-rise d here (list c (cons h l)) =
+      then-no-rise (headMeaning (here .phase) (here .meanings) h) _ (headMeaning-no-rise (here .phase) (here .meanings) h) (λ m. form-no-rise d here c h l m)
 
-pub expand-no-rise : (d ph : ℕ) (e : Env) (p : Scopes) (x : Stx) → NoRise (expand d ph e p x)
+pub expand-no-rise : (d : ℕ) (here : Surroundings) (x : Stx) → NoRise (expand d here x)
 unfolding expand
-expand-no-rise zero ph e p x = refuse-no-rise tooManyEntries
-expand-no-rise (suc d) ph e p x =
+expand-no-rise zero here x = refuse-no-rise tooManyEntries
+expand-no-rise (suc d) here x =
     then-no-rise (charge 1) _ (charge-no-rise 1) (λ u.
-    expandEntry-no-rise (λ q f r y. expand d q f r y) (λ q f r y. expand-no-rise d q f r y) d ph e p x)
+    expandEntry-no-rise (λ there y. expand d there y) (λ there y. expand-no-rise d there y) d here x)
 
 -- ---- an entry that succeeds costs at least one unit
 
@@ -470,12 +470,12 @@ parse-falls zero ph x r s t e = absurd (no≢ok tooManyEntries (s .left) r t e)
 parse-falls (suc d) ph x r s t e =
     entry-falls (parseEntry (λ y. parse d ph y) ph x) (parseEntry-no-rise (λ y. parse d ph y) (λ y. parse-no-rise d ph y) ph x) r s t e
 
-pub expand-falls : (d ph : ℕ) (e : Env) (p : Scopes) (x r : Stx) (s t : State) → expand d ph e p x s ≡ ok r t → t .left < s .left
+pub expand-falls : (d : ℕ) (here : Surroundings) (x r : Stx) (s t : State) → expand d here x s ≡ ok r t → t .left < s .left
 unfolding expand
-expand-falls zero ph e p x r s t q = absurd (no≢ok tooManyEntries (s .left) r t q)
-expand-falls (suc d) ph e p x r s t q =
-    entry-falls (expandEntry (λ a b c y. expand d a b c y) d ph e p x)
-    (expandEntry-no-rise (λ a b c y. expand d a b c y) (λ a b c y. expand-no-rise d a b c y) d ph e p x) r s t q
+expand-falls zero here x r s t q = absurd (no≢ok tooManyEntries (s .left) r t q)
+expand-falls (suc d) here x r s t q =
+    entry-falls (expandEntry (λ there y. expand d there y) d here x)
+    (expandEntry-no-rise (λ there y. expand d there y) (λ there y. expand-no-rise d there y) d here x) r s t q
 
 -- ---- of a step that is granted, and of one that is refused
 

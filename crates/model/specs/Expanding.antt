@@ -72,10 +72,34 @@ bindFresh ph c x = do
   bind (record { symb = x; target = n; set = setAt ph (changeAt (add k) ph c) })
   done (record { name = n; scope = k; sets = changeAt (add k) ph c })
 
--- ---- forms. `self ph e p` expands at a phase, with meanings and a prunable set, as a further entry.
+-- ---- where an object is expanded
+
+pub record Surroundings : Type 0 where
+  pub phase : Phase
+  pub meanings : Env
+  pub prunable : Scopes
+
+-- of the root
+abbrev pub ofRoot : Phase → Surroundings
+ofRoot ph = record { phase = ph; meanings = coreOnly; prunable = noScopes }
+
+-- of a right-hand side: the phase above, core meanings, nothing prunable
+abbrev pub ofRightHandSide : Surroundings → Surroundings
+ofRightHandSide here = ofRoot (here .phase + 1)
+
+-- of a binder's body: its name means m, its scope is prunable
+abbrev pub ofBody : Binder → Meaning → Surroundings → Surroundings
+ofBody b m here =
+    record { phase = here .phase; meanings = extend (b .name) m (here .meanings); prunable = add (b .scope) (here .prunable) }
+
+-- of what a macro gives: the scope of its use is prunable
+abbrev pub ofResult : Scope → Surroundings → Surroundings
+ofResult use-scope here = record { phase = here .phase; meanings = here .meanings; prunable = add use-scope (here .prunable) }
+
+-- ---- forms. `self here x` expands x there, as a further entry.
 
 abbrev pub Expander : Type 0
-Expander = Phase → Env → Scopes → Stx → Step Stx
+Expander = Surroundings → Stx → Step Stx
 
 unfoldable pub expandAll : (Stx → Step Stx) → Stxs → Step Stxs
 expandAll self nil = done nil
@@ -84,92 +108,92 @@ expandAll self (cons s l) = do
   r ← expandAll self l
   done (cons t r)
 
-unfoldable pub expandApplication : Expander → Phase → Env → Scopes → Sets → Stxs → Step Stx
+unfoldable pub expandApplication : Expander → Surroundings → Sets → Stxs → Step Stx
 unfolding expandAll made
-expandApplication self ph e p c l = do
-  r ← expandAll (self ph e p) l
+expandApplication self here c l = do
+  r ← expandAll (self here) l
   made (list c r)
 
 -- (lambda id body) with sets c and head h, where id has sets ci and symbol x
-unfoldable pub expandFunction : Expander → Phase → Env → Scopes → Sets → Stx → Sets → Symbol → Stx → Step Stx
+unfoldable pub expandFunction : Expander → Surroundings → Sets → Stx → Sets → Symbol → Stx → Step Stx
 unfolding bindFresh addTo made add
-expandFunction self ph e p c h ci x body = do
-  b ← bindFresh ph ci x
-  in-scope ← addTo (b .scope) ph body
-  out ← self ph (extend (b .name) (variable (b .sets) x) e) (add (b .scope) p) in-scope
+expandFunction self here c h ci x body = do
+  b ← bindFresh (here .phase) ci x
+  in-scope ← addTo (b .scope) (here .phase) body
+  out ← self (ofBody b (variable (b .sets) x) here) in-scope
   made (list c (cons h (cons (atom (b .sets) (symbol x)) (cons out nil))))
 
-unfoldable pub expandLambda : Expander → Phase → Env → Scopes → Sets → Stx → Stxs → Step Stx
+unfoldable pub expandLambda : Expander → Surroundings → Sets → Stx → Stxs → Step Stx
 unfolding parts2 identifier expandFunction
-expandLambda self ph e p c h l = parts2 l (λ i body. identifier i (λ ci x. expandFunction self ph e p c h ci x body))
+expandLambda self here c h l = parts2 l (λ i body. identifier i (λ ci x. expandFunction self here c h ci x body))
 
-unfoldable pub expandSyntax : Phase → Scopes → Sets → Stx → Stxs → Step Stx
+unfoldable pub expandSyntax : Surroundings → Sets → Stx → Stxs → Step Stx
 unfolding parts1 pruneFrom
-expandSyntax ph p c h l = parts1 l (λ s. do
-  t ← pruneFrom p ph s
+expandSyntax here c h l = parts1 l (λ s. do
+  t ← pruneFrom (here .prunable) (here .phase) s
   done (list c (cons h (cons t nil))))
 
 -- (let-syntax id rhs body), where id has sets ci and symbol x; d: entries to spare for the right-hand side
-unfoldable pub expandBinding : Expander → Entries → Phase → Env → Scopes → Sets → Symbol → Stx → Stx → Step Stx
+unfoldable pub expandBinding : Expander → Entries → Surroundings → Sets → Symbol → Stx → Stx → Step Stx
 unfolding bindFresh addTo add parse evaluate lastPhase
-expandBinding self d ph e p ci x rhs body = do
-  b ← bindFresh ph ci x
-  unless noPhase (leb (ph + 1) lastPhase)
-  r ← self (ph + 1) coreOnly noScopes rhs
-  t ← parse d (ph + 1) r
+expandBinding self d here ci x rhs body = do
+  b ← bindFresh (here .phase) ci x
+  unless noPhase (leb (here .phase + 1) lastPhase)
+  r ← self (ofRightHandSide here) rhs
+  t ← parse d (here .phase + 1) r
   v ← evaluate d t
-  in-scope ← addTo (b .scope) ph body
-  self ph (extend (b .name) (macro v) e) (add (b .scope) p) in-scope
+  in-scope ← addTo (b .scope) (here .phase) body
+  self (ofBody b (macro v) here) in-scope
 
-unfoldable pub expandLetSyntax : Expander → Entries → Phase → Env → Scopes → Stxs → Step Stx
+unfoldable pub expandLetSyntax : Expander → Entries → Surroundings → Stxs → Step Stx
 unfolding parts3 identifier expandBinding
-expandLetSyntax self d ph e p l = parts3 l (λ i rhs body. identifier i (λ ci x. expandBinding self d ph e p ci x rhs body))
+expandLetSyntax self d here l = parts3 l (λ i rhs body. identifier i (λ ci x. expandBinding self d here ci x rhs body))
 
 unfoldable pub orNoSyntax : Option Stx → Step Stx
 orNoSyntax none = refuse noSyntax
 orNoSyntax (some s) = done s
 
-unfoldable pub expandMacro : Expander → Entries → Phase → Env → Scopes → Tree → Stx → Step Stx
+unfoldable pub expandMacro : Expander → Entries → Surroundings → Tree → Stx → Step Stx
 unfolding freshScope addTo flipIn evaluate asStx orNoSyntax add
-expandMacro self d ph e p v form = do
+expandMacro self d here v form = do
   use-scope ← freshScope
   intro ← freshScope
-  used ← addTo use-scope ph form
-  marked ← flipIn intro ph used
+  used ← addTo use-scope (here .phase) form
+  marked ← flipIn intro (here .phase) used
   r ← evaluate d (app v (tcons (stx marked) tnil))
   s ← orNoSyntax (asStx r)
-  back ← flipIn intro ph s
-  self ph e (add use-scope p) back
+  back ← flipIn intro (here .phase) s
+  self (ofResult use-scope here) back
 
 -- the list with sets c of head h and tail l, by the head's meaning
-unfoldable pub expandForm : Expander → Entries → Phase → Env → Scopes → Sets → Stx → Stxs → Meaning → Step Stx
+unfoldable pub expandForm : Expander → Entries → Surroundings → Sets → Stx → Stxs → Meaning → Step Stx
 unfolding expandLambda expandLetSyntax expandSyntax expandMacro expandApplication parts1
-expandForm self d ph e p c h l (core lambda) = expandLambda self ph e p c h l
-expandForm self d ph e p c h l (core letSyntax) = expandLetSyntax self d ph e p l
-expandForm self d ph e p c h l (core quote) = parts1 l (λ s. done (list c (cons h l)))
-expandForm self d ph e p c h l (core syntax) = expandSyntax ph p c h l
-expandForm self d ph e p c h l (variable b x) = expandApplication self ph e p c (cons h l)
-expandForm self d ph e p c h l (macro v) = expandMacro self d ph e p v (list c (cons h l))
-expandForm self d ph e p c h l unknown = expandApplication self ph e p c (cons h l)
+expandForm self d here c h l (core lambda) = expandLambda self here c h l
+expandForm self d here c h l (core letSyntax) = expandLetSyntax self d here l
+expandForm self d here c h l (core quote) = parts1 l (λ s. done (list c (cons h l)))
+expandForm self d here c h l (core syntax) = expandSyntax here c h l
+expandForm self d here c h l (variable b x) = expandApplication self here c (cons h l)
+expandForm self d here c h l (macro v) = expandMacro self d here v (list c (cons h l))
+expandForm self d here c h l unknown = expandApplication self here c (cons h l)
 
-unfoldable pub expandEntry : Expander → Entries → Phase → Env → Scopes → Stx → Step Stx
+unfoldable pub expandEntry : Expander → Entries → Surroundings → Stx → Step Stx
 unfolding resolveAt meaning expandName headMeaning expandForm
-expandEntry self d ph e p (atom c (symbol x)) = do
-  n ← resolveAt ph c x
-  expandName (meaning n e)
-expandEntry self d ph e p (atom c (number x)) = done (atom c (number x))
-expandEntry self d ph e p (atom c (point x)) = done (atom c (point x))
-expandEntry self d ph e p (atom c (prim x)) = done (atom c (prim x))
-expandEntry self d ph e p (atom c (rung x)) = done (atom c (rung x))
-expandEntry self d ph e p (list c nil) = refuse noRule
-expandEntry self d ph e p (list c (cons h l)) = do
-  m ← headMeaning ph e h
-  expandForm self d ph e p c h l m
+expandEntry self d here (atom c (symbol x)) = do
+  n ← resolveAt (here .phase) c x
+  expandName (meaning n (here .meanings))
+expandEntry self d here (atom c (number x)) = done (atom c (number x))
+expandEntry self d here (atom c (point x)) = done (atom c (point x))
+expandEntry self d here (atom c (prim x)) = done (atom c (prim x))
+expandEntry self d here (atom c (rung x)) = done (atom c (rung x))
+expandEntry self d here (list c nil) = refuse noRule
+expandEntry self d here (list c (cons h l)) = do
+  m ← headMeaning (here .phase) (here .meanings) h
+  expandForm self d here c h l m
 
 -- expand with d entries to spare
-unfoldable pub expand : Entries → Phase → Env → Scopes → Stx → Step Stx
+unfoldable pub expand : Entries → Surroundings → Stx → Step Stx
 unfolding charge expandEntry
-expand zero ph e p s = refuse tooManyEntries
-expand (suc d) ph e p s = do
+expand zero here s = refuse tooManyEntries
+expand (suc d) here s = do
   charge 1
-  expandEntry (λ q f r x. expand d q f r x) d ph e p s
+  expandEntry (λ there x. expand d there x) d here s

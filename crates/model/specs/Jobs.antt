@@ -8,7 +8,6 @@ use lib.ListN.{length, drop, replicate}
 use Rattle.model.specs.Choice.{if_then_else_}
 use Rattle.model.specs.Limits.{mostEntries, mostBudget, mostImage, lastPhase, wordsPerUnit, programBudget}
 use Rattle.model.specs.Refusals.{Refusal, unowned, smallTable, noPhase, tooLong, codeOf}
-use Rattle.model.specs.Scopes.{noScopes}
 use Rattle.model.specs.Objects.{Name, Phase, Stx, size}
 use Rattle.model.specs.Trees.{Tree, var, app, fun, datum, lst, stx, Trees, tnil, tcons, loadSize}
 use Rattle.model.specs.Reading.{Read, got, fault, Head, Image, readSyntax, readTreeImage, readImage}
@@ -16,7 +15,7 @@ use Rattle.model.specs.Writing.{syntaxBytes, treeImageBytes}
 use Rattle.model.specs.Steps.{Units, State, Out, ok, no, Step, _>>=_, _>>_, done, charge, resolveAt, identifier}
 use Rattle.model.specs.Evaluating.{evaluate}
 use Rattle.model.specs.Parsing.{parse}
-use Rattle.model.specs.Expanding.{expand, coreOnly}
+use Rattle.model.specs.Expanding.{ofRoot, expand}
 
 -- ---- how a job ends, each after so many units
 
@@ -111,7 +110,7 @@ unfoldable pub expandRoot : Phase → Stx → Step Stx
 unfolding charge size expand mostEntries
 expandRoot ph x = do
   charge (size x)
-  expand mostEntries ph coreOnly noScopes x
+  expand mostEntries (ofRoot ph) x
 
 unfoldable pub parseRoot : Stx → Step Tree
 unfolding charge size parse mostEntries

@@ -8,12 +8,11 @@ use mathlib.Core.List.{List, []}
 use lib.ListN.{length, getD}
 use Rattle.model.specs.Limits.{mostEntries}
 use Rattle.model.specs.Refusals.{layout}
-use Rattle.model.specs.Scopes.{Scopes}
 use Rattle.model.specs.Objects.{symbol, number, point, prim, rung, Sets, Stx, atom, list, Stxs, nil, cons, size}
 use Rattle.model.specs.Reading.{fault, readSyntax, readImage}
 use Rattle.model.specs.Steps.{State, Step, after, charge}
 use Rattle.model.specs.Parsing.{lambda, letSyntax, quote, syntax}
-use Rattle.model.specs.Expanding.{Meaning, core, variable, macro, unknown, Env, coreOnly, headMeaning, Expander, expandForm, expandEntry, expand}
+use Rattle.model.specs.Expanding.{Meaning, core, variable, macro, unknown, headMeaning, Surroundings, ofRoot, Expander, expandForm, expandEntry, expand}
 use Rattle.model.specs.Writing.{syntaxBytes}
 use Rattle.model.specs.Jobs.{Result, lent, atPhase, withImage, start, worked, fitted, reached, expandRoot, expandEnding, expandJob}
 use Rattle.codec_laws.proofs.NumberTrip.{fault≢got}
@@ -25,44 +24,44 @@ use Rattle.proof_bench.proofs.Samples.{identity, applied, doubled, nest
 
 -- ---- with the rules as defined
 
-right-form : (self : Expander) (d ph : ℕ) (e : Env) (p : Scopes) (c : Sets) (h : Stx) (l : Stxs) (m : Meaning)
-    → ruledForm rightRules self d ph e p c h l m ≡ expandForm self d ph e p c h l m
+right-form : (self : Expander) (d : ℕ) (here : Surroundings) (c : Sets) (h : Stx) (l : Stxs) (m : Meaning)
+    → ruledForm rightRules self d here c h l m ≡ expandForm self d here c h l m
 unfolding ruledForm rightRules expandForm
-right-form self d ph e p c h l (core lambda) = refl
-right-form self d ph e p c h l (core letSyntax) = refl
-right-form self d ph e p c h l (core quote) = refl
-right-form self d ph e p c h l (core syntax) = refl
-right-form self d ph e p c h l (variable b x) = refl
-right-form self d ph e p c h l (macro v) = refl
-right-form self d ph e p c h l unknown = refl
+right-form self d here c h l (core lambda) = refl
+right-form self d here c h l (core letSyntax) = refl
+right-form self d here c h l (core quote) = refl
+right-form self d here c h l (core syntax) = refl
+right-form self d here c h l (variable b x) = refl
+right-form self d here c h l (macro v) = refl
+right-form self d here c h l unknown = refl
 
-right-entry : (self : Expander) (d ph : ℕ) (e : Env) (p : Scopes) (x : Stx) → ruledEntry rightRules self d ph e p x ≡ expandEntry self d ph e p x
+right-entry : (self : Expander) (d : ℕ) (here : Surroundings) (x : Stx) → ruledEntry rightRules self d here x ≡ expandEntry self d here x
 unfolding ruledEntry rightRules expandEntry
-right-entry self d ph e p (atom c (symbol x)) = refl
-right-entry self d ph e p (atom c (number x)) = refl
-right-entry self d ph e p (atom c (point x)) = refl
-right-entry self d ph e p (atom c (prim x)) = refl
-right-entry self d ph e p (atom c (rung x)) = refl
-right-entry self d ph e p (list c nil) = refl
-right-entry self d ph e p (list c (cons h l)) =
-    ap (λ (f : Meaning → Step Stx). λ (s : State). after (headMeaning ph e h s) f) (fun-ext (λ m. right-form self d ph e p c h l m))
+right-entry self d here (atom c (symbol x)) = refl
+right-entry self d here (atom c (number x)) = refl
+right-entry self d here (atom c (point x)) = refl
+right-entry self d here (atom c (prim x)) = refl
+right-entry self d here (atom c (rung x)) = refl
+right-entry self d here (list c nil) = refl
+right-entry self d here (list c (cons h l)) =
+    ap (λ (f : Meaning → Step Stx). λ (s : State). after (headMeaning (here .phase) (here .meanings) h s) f) (fun-ext (λ m. right-form self d here c h l m))
 
 -- expanders that agree are equal
-same-expander : (a b : Expander) → ((ph : ℕ) (e : Env) (p : Scopes) (x : Stx) → a ph e p x ≡ b ph e p x) → a ≡ b
-same-expander a b h = fun-ext (λ ph. fun-ext (λ e. fun-ext (λ p. fun-ext (λ x. h ph e p x))))
+same-expander : (a b : Expander) → ((here : Surroundings) (x : Stx) → a here x ≡ b here x) → a ≡ b
+same-expander a b h = fun-ext (λ here. fun-ext (λ x. h here x))
 
-right-expand : (d ph : ℕ) (e : Env) (p : Scopes) (x : Stx) → ruledExpand rightRules d ph e p x ≡ expand d ph e p x
+right-expand : (d : ℕ) (here : Surroundings) (x : Stx) → ruledExpand rightRules d here x ≡ expand d here x
 unfolding ruledExpand expand
-right-expand zero ph e p x = refl
-right-expand (suc d) ph e p x =
-    ap (λ (self : Expander). λ (s : State). after (charge 1 s) (λ (v : Unit {0}). ruledEntry rightRules self d ph e p x))
-    (same-expander (λ q f r y. ruledExpand rightRules d q f r y) (λ q f r y. expand d q f r y) (right-expand d))
-    ∙ ap (λ (g : Step Stx). λ (s : State). after (charge 1 s) (λ (v : Unit {0}). g)) (right-entry (λ q f r y. expand d q f r y) d ph e p x)
+right-expand zero here x = refl
+right-expand (suc d) here x =
+    ap (λ (self : Expander). λ (s : State). after (charge 1 s) (λ (v : Unit {0}). ruledEntry rightRules self d here x))
+    (same-expander (λ there y. ruledExpand rightRules d there y) (λ there y. expand d there y) (right-expand d))
+    ∙ ap (λ (g : Step Stx). λ (s : State). after (charge 1 s) (λ (v : Unit {0}). g)) (right-entry (λ there y. expand d there y) d here x)
 
 right-root : (ph : ℕ) (x : Stx) → ruledRoot rightRules ph x ≡ expandRoot ph x
 unfolding ruledRoot expandRoot
 right-root ph x =
-    ap (λ (g : Step Stx). λ (s : State). after (charge (size x) s) (λ (v : Unit {0}). g)) (right-expand mostEntries ph coreOnly 0 x)
+    ap (λ (g : Step Stx). λ (s : State). after (charge (size x) s) (λ (v : Unit {0}). g)) (right-expand mostEntries (ofRoot ph) x)
 
 right-ending : (image : List ℕ) (ph budget output : ℕ) → ruledEnding rightRules image ph budget output ≡ expandEnding image ph budget output
 unfolding ruledEnding expandEnding

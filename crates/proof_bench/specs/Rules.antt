@@ -4,82 +4,82 @@ use mathlib.Core.List.{List}
 use lib.ListN.{length}
 use Rattle.model.specs.Limits.{mostEntries}
 use Rattle.model.specs.Refusals.{noRule, tooManyEntries}
-use Rattle.model.specs.Scopes.{Scopes, add}
-use Rattle.model.specs.Objects.{symbol, number, point, prim, rung, Sets, setAt, changeAt, Stx, atom, list, Stxs, nil, cons, size}
+use Rattle.model.specs.Scopes.{Scope, add}
+use Rattle.model.specs.Objects.{Symbol, Phase, symbol, number, point, prim, rung, Sets, setAt, changeAt, Stx, atom, list, Stxs, nil, cons, size}
 use Rattle.model.specs.Reading.{readSyntax, readImage}
 use Rattle.model.specs.Writing.{syntaxBytes}
-use Rattle.model.specs.Steps.{Step, ok, done, refuse, charge, made, addTo, freshScope, bind, resolveAt, parts1, parts2, identifier, _>>=_, _>>_}
+use Rattle.model.specs.Steps.{Units, Entries, Step, ok, done, refuse, charge, made, addTo, freshScope, bind, resolveAt, parts1, parts2, identifier, _>>=_, _>>_}
 use Rattle.model.specs.Parsing.{lambda, letSyntax, quote, syntax}
-use Rattle.model.specs.Expanding.{Meaning, core, variable, macro, unknown, Env, coreOnly, extend, meaning, headMeaning, expandName, Binder, bindFresh, Expander, expandAll, expandSyntax, expandLetSyntax, expandMacro}
+use Rattle.model.specs.Expanding.{Meaning, core, variable, macro, unknown, meaning, headMeaning, expandName, Binder, bindFresh, Surroundings, ofRoot, ofBody, Expander, expandAll, expandSyntax, expandLetSyntax, expandMacro}
 use Rattle.model.specs.Jobs.{Ending, lent, atPhase, withImage, start, worked, fitted, reached}
 use Rattle.proof_bench.specs.Contracts.{Expanding}
 
 pub record Rules : Type 0 where
   -- a fresh name and scope for lambda's binder
-  pub binder : ℕ → Sets → ℕ → Step Binder
+  pub binder : Phase → Sets → Symbol → Step Binder
   -- lambda's body with the binder's scope
-  pub inScope : ℕ → ℕ → Stx → Step Stx
+  pub inScope : Scope → Phase → Stx → Step Stx
   -- what an identifier with its sets and symbol means
-  pub means : Sets → ℕ → Meaning → Meaning
+  pub means : Sets → Symbol → Meaning → Meaning
   -- the parts of an application
   pub parts : (Stx → Step Stx) → Stxs → Step Stxs
 
-unfoldable pub ruledFunction : Rules → Expander → ℕ → Env → Scopes → Sets → Stx → Sets → ℕ → Stx → Step Stx
+unfoldable pub ruledFunction : Rules → Expander → Surroundings → Sets → Stx → Sets → Symbol → Stx → Step Stx
 unfolding made add
-ruledFunction w self ph e p c h ci x body = do
-  b ← w .binder ph ci x
-  in-scope ← w .inScope (b .scope) ph body
-  out ← self ph (extend (b .name) (variable (b .sets) x) e) (add (b .scope) p) in-scope
+ruledFunction w self here c h ci x body = do
+  b ← w .binder (here .phase) ci x
+  in-scope ← w .inScope (b .scope) (here .phase) body
+  out ← self (ofBody b (variable (b .sets) x) here) in-scope
   made (list c (cons h (cons (atom (b .sets) (symbol x)) (cons out nil))))
 
-unfoldable pub ruledLambda : Rules → Expander → ℕ → Env → Scopes → Sets → Stx → Stxs → Step Stx
+unfoldable pub ruledLambda : Rules → Expander → Surroundings → Sets → Stx → Stxs → Step Stx
 unfolding parts2 identifier ruledFunction
-ruledLambda w self ph e p c h l = parts2 l (λ i body. identifier i (λ ci x. ruledFunction w self ph e p c h ci x body))
+ruledLambda w self here c h l = parts2 l (λ i body. identifier i (λ ci x. ruledFunction w self here c h ci x body))
 
-unfoldable pub ruledApplication : Rules → Expander → ℕ → Env → Scopes → Sets → Stxs → Step Stx
+unfoldable pub ruledApplication : Rules → Expander → Surroundings → Sets → Stxs → Step Stx
 unfolding made
-ruledApplication w self ph e p c l = do
-  r ← w .parts (self ph e p) l
+ruledApplication w self here c l = do
+  r ← w .parts (self here) l
   made (list c r)
 
-unfoldable pub ruledForm : Rules → Expander → ℕ → ℕ → Env → Scopes → Sets → Stx → Stxs → Meaning → Step Stx
+unfoldable pub ruledForm : Rules → Expander → Entries → Surroundings → Sets → Stx → Stxs → Meaning → Step Stx
 unfolding ruledLambda expandLetSyntax expandSyntax expandMacro ruledApplication parts1
-ruledForm w self d ph e p c h l (core lambda) = ruledLambda w self ph e p c h l
-ruledForm w self d ph e p c h l (core letSyntax) = expandLetSyntax self d ph e p l
-ruledForm w self d ph e p c h l (core quote) = parts1 l (λ s. done (list c (cons h l)))
-ruledForm w self d ph e p c h l (core syntax) = expandSyntax ph p c h l
-ruledForm w self d ph e p c h l (variable b x) = ruledApplication w self ph e p c (cons h l)
-ruledForm w self d ph e p c h l (macro v) = expandMacro self d ph e p v (list c (cons h l))
-ruledForm w self d ph e p c h l unknown = ruledApplication w self ph e p c (cons h l)
+ruledForm w self d here c h l (core lambda) = ruledLambda w self here c h l
+ruledForm w self d here c h l (core letSyntax) = expandLetSyntax self d here l
+ruledForm w self d here c h l (core quote) = parts1 l (λ s. done (list c (cons h l)))
+ruledForm w self d here c h l (core syntax) = expandSyntax here c h l
+ruledForm w self d here c h l (variable b x) = ruledApplication w self here c (cons h l)
+ruledForm w self d here c h l (macro v) = expandMacro self d here v (list c (cons h l))
+ruledForm w self d here c h l unknown = ruledApplication w self here c (cons h l)
 
-unfoldable pub ruledEntry : Rules → Expander → ℕ → ℕ → Env → Scopes → Stx → Step Stx
+unfoldable pub ruledEntry : Rules → Expander → Entries → Surroundings → Stx → Step Stx
 unfolding resolveAt meaning expandName headMeaning ruledForm
-ruledEntry w self d ph e p (atom c (symbol x)) = do
-  n ← resolveAt ph c x
-  expandName (w .means c x (meaning n e))
-ruledEntry w self d ph e p (atom c (number x)) = done (atom c (number x))
-ruledEntry w self d ph e p (atom c (point x)) = done (atom c (point x))
-ruledEntry w self d ph e p (atom c (prim x)) = done (atom c (prim x))
-ruledEntry w self d ph e p (atom c (rung x)) = done (atom c (rung x))
-ruledEntry w self d ph e p (list c nil) = refuse noRule
-ruledEntry w self d ph e p (list c (cons h l)) = do
-  m ← headMeaning ph e h
-  ruledForm w self d ph e p c h l m
+ruledEntry w self d here (atom c (symbol x)) = do
+  n ← resolveAt (here .phase) c x
+  expandName (w .means c x (meaning n (here .meanings)))
+ruledEntry w self d here (atom c (number x)) = done (atom c (number x))
+ruledEntry w self d here (atom c (point x)) = done (atom c (point x))
+ruledEntry w self d here (atom c (prim x)) = done (atom c (prim x))
+ruledEntry w self d here (atom c (rung x)) = done (atom c (rung x))
+ruledEntry w self d here (list c nil) = refuse noRule
+ruledEntry w self d here (list c (cons h l)) = do
+  m ← headMeaning (here .phase) (here .meanings) h
+  ruledForm w self d here c h l m
 
-unfoldable pub ruledExpand : Rules → ℕ → ℕ → Env → Scopes → Stx → Step Stx
+unfoldable pub ruledExpand : Rules → Entries → Surroundings → Stx → Step Stx
 unfolding charge ruledEntry
-ruledExpand w zero ph e p s = refuse tooManyEntries
-ruledExpand w (suc d) ph e p s = do
+ruledExpand w zero here s = refuse tooManyEntries
+ruledExpand w (suc d) here s = do
   charge 1
-  ruledEntry w (λ q f r x. ruledExpand w d q f r x) d ph e p s
+  ruledEntry w (λ there x. ruledExpand w d there x) d here s
 
-unfoldable pub ruledRoot : Rules → ℕ → Stx → Step Stx
+unfoldable pub ruledRoot : Rules → Phase → Stx → Step Stx
 unfolding charge size ruledExpand mostEntries
 ruledRoot w ph x = do
   charge (size x)
-  ruledExpand w mostEntries ph coreOnly 0 x
+  ruledExpand w mostEntries (ofRoot ph) x
 
-unfoldable pub ruledEnding : Rules → List ℕ → ℕ → ℕ → ℕ → Ending
+unfoldable pub ruledEnding : Rules → List ℕ → Phase → Units → ℕ → Ending
 unfolding atPhase withImage readImage readSyntax worked start ruledRoot fitted syntaxBytes reached
 ruledEnding w image ph budget room =
     atPhase ph (withImage (readImage readSyntax image) (λ i.
@@ -123,7 +123,7 @@ unfolding bindFresh addTo expandKeepFirst
 copiesPaid = record { binder = bindFresh; inScope = addTo; means = λ c x m. m; parts = expandKeepFirst }
 
 -- the fresh name not advanced
-unfoldable pub staleBinder : ℕ → Sets → ℕ → Step Binder
+unfoldable pub staleBinder : Phase → Sets → Symbol → Step Binder
 unfolding freshScope charge changeAt add bind setAt
 staleBinder ph c x = do
   n ← (λ s. ok (s .names) s)
@@ -142,7 +142,7 @@ unfolding bindFresh expandAll
 bareBodies = record { binder = bindFresh; inScope = λ k ph x. done x; means = λ c x m. m; parts = expandAll }
 
 -- an identifier answered with itself instead of its binder
-unfoldable pub itself : Sets → ℕ → Meaning → Meaning
+unfoldable pub itself : Sets → Symbol → Meaning → Meaning
 itself c x (core f) = core f
 itself c x (variable b y) = variable c x
 itself c x (macro v) = macro v
