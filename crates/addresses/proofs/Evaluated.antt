@@ -13,7 +13,7 @@ use Rattle.model.specs.Refusals.{notApplicable, wrongArgument, tooManyEntries}
 use Rattle.model.specs.Objects.{symbol, number, point, prim, rung, Sets, Stx, atom, list, Stxs, nil, cons, sameAtom}
 use Rattle.model.specs.Trees.{Tree, var, app, fun, datum, lst, stx, Trees, tnil, tcons, tcount, tsize, tnesting, tnestings, substitute, substituteAll, asStx, asAtom, asList, asNumber, fromStxs, toStxs}
 use Rattle.model.specs.Steps.{State, Out, Step, after, charge, madeTree}
-use Rattle.model.specs.Evaluating.{content, setsOf, remade, firstOf, restOf, picked, primitive, applicable, eachTree, argument, orWrongKind, apply, evalEntry, evaluate}
+use Rattle.model.specs.Evaluating.{Primitive, stxE, mkStx, first, rest, link, same, pick, primitiveOf, content, setsOf, remade, firstOf, restOf, picked, primitive, applicable, eachTree, argument, orWrongKind, applyPrimitive, apply, evalEntry, evaluate}
 use Rattle.model.specs.Jobs.{isAmong, closed, closedAll}
 use Rattle.laws.specs.Ordered.{SetsIn}
 use Rattle.codec_laws.specs.WellFormed.{StxFits, StxsFit, IsValue, TreeFits, TreesFit, ValuesFit}
@@ -218,34 +218,34 @@ module _ (k n m : ℕ) where
   one-or-none true = omega arith
   one-or-none false = omega arith
 
-  primitive-made : (p : ℕ) (a b c v : Tree) → ValueGood a → ValueGood b → ValueGood c → primitive p a b c ≡ some v → Made v
+  primitive-made : (p : Primitive) (a b c v : Tree) → ValueGood a → ValueGood b → ValueGood c → primitive p a b c ≡ some v → Made v
   unfolding primitive closed
-  primitive-made zero a b c v i j l e =
+  primitive-made stxE a b c v i j l e =
       let g = given-some (asStx a) _ v e in
       subst Made (some-value (content (g .0)) v (g .2)) (content-made (g .0) (stx-fits a (g .0) i (g .1)))
-  primitive-made (suc zero) a b c v i j l e =
+  primitive-made mkStx a b c v i j l e =
       let g = given-some (asStx b) _ v e in
       let h = given-some (remade (setsOf (g .0)) a) _ v (g .2) in
       subst Made (some-value (stx (h .0)) v (h .2))
       (remade-fits (setsOf (g .0)) a (h .0) (setsOf-in (g .0) (stx-fits b (g .0) j (g .1))) (i .0 .fits) (h .1), refl, tt)
-  primitive-made (suc (suc zero)) a b c v i j l e =
+  primitive-made first a b c v i j l e =
       let g = given-some (asList a) _ v e in
       first-made (g .0) v (list-fits a (g .0) i (g .1)) (list-closed a (g .0) i (g .1)) (g .2)
-  primitive-made (suc (suc (suc zero))) a b c v i j l e =
+  primitive-made rest a b c v i j l e =
       let g = given-some (asList a) _ v e in
       rest-made (g .0) v (list-fits a (g .0) i (g .1)) (list-closed a (g .0) i (g .1)) (g .2)
-  primitive-made (suc (suc (suc (suc zero)))) a b c v i j l e =
+  primitive-made link a b c v i j l e =
       let g = given-some (asList b) _ v e in
       subst Made (some-value (lst (tcons a (g .0))) v (g .2)) (
         (i .1, i .0 .fits, list-fits b (g .0) j (g .1)),
         both-true (closed [] a) (closedAll [] (g .0)) (i .0 .owned) (list-closed b (g .0) j (g .1)),
         tt,
       )
-  primitive-made (suc (suc (suc (suc (suc zero))))) a b c v i j l e =
+  primitive-made same a b c v i j l e =
       let g = given-some (asAtom a) _ v e in
       let h = given-some (asAtom b) _ v (g .2) in
       subst Made (some-value (datum (number (if sameAtom (g .0) (h .0) then 1 else 0))) v (h .2)) (one-or-none (sameAtom (g .0) (h .0)), refl, tt)
-  primitive-made (suc (suc (suc (suc (suc (suc p)))))) a b c v i j l e =
+  primitive-made pick a b c v i j l e =
       let g = given-some (asAtom a) _ v e in
       let h = given-some (asNumber (g .0)) _ v (g .2) in
       subst Made (some-value (picked (h .0) b c) v (h .2)) (picked-made (h .0) b c j l)
@@ -304,6 +304,14 @@ module _ (k n m : ℕ) where
         shallow = q;
       }
 
+  primitive-good : (o : Option Primitive) (l : Trees) → ValuesGood l → (s : State) → Outcome Tree (Gave s) (applyPrimitive o l s)
+  unfolding applyPrimitive
+  primitive-good none l i s = stops notApplicable (s .left) tt
+  primitive-good (some p) l i s =
+      chain _ (charge-out 1 s) (λ a u kp. since s u kp
+      (wrong-good (primitive p (argument l 0) (argument l 1) (argument l 2))
+      (λ w e. primitive-made p (argument l 0) (argument l 1) (argument l 2) w (argument-good l 0 i) (argument-good l 1 i) (argument-good l 2 i) e) u))
+
   apply-good : (self : Tree → Step Tree) → EvalGood self → (f : Tree) → ValueGood f → (l : Trees) → ValuesGood l → (s : State)
       → Outcome Tree (Gave s) (apply self f l s)
   unfolding apply
@@ -313,10 +321,7 @@ module _ (k n m : ℕ) where
   apply-good self h (datum (symbol x)) g l i s = stops notApplicable (s .left) tt
   apply-good self h (datum (number x)) g l i s = stops notApplicable (s .left) tt
   apply-good self h (datum (point x)) g l i s = stops notApplicable (s .left) tt
-  apply-good self h (datum (prim p)) g l i s =
-      chain _ (charge-out 1 s) (λ a u kp. since s u kp
-      (wrong-good (primitive p (argument l 0) (argument l 1) (argument l 2))
-      (λ w e. primitive-made p (argument l 0) (argument l 1) (argument l 2) w (argument-good l 0 i) (argument-good l 1 i) (argument-good l 2 i) e) u))
+  apply-good self h (datum (prim p)) g l i s = primitive-good (primitiveOf p) l i s
   apply-good self h (datum (rung x)) g l i s = stops notApplicable (s .left) tt
   apply-good self h (lst p) g l i s = stops notApplicable (s .left) tt
   apply-good self h (stx x) g l i s = stops notApplicable (s .left) tt

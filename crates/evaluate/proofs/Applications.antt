@@ -20,7 +20,7 @@ use Rattle.model.specs.Refusals.{notApplicable}
 use Rattle.model.specs.Steps as m
 use Rattle.model.specs.Steps.{ok, no, after, Step}
 use Rattle.model.specs.Trees.{Tree, Trees, tnil, tcons, tcount, fun, datum}
-use Rattle.model.specs.Evaluating.{evaluate, evalEntry, eachTree, apply, applicable, arity, argument}
+use Rattle.model.specs.Evaluating.{primitiveOf, takes, applicable, eachTree, argument, apply, evalEntry, evaluate}
 use Rattle.table.specs.Tags.{functionTag}
 use Rattle.table.specs.Words.{getNode, getBody, getCell}
 use Rattle.table.specs.declared.Node.{Node}
@@ -36,7 +36,7 @@ use Rattle.evaluate.specs.declared.Values.{Values}
 use Rattle.evaluate.specs.declared.Gathered.{Gathered}
 use Rattle.evaluate.specs.declared.Gathered.the-variants as all
 use Rattle.evaluate.specs.Testing.{Sought, TestedP}
-use Rattle.evaluate.specs.Evaluation.{ReadyApplication, ReadyCall, ReadyApply, ReadyFunction, ReadyPrimitive, callOf, functionOf, primitiveOf, gathered, Evaluates, Applies, Calls, Gathers, Does, DoesFunction, DoesPrimitive}
+use Rattle.evaluate.specs.Evaluation.{ReadyApplication, ReadyCall, ReadyApply, ReadyFunction, ReadyPrimitive, callOf, functionOf, gathered, Evaluates, Applies, Calls, Gathers, Does, DoesFunction, DoesPrimitive}
 use Rattle.table.specs.Sizes.{cellSize, nodeSize}
 
 -- ---- application
@@ -228,7 +228,7 @@ one-argument k e h = omega (arith, eqb-true k 1 (rw e at h))
 
 record PrimAt (o : Node) (t : Tree) (n : ℕ) : Type 0 where
   is : t ≡ datum (objects.prim (o .content))
-  able : n ≡ arity (o .content)
+  able : takes (primitiveOf (o .content)) n ≡ true
 
 prim-at : {l : List ℕ} {top i : ℕ} {t : Tree} {p : Node} (n : ℕ) → Rep l top i t → p ≡ getNode l i → ¬ (p .tag ≡ functionTag) → applicable t n ≡ true → PrimAt p t n
 unfolding applicable contentOf
@@ -240,7 +240,7 @@ prim-at n (is-datum {a = objects.number x} a q) e h k = let z : _≡_ {A = ℕ} 
 prim-at n (is-datum {a = objects.point x} a q) e h k = let z : _≡_ {A = ℕ} 0 1 = cc in absurd (omega arith)
 prim-at {p = p} n (is-datum {a = objects.prim x} a q) e h k =
     let z : p .content ≡ x = content-is e q in
-    record { is = ap (λ (j : ℕ). datum (objects.prim j)) (sym z); able = eqb-true n (arity x) k ∙ ap arity (sym z) }
+    record { is = ap (λ (j : ℕ). datum (objects.prim j)) (sym z); able = ap (λ (j : ℕ). takes (primitiveOf j) n) z ∙ k }
 prim-at n (is-datum {a = objects.rung x} a q) e h k = let z : _≡_ {A = ℕ} 0 1 = cc in absurd (omega arith)
 prim-at n (is-lst a q r) e h k = let z : _≡_ {A = ℕ} 0 1 = cc in absurd (omega arith)
 prim-at n (is-atom a q y) e h k = let z : _≡_ {A = ℕ} 0 1 = cc in absurd (omega arith)
@@ -274,7 +274,7 @@ module _ {l : List ℕ} {s : State} {f x y z : ℕ} {p : Node} (r : ReadyApply l
     primitive-ready = let w = prim-at (tcount (r .values)) (r .shown) e h (r .able) in record { values = r .values; given = r .given; able = w .able; room = r .room }
 
     pub apply-primitive : {left : ℕ} {l1 : List ℕ} {a : Answer} → DoesPrimitive l l1 s (p .content) x y z a → Does left l l1 s f x y z a
-    unfolding apply primitiveOf
+    unfolding apply
     apply-primitive d = record { means = λ b t ts q g able. let w = prim-at (tcount ts) q e h able in rw (w .is) (d .means b ts g (w .able)) }
 
 pub ruleset applications = (

@@ -2,6 +2,7 @@
 use mathlib.Core.Path.{_≡_, refl, sym, ap, _∙_}
 use mathlib.Core.List.{List}
 use mathlib.Core.Bool.{Bool, true, false}
+use mathlib.Core.Option.{Option, none, some}
 use Prim.Native.Nat.{ℕ, suc, _+_, _-_, _^_, _≤_, _<_, min}
 use native.Mathlib.Omega.{arith}
 use borrow.Author.Tests.{eqb-true, eqb-false, eq-eqb, ne-eqb}
@@ -9,7 +10,7 @@ use lib.Dec.{eqb}
 use Rattle.model.specs.Objects as m
 use Rattle.model.specs.Objects.{tagOf, contentOf}
 use Rattle.model.specs.Trees.{Tree, tcount, var, app, fun, datum, lst, stx}
-use Rattle.model.specs.Evaluating.{applicable, arity}
+use Rattle.model.specs.Evaluating.{Primitive, primitiveOf, arity, takes, applicable}
 use Rattle.table.specs.Tags.{functionTag, primitiveValueTag}
 use Rattle.table.specs.Words.{getNode, getCell}
 use Rattle.table.specs.declared.Node.{Node}
@@ -83,9 +84,9 @@ module _ {l : List ℕ} {f n : ℕ} {p : Node} (e : p ≡ getNode l f) where
   unfolding applicable
   able-fun h = record { means = λ top t a. let w = fun-at a e h refl in rw (w .is) refl }
 
-  pub able-prim : {k : ℕ} → p .tag ≡ primitiveValueTag → k ≡ arity (p .content) → Tested l f n (eqb n k)
+  pub able-prim : {y : Bool} → p .tag ≡ primitiveValueTag → y ≡ takes (primitiveOf (p .content)) n → Tested l f n y
   unfolding applicable
-  able-prim h j = record { means = λ top t a. rw (prim-is e a h) (ap (eqb n) j) }
+  able-prim h j = record { means = λ top t a. rw (prim-is e a h) j }
 
   pub able-none : ¬ (p .tag ≡ functionTag) → ¬ (p .tag ≡ primitiveValueTag) → Tested l f n false
   able-none h k = record { means = λ top t a. none-able n e a h k }
@@ -99,6 +100,11 @@ few n k h = by-test (eqb n k) refl
     by-test true e = let z : min 4 n ≡ k = omega (arith, eqb-true n k e) in eq-eqb (min 4 n) k z
     by-test false e = ne-eqb (min 4 n) k (λ y. eqb-false n k e (omega arith))
 
+takes-few : (o : Option Primitive) (n : ℕ) → takes o (min 4 n) ≡ takes o n
+unfolding takes
+takes-few none n = refl
+takes-few (some q) n = few n (arity q) (arity-most q)
+
 applicable-few : (t : Tree) (n : ℕ) → applicable t (min 4 n) ≡ applicable t n
 unfolding applicable
 applicable-few (var x) n = refl
@@ -107,7 +113,7 @@ applicable-few (fun x b) n = few n 1 (omega arith)
 applicable-few (datum (m.symbol x)) n = refl
 applicable-few (datum (m.number x)) n = refl
 applicable-few (datum (m.point x)) n = refl
-applicable-few (datum (m.prim x)) n = few n (arity x) (arity-most x)
+applicable-few (datum (m.prim x)) n = takes-few (primitiveOf x) n
 applicable-few (datum (m.rung x)) n = refl
 applicable-few (lst l) n = refl
 applicable-few (stx x) n = refl

@@ -18,8 +18,8 @@ use Rattle.model.specs.Limits.{mostNesting}
 use Rattle.model.specs.Refusals.{wrongArgument, tooDeep}
 use Rattle.model.specs.Steps as m
 use Rattle.model.specs.Steps.{ok, no, madeTree}
-use Rattle.model.specs.Trees.{Tree, tnesting}
-use Rattle.model.specs.Evaluating.{orWrongKind}
+use Rattle.model.specs.Trees.{Tree, tcount, tnesting}
+use Rattle.model.specs.Evaluating.{primitiveOf, orWrongKind, applyPrimitive}
 use Rattle.table.specs.Words.{Same}
 use Rattle.things.specs.Rep.{Rep}
 use Rattle.things.specs.Measuring.{Seen, Measured}
@@ -28,8 +28,9 @@ use Rattle.things.specs.declared.Made.{Made}
 use Rattle.primitives.specs.Working.{ReadyAll, Pieced, wrong, piece, Works}
 use Rattle.primitives.specs.declared.Part.{Part}
 use Rattle.primitives.specs.declared.Part.the-variants.{Wrong, Piece}
+use Rattle.primitives.proofs.Choosing.{taken}
 use Rattle.steps.proofs.Laws.{Went, charge-went, charge-failed, charge-ok, charge-no, then-ok, then-no, unless-ok, unless-no}
-use Rattle.evaluate.specs.Evaluation.{ReadyPrimitive, primitiveOf, DoesPrimitive}
+use Rattle.evaluate.specs.Evaluation.{ReadyPrimitive, DoesPrimitive}
 use Rattle.table.specs.Sizes.{unitSize}
 
 record PieceAt (l l1 : List ℕ) (top : ℕ) (q : Option Tree) (m : Made) : Type 0 where
@@ -52,9 +53,11 @@ on-wrong (wrong a) e = a
 on-wrong (piece n v i s k g f) e = let z : _≡_ {A = ℕ} 0 1 = cc in absurd (omega arith)
 
 pub primitive-stops : {l : List ℕ} {s : State} {p x y z : ℕ} {g : Charged} {e : Stop} → g ≡ chargeOf 1 s → g ≡ charged.Refused e → DoesPrimitive l l s p x y z (Refused e)
-unfolding primitiveOf
-primitive-stops {s = s} {e = e} h k =
-    let q = charge-failed 1 s h k in record { means = λ b ts a c. stops e (rw (q .is) (then-no _ (charge-no 1 s b (q .short)))) }
+unfolding applyPrimitive
+primitive-stops {s = s} {p = p} {e = e} h k =
+    let q = charge-failed 1 s h k in record {
+      means = λ b ts a c. let o = taken (primitiveOf p) (tcount ts) c in rw (o .is) (stops e (rw (q .is) (then-no _ (charge-no 1 s b (q .short)))));
+    }
 
 module _ {l : List ℕ} {s u : State} {p x y z : ℕ} {g : Charged} (r : ReadyPrimitive l s p x y z) (h : g ≡ chargeOf 1 s) (e : g ≡ charged.Paid u) where
   went : Went 1 s u
@@ -65,10 +68,13 @@ module _ {l : List ℕ} {s u : State} {p x y z : ℕ} {g : Charged} (r : ReadyPr
 
   pub primitive-able : ReadyAll l (u .top) p x y z
   primitive-able =
+      let o = taken (primitiveOf p) (tcount (r .values)) (r .able) in
       rw (went .is) (record {
+        which = o .which;
+        is = o .is;
         thing = r .values;
         given = r .given;
-        able = r .able;
+        able = o .able;
         room = record { fits = omega (arith, went .enough, r .room .fits); small = r .room .small; low = r .room .low };
       })
 
@@ -77,20 +83,23 @@ module _ {l : List ℕ} {s u : State} {p x y z : ℕ} {g : Charged} (r : ReadyPr
     worked = rw (went .is) at d
 
     pub primitive-wrong : w ≡ Wrong → DoesPrimitive l l1 s p x y z (Refused (record { refusal = WrongArgument; units = u .units }))
-    unfolding primitiveOf orWrongKind
+    unfolding applyPrimitive orWrongKind
     primitive-wrong k =
         record {
           means = λ b ts a c.
-              stops (record { refusal = WrongArgument; units = u .units })
+              let o = taken (primitiveOf p) (tcount ts) c in
+              rw (o .is)
+              (stops (record { refusal = WrongArgument; units = u .units })
               (then-ok _ (charge-ok 1 s b (went .enough))
-              ∙ ap (λ (v : Option Tree). orWrongKind v (stateOf (paid 1 s) b)) (on-wrong (worked .means ts a c) k)
-              ∙ ap (λ (n : ℕ). no wrongArgument n) (sym left-is));
+              ∙ ap (λ (v : Option Tree). orWrongKind v (stateOf (paid 1 s) b)) (on-wrong (worked .means (o .which) (o .is) ts a (o .able)) k)
+              ∙ ap (λ (n : ℕ). no wrongArgument n) (sym left-is)));
         }
 
     module _ {j : Made} (k : w ≡ Piece j) where
       pub primitive-seen : length l1 ≡ length l → Seen l1 (j .at)
       primitive-seen len =
-          let v = on-piece (worked .means (r .values) (r .given) (r .able)) k in
+          let o = taken (primitiveOf p) (tcount (r .values)) (r .able) in
+          let v = on-piece (worked .means (o .which) (o .is) (r .values) (r .given) (o .able)) k in
           record {
             top = j .top;
             thing = v .value;
@@ -101,28 +110,30 @@ module _ {l : List ℕ} {s u : State} {p x y z : ℕ} {g : Charged} (r : ReadyPr
 
       module _ {ex : Extent} (f : Measured l1 (j .at) ex) where
         pub primitive-deep : 64 < ex .nesting → DoesPrimitive l l1 s p x y z (Refused (record { refusal = TooDeep; units = u .units }))
-        unfolding primitiveOf orWrongKind madeTree mostNesting
+        unfolding applyPrimitive orWrongKind madeTree mostNesting
         primitive-deep n =
             record {
               means = λ b ts a c.
-                  let v = on-piece (worked .means ts a c) k in
+                  let o = taken (primitiveOf p) (tcount ts) c in
+                  let v = on-piece (worked .means (o .which) (o .is) ts a (o .able)) k in
                   let deep : 64 < tnesting (v .value) = omega (arith, n, f .means (j .top) (v .value) (v .shown) .nesting) in
-                  stops (record { refusal = TooDeep; units = u .units })
+                  rw (o .is) (stops (record { refusal = TooDeep; units = u .units })
                   (then-ok _ (charge-ok 1 s b (went .enough))
                   ∙ ap (λ (t : Option Tree). orWrongKind t (stateOf (paid 1 s) b)) (v .is)
                   ∙ then-no _ (unless-no tooDeep (stateOf (paid 1 s) b) (lt-leb (tnesting (v .value)) 64 deep))
-                  ∙ ap (λ (i : ℕ). no tooDeep i) (sym left-is));
+                  ∙ ap (λ (i : ℕ). no tooDeep i) (sym left-is)));
             }
 
         pub primitive-done : ex .nesting ≤ 64 → DoesPrimitive l l1 s p x y z (Done (record { at = j .at; state = raisedTo (j .top) u }))
-        unfolding primitiveOf orWrongKind madeTree mostNesting
+        unfolding applyPrimitive orWrongKind madeTree mostNesting
         primitive-done n =
             record {
               means = λ b ts a c.
-                  let v = on-piece (worked .means ts a c) k in
+                  let o = taken (primitiveOf p) (tcount ts) c in
+                  let v = on-piece (worked .means (o .which) (o .is) ts a (o .able)) k in
                   let flat : tnesting (v .value) ≤ 64 = omega (arith, n, f .means (j .top) (v .value) (v .shown) .nesting) in
                   let same : stateOf (paid 1 s) b ≡ stateOf (raisedTo (j .top) u) b = rw (went .is) refl in
-                  gives (record { at = j .at; state = raisedTo (j .top) u }) (record {
+                  rw (o .is) (gives (record { at = j .at; state = raisedTo (j .top) u }) (record {
                     value = v .value;
                     is =
                         then-ok _ (charge-ok 1 s b (went .enough))
@@ -131,7 +142,7 @@ module _ {l : List ℕ} {s u : State} {p x y z : ℕ} {g : Charged} (r : ReadyPr
                         ∙ ap (λ (t : m.State). ok (v .value) t) same;
                     shown = v .shown;
                     later = record { kept = v .kept; grows = v .grows; fits = omega (arith, v .fits, left-is, went .enough); spent = omega (arith, left-is) };
-                  });
+                  }));
             }
 
 pub ruleset working = (primitive-stops, primitive-able, primitive-wrong, primitive-seen, primitive-deep, primitive-done)

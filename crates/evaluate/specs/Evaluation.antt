@@ -6,7 +6,7 @@ use Prim.Native.Nat.{ℕ, min}
 use Rattle.model.specs.Refusals.{notApplicable}
 use Rattle.model.specs.Trees.{Tree, Trees, tnil, tcons, app, tcount, tsize, substitute}
 use Rattle.model.specs.Steps.{Step, _>>=_, _>>_, unless, charge, madeTree}
-use Rattle.model.specs.Evaluating.{evaluate, evalEntry, applicable, eachTree, apply, arity, argument, primitive, orWrongKind}
+use Rattle.model.specs.Evaluating.{primitiveOf, takes, applicable, eachTree, applyPrimitive, apply, evalEntry, evaluate}
 use Rattle.table.specs.declared.Body.{Body}
 use Rattle.things.specs.Rep.{Rep, RepP}
 use Rattle.primitives.specs.Working.{Given}
@@ -57,7 +57,7 @@ pub record ReadyFunction (l : List ℕ) (s : State) (body : Body) (x : ℕ) : Ty
 pub record ReadyPrimitive (l : List ℕ) (s : State) (p x y z : ℕ) : Type 0 where
   pub values : Trees
   pub given : Given l (s .top) x y z values
-  pub able : tcount values ≡ arity p
+  pub able : takes (primitiveOf p) (tcount values) ≡ true
   pub room : Room l s
 
 -- a value, and the tree of one argument
@@ -85,13 +85,6 @@ functionOf self n v b = do
   charge (tsize b)
   t ← madeTree (substitute n v b)
   self t
-
--- primitive p applied to values
-unfoldable pub primitiveOf : ℕ → Trees → Step Tree
-unfolding charge argument primitive orWrongKind
-primitiveOf p l = do
-  charge 1
-  orWrongKind (primitive p (argument l 0) (argument l 1) (argument l 2))
 
 -- ---- what is given
 
@@ -129,7 +122,8 @@ pub record DoesFunction (left : ℕ) (l l′ : List ℕ) (s : State) (n : ℕ) (
       → Agrees (placed Rep) 0 0 l l′ s b (functionOf (λ u. evaluate left u) n v t (stateOf s b)) (ended r)
 
 pub record DoesPrimitive (l l′ : List ℕ) (s : State) (p x y z : ℕ) (r : Answer) : Type 0 where
-  pub means : (b : Store) (ts : Trees) → Given l (s .top) x y z ts → tcount ts ≡ arity p → Agrees (placed Rep) 0 0 l l′ s b (primitiveOf p ts (stateOf s b)) (ended r)
+  pub means : (b : Store) (ts : Trees) → Given l (s .top) x y z ts → takes (primitiveOf p) (tcount ts) ≡ true
+      → Agrees (placed Rep) 0 0 l l′ s b (applyPrimitive (primitiveOf p) ts (stateOf s b)) (ended r)
 
 -- the application of t to u, evaluated
 pub record AppliesValue (left : ℕ) (l l′ : List ℕ) (s : State) (f x : ℕ) (r : Answer) : Type 0 where

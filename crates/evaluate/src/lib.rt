@@ -59,7 +59,7 @@ fn applicable(table: &[u32], f: u32, n: u32) -> bool
         return n == 1;
     }
     if tag == Node::PRIMITIVE_VALUE {
-        return n == primitives::arguments(o.content);
+        return primitives::takes(o.content, n);
     }
     false
 }

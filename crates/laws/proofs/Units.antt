@@ -15,7 +15,7 @@ use Rattle.model.specs.Objects.{Atom, symbol, number, point, prim, rung, Sets, 
 use Rattle.model.specs.Trees.{Tree, var, app, fun, datum, lst, stx, Trees, tnil, tcons, tcount, tsize, tnesting, substitute, asStx, strip}
 use Rattle.model.specs.Resolving.{Bind, insert, Found, means, several, resolve}
 use Rattle.model.specs.Steps.{State, Out, ok, no, Step, after, done, refuse, unless, charge, made, madeTree, addTo, flipIn, pruneFrom, freshName, freshScope, bind, nameOf, resolveAt, parts1, parts2, parts3, identifier}
-use Rattle.model.specs.Evaluating.{evaluate, evalEntry, applicable, eachTree, argument, apply, primitive, orWrongKind}
+use Rattle.model.specs.Evaluating.{Primitive, primitiveOf, primitive, applicable, eachTree, argument, orWrongKind, applyPrimitive, apply, evalEntry, evaluate}
 use Rattle.model.specs.Parsing.{Form, lambda, letSyntax, quote, syntax, formOf, headForm, parseAll, parseForm, parseEntry, parse}
 use Rattle.model.specs.Expanding.{Meaning, core, variable, macro, unknown, Env, meaning, headMeaning, expandName, bindFresh, Surroundings, ofRightHandSide, ofBody, ofResult, Expander, expandAll, expandApplication, expandFunction, expandLambda, expandSyntax, expandBinding, expandLetSyntax, orNoSyntax, expandMacro, expandForm, expandEntry, expand}
 use Rattle.laws.proofs.StepLaws.{no≢ok, both-ok, spend, charge-ok}
@@ -258,6 +258,12 @@ unfolding orWrongKind
 orWrongKind-no-rise none = refuse-no-rise _
 orWrongKind-no-rise (some v) = madeTree-no-rise v
 
+primitive-no-rise : (o : Option Primitive) (l : Trees) → NoRise (applyPrimitive o l)
+unfolding applyPrimitive
+primitive-no-rise none l = refuse-no-rise notApplicable
+primitive-no-rise (some p) l =
+    then-no-rise (charge 1) _ (charge-no-rise 1) (λ u. orWrongKind-no-rise (primitive p (argument l 0) (argument l 1) (argument l 2)))
+
 apply-no-rise : (self : Tree → Step Tree) → ((t : Tree) → NoRise (self t)) → (f : Tree) (l : Trees) → NoRise (apply self f l)
 unfolding apply
 apply-no-rise self h (var m) l = refuse-no-rise notApplicable
@@ -268,8 +274,7 @@ apply-no-rise self h (fun n b) l =
 apply-no-rise self h (datum (symbol x)) l = refuse-no-rise notApplicable
 apply-no-rise self h (datum (number x)) l = refuse-no-rise notApplicable
 apply-no-rise self h (datum (point x)) l = refuse-no-rise notApplicable
-apply-no-rise self h (datum (prim p)) l =
-    then-no-rise (charge 1) _ (charge-no-rise 1) (λ u. orWrongKind-no-rise (primitive p (argument l 0) (argument l 1) (argument l 2)))
+apply-no-rise self h (datum (prim p)) l = primitive-no-rise (primitiveOf p) l
 apply-no-rise self h (datum (rung x)) l = refuse-no-rise notApplicable
 apply-no-rise self h (lst k) l = refuse-no-rise notApplicable
 apply-no-rise self h (stx s) l = refuse-no-rise notApplicable

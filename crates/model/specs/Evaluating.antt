@@ -9,17 +9,31 @@ use Rattle.model.specs.Objects.{Atom, symbol, number, point, prim, rung,
 use Rattle.model.specs.Trees.{Tree, var, app, fun, datum, lst, stx, Trees, tnil, tcons, tcount, tsize, substitute, asStx, asAtom, asList, asNumber, fromStxs, toStxs}
 use Rattle.model.specs.Steps.{Entries, Step, _>>=_, _>>_, done, refuse, unless, charge, madeTree}
 
--- ---- primitives: the value, or none where an argument is of the wrong kind (11)
+-- ---- primitives
 
--- how many arguments. 6 is the last primitive: no image holds a larger one, and none is made
-unfoldable pub arity : ℕ → ℕ
-arity zero = 1
-arity (suc zero) = 2
-arity (suc (suc zero)) = 1
-arity (suc (suc (suc zero))) = 1
-arity (suc (suc (suc (suc zero)))) = 2
-arity (suc (suc (suc (suc (suc zero))))) = 2
-arity (suc (suc (suc (suc (suc (suc n)))))) = 3
+pub data Primitive : Type 0 where
+  stxE mkStx first rest link same pick : Primitive
+
+-- the primitives are numbers 0 to 6. No image holds a larger one, and none is made
+unfoldable pub primitiveOf : ℕ → Option Primitive
+primitiveOf zero = some stxE
+primitiveOf (suc zero) = some mkStx
+primitiveOf (suc (suc zero)) = some first
+primitiveOf (suc (suc (suc zero))) = some rest
+primitiveOf (suc (suc (suc (suc zero)))) = some link
+primitiveOf (suc (suc (suc (suc (suc zero))))) = some same
+primitiveOf (suc (suc (suc (suc (suc (suc zero)))))) = some pick
+primitiveOf (suc (suc (suc (suc (suc (suc (suc n))))))) = none
+
+-- how many arguments
+unfoldable pub arity : Primitive → ℕ
+arity stxE = 1
+arity mkStx = 2
+arity first = 1
+arity rest = 1
+arity link = 2
+arity same = 2
+arity pick = 3
 
 unfoldable pub content : Stx → Tree
 unfolding fromStxs
@@ -51,30 +65,34 @@ unfoldable pub picked : ℕ → Tree → Tree → Tree
 picked zero a b = b
 picked (suc n) a b = a
 
--- primitive p of a, b and c; those past its count are not looked at
-unfoldable pub primitive : ℕ → Tree → Tree → Tree → Option Tree
+-- primitive p of a, b and c; those past its count are not looked at. None where an argument is of the wrong kind (11)
+unfoldable pub primitive : Primitive → Tree → Tree → Tree → Option Tree
 unfolding asStx content remade setsOf asList firstOf restOf asAtom sameAtom asNumber picked
-primitive zero a b c = given (asStx a) (λ s. some (content s))
-primitive (suc zero) a b c = given (asStx b) (λ s. given (remade (setsOf s) a) (λ r. some (stx r)))
-primitive (suc (suc zero)) a b c = given (asList a) firstOf
-primitive (suc (suc (suc zero))) a b c = given (asList a) restOf
-primitive (suc (suc (suc (suc zero)))) a b c = given (asList b) (λ l. some (lst (tcons a l)))
-primitive (suc (suc (suc (suc (suc zero))))) a b c =
-    given (asAtom a) (λ x. given (asAtom b) (λ y. some (datum (number (if sameAtom x y then 1 else 0)))))
-primitive (suc (suc (suc (suc (suc (suc n)))))) a b c = given (asAtom a) (λ x. given (asNumber x) (λ k. some (picked k b c)))
+primitive stxE a b c = given (asStx a) (λ s. some (content s))
+primitive mkStx a b c = given (asStx b) (λ s. given (remade (setsOf s) a) (λ r. some (stx r)))
+primitive first a b c = given (asList a) firstOf
+primitive rest a b c = given (asList a) restOf
+primitive link a b c = given (asList b) (λ l. some (lst (tcons a l)))
+primitive same a b c = given (asAtom a) (λ x. given (asAtom b) (λ y. some (datum (number (if sameAtom x y then 1 else 0)))))
+primitive pick a b c = given (asAtom a) (λ x. given (asNumber x) (λ k. some (picked k b c)))
 
 -- ---- one entry. `self` evaluates a tree as a further entry.
 
+unfoldable pub takes : Option Primitive → ℕ → Bool
+unfolding arity
+takes none n = false
+takes (some p) n = eqb n (arity p)
+
 -- value f can be applied to n arguments
 unfoldable pub applicable : Tree → ℕ → Bool
-unfolding arity
+unfolding primitiveOf takes
 applicable (var m) n = false
 applicable (app h l) n = false
 applicable (fun m b) n = eqb n 1
 applicable (datum (symbol x)) n = false
 applicable (datum (number x)) n = false
 applicable (datum (point x)) n = false
-applicable (datum (prim p)) n = eqb n (arity p)
+applicable (datum (prim p)) n = takes (primitiveOf p) n
 applicable (datum (rung x)) n = false
 applicable (lst l) n = false
 applicable (stx s) n = false
@@ -97,9 +115,16 @@ unfolding madeTree
 orWrongKind none = refuse wrongArgument
 orWrongKind (some v) = madeTree v
 
+unfoldable pub applyPrimitive : Option Primitive → Trees → Step Tree
+unfolding charge argument primitive orWrongKind
+applyPrimitive none l = refuse notApplicable
+applyPrimitive (some p) l = do
+  charge 1
+  orWrongKind (primitive p (argument l 0) (argument l 1) (argument l 2))
+
 -- an applicable value applied
 unfoldable pub apply : (Tree → Step Tree) → Tree → Trees → Step Tree
-unfolding charge madeTree substitute tsize argument primitive orWrongKind
+unfolding charge madeTree substitute tsize argument primitiveOf applyPrimitive
 apply self (var m) l = refuse notApplicable
 apply self (app h k) l = refuse notApplicable
 apply self (fun n b) l = do
@@ -109,9 +134,7 @@ apply self (fun n b) l = do
 apply self (datum (symbol x)) l = refuse notApplicable
 apply self (datum (number x)) l = refuse notApplicable
 apply self (datum (point x)) l = refuse notApplicable
-apply self (datum (prim p)) l = do
-  charge 1
-  orWrongKind (primitive p (argument l 0) (argument l 1) (argument l 2))
+apply self (datum (prim p)) l = applyPrimitive (primitiveOf p) l
 apply self (datum (rung x)) l = refuse notApplicable
 apply self (lst k) l = refuse notApplicable
 apply self (stx s) l = refuse notApplicable

@@ -1,79 +1,74 @@
 -- How many arguments, and which primitive.
-use mathlib.Core.Path.{_≡_, refl}
+use mathlib.Core.Path.{_≡_, refl, sym, ap, _∙_, subst}
 use mathlib.Core.List.{List, [], _∷_}
-use mathlib.Core.Option.{Option}
+use mathlib.Core.Bool.{true, false, false≢true}
+use mathlib.Core.Option.{Option, none, some}
 use Prim.Native.Nat.{ℕ, zero, suc, _≤_, _<_}
 use native.Mathlib.Omega.{arith}
+use borrow.Author.Tests.{eqb-true}
+use lib.Dec.{eqb}
 use lib.ListN.{getD}
 use Rattle.model.specs.Trees.{Tree, Trees, tcount}
-use Rattle.model.specs.Evaluating.{primitive, arity, argument}
+use Rattle.model.specs.Evaluating as m
+use Rattle.model.specs.Evaluating.{Primitive, primitiveOf, primitive, arity, takes, argument}
 use Rattle.things.specs.Rep.{Rep}
-use Rattle.primitives.specs.Working.{Ready, ReadyAll, Given, no-more, one-more, Does1, Does2, Does3, Works, stxE, mkStx, first, rest, linked, same, pick}
+use Rattle.primitives.specs.Working.{Ready, ReadyAll, Given, no-more, one-more, Pieced, Does1, Does2, Does3, Works, stxE, mkStx, first, rest, linked, same, pick}
 use Rattle.primitives.specs.declared.Part.{Part}
 
 -- ---- how many arguments
 
-pub table-is : (p : ℕ) → p < 6 → getD (1 ∷ 2 ∷ 1 ∷ 1 ∷ 2 ∷ 2 ∷ 3 ∷ []) p 0 ≡ arity p
-unfolding arity
-table-is zero h = refl
-table-is (suc zero) h = refl
-table-is (suc (suc zero)) h = refl
-table-is (suc (suc (suc zero))) h = refl
-table-is (suc (suc (suc (suc zero)))) h = refl
-table-is (suc (suc (suc (suc (suc zero))))) h = refl
-table-is (suc (suc (suc (suc (suc (suc n)))))) h = absurd (omega arith)
+pub takes-so : (p n : ℕ) → p < 7 → eqb n (getD (1 ∷ 2 ∷ 1 ∷ 1 ∷ 2 ∷ 2 ∷ 3 ∷ []) p 0) ≡ takes (primitiveOf p) n
+unfolding primitiveOf takes
+takes-so zero n h = refl
+takes-so (suc zero) n h = refl
+takes-so (suc (suc zero)) n h = refl
+takes-so (suc (suc (suc zero))) n h = refl
+takes-so (suc (suc (suc (suc zero)))) n h = refl
+takes-so (suc (suc (suc (suc (suc zero))))) n h = refl
+takes-so (suc (suc (suc (suc (suc (suc zero)))))) n h = refl
+takes-so (suc (suc (suc (suc (suc (suc (suc p))))))) n h = absurd (omega arith)
 
-pub last-takes : (p : ℕ) → 6 ≤ p → 3 ≡ arity p
-unfolding arity
-last-takes zero h = absurd (omega arith)
-last-takes (suc zero) h = absurd (omega arith)
-last-takes (suc (suc zero)) h = absurd (omega arith)
-last-takes (suc (suc (suc zero))) h = absurd (omega arith)
-last-takes (suc (suc (suc (suc zero)))) h = absurd (omega arith)
-last-takes (suc (suc (suc (suc (suc zero))))) h = absurd (omega arith)
-last-takes (suc (suc (suc (suc (suc (suc n)))))) h = refl
+pub takes-none : (p n : ℕ) → 7 ≤ p → false ≡ takes (primitiveOf p) n
+unfolding primitiveOf takes
+takes-none zero n h = absurd (omega arith)
+takes-none (suc zero) n h = absurd (omega arith)
+takes-none (suc (suc zero)) n h = absurd (omega arith)
+takes-none (suc (suc (suc zero))) n h = absurd (omega arith)
+takes-none (suc (suc (suc (suc zero)))) n h = absurd (omega arith)
+takes-none (suc (suc (suc (suc (suc zero))))) n h = absurd (omega arith)
+takes-none (suc (suc (suc (suc (suc (suc zero)))))) n h = absurd (omega arith)
+takes-none (suc (suc (suc (suc (suc (suc (suc p))))))) n h = refl
 
-pub arity-pos : (p : ℕ) → 1 ≤ arity p
-unfolding arity
-arity-pos zero = omega arith
-arity-pos (suc zero) = omega arith
-arity-pos (suc (suc zero)) = omega arith
-arity-pos (suc (suc (suc zero))) = omega arith
-arity-pos (suc (suc (suc (suc zero)))) = omega arith
-arity-pos (suc (suc (suc (suc (suc zero))))) = omega arith
-arity-pos (suc (suc (suc (suc (suc (suc n)))))) = omega arith
+-- a number that takes some count of arguments is a primitive's
+pub record Taken (o : Option Primitive) (n : ℕ) : Type 0 where
+  pub which : Primitive
+  pub is : o ≡ some which
+  pub able : n ≡ arity which
 
-pub arity-most : (p : ℕ) → arity p ≤ 3
-unfolding arity
-arity-most zero = omega arith
-arity-most (suc zero) = omega arith
-arity-most (suc (suc zero)) = omega arith
-arity-most (suc (suc (suc zero))) = omega arith
-arity-most (suc (suc (suc (suc zero)))) = omega arith
-arity-most (suc (suc (suc (suc (suc zero))))) = omega arith
-arity-most (suc (suc (suc (suc (suc (suc n)))))) = omega arith
+pub taken : (o : Option Primitive) (n : ℕ) → takes o n ≡ true → Taken o n
+unfolding takes
+taken none n h = absurd (false≢true h)
+taken (some q) n h = record { which = q; is = refl; able = eqb-true n (arity q) h }
 
-pub takes-1 : {p : ℕ} → p ≡ 1 → 2 ≡ arity p
+pub arity-pos : (q : Primitive) → 1 ≤ arity q
 unfolding arity
-takes-1 e = rw e refl
+arity-pos m.stxE = omega arith
+arity-pos m.mkStx = omega arith
+arity-pos m.first = omega arith
+arity-pos m.rest = omega arith
+arity-pos m.link = omega arith
+arity-pos m.same = omega arith
+arity-pos m.pick = omega arith
 
-pub takes-4 : {p : ℕ} → p ≡ 4 → 2 ≡ arity p
+pub arity-most : (q : Primitive) → arity q ≤ 3
 unfolding arity
-takes-4 e = rw e refl
-
-pub takes-5 : {p : ℕ} → p ≡ 5 → 2 ≡ arity p
-unfolding arity
-takes-5 e = rw e refl
-
-pub takes-6 : {p : ℕ} → ¬ (p ≡ 0) → ¬ (p ≡ 1) → ¬ (p ≡ 2) → ¬ (p ≡ 3) → ¬ (p ≡ 4) → ¬ (p ≡ 5) → 3 ≡ arity p
-unfolding arity
-takes-6 {p = zero} a b c d e f = absurd (a refl)
-takes-6 {p = suc zero} a b c d e f = absurd (b refl)
-takes-6 {p = suc (suc zero)} a b c d e f = absurd (c refl)
-takes-6 {p = suc (suc (suc zero))} a b c d e f = absurd (d refl)
-takes-6 {p = suc (suc (suc (suc zero)))} a b c d e f = absurd (e refl)
-takes-6 {p = suc (suc (suc (suc (suc zero))))} a b c d e f = absurd (f refl)
-takes-6 {p = suc (suc (suc (suc (suc (suc n)))))} a b c d e f = refl
+arity-most m.stxE = omega arith
+arity-most m.mkStx = omega arith
+arity-most m.first = omega arith
+arity-most m.rest = omega arith
+arity-most m.link = omega arith
+arity-most m.same = omega arith
+arity-most m.pick = omega arith
 
 -- ---- the values given
 
@@ -97,68 +92,98 @@ given-3 (one-more r (one-more q (one-more w g))) h = w
 
 -- ---- which primitive
 
--- all from the sixth on are pick
-pick-is : (p : ℕ) (a b c : Tree) → 3 ≡ arity p → primitive p a b c ≡ pick a b c
-unfolding arity pick primitive
-pick-is zero a b c h = absurd (omega arith)
-pick-is (suc zero) a b c h = absurd (omega arith)
-pick-is (suc (suc zero)) a b c h = absurd (omega arith)
-pick-is (suc (suc (suc zero))) a b c h = absurd (omega arith)
-pick-is (suc (suc (suc (suc zero)))) a b c h = absurd (omega arith)
-pick-is (suc (suc (suc (suc (suc zero))))) a b c h = absurd (omega arith)
-pick-is (suc (suc (suc (suc (suc (suc n)))))) a b c h = refl
+-- the primitive of a known number
+is-the : {p : ℕ} (k : ℕ) {v q : Primitive} → primitiveOf k ≡ some v → p ≡ k → primitiveOf p ≡ some q → v ≡ q
+is-the {p} k {v} {q} e h i = some-is (sym e ∙ ap primitiveOf (sym h) ∙ i)
+  where
+    some-is : some v ≡ some q → v ≡ q
+    some-is s = cc
+
+-- after the others it is the last
+is-pick : {p : ℕ} {q : Primitive} → ¬ (p ≡ 0) → ¬ (p ≡ 1) → ¬ (p ≡ 2) → ¬ (p ≡ 3) → ¬ (p ≡ 4) → ¬ (p ≡ 5) → primitiveOf p ≡ some q → m.pick ≡ q
+unfolding primitiveOf
+is-pick {p = zero} a b c d e f i = absurd (a refl)
+is-pick {p = suc zero} a b c d e f i = absurd (b refl)
+is-pick {p = suc (suc zero)} a b c d e f i = absurd (c refl)
+is-pick {p = suc (suc (suc zero))} a b c d e f i = absurd (d refl)
+is-pick {p = suc (suc (suc (suc zero)))} a b c d e f i = absurd (e refl)
+is-pick {p = suc (suc (suc (suc (suc zero))))} a b c d e f i = absurd (f refl)
+is-pick {p = suc (suc (suc (suc (suc (suc zero)))))} a b c d e f i = cc
+is-pick {p = suc (suc (suc (suc (suc (suc (suc n))))))} a b c d e f i = let z : _≡_ {A = ℕ} 0 1 = cc in absurd (omega arith)
 
 module _ {l : List ℕ} {top p x y z : ℕ} where
   pub ready-x : ReadyAll l top p x y z → Ready l top x
-  ready-x r = record { thing = argument (r .thing) 0; shown = given-1 (r .given) (omega (arith, arity-pos p, r .able)); room = r .room }
+  ready-x r = record { thing = argument (r .thing) 0; shown = given-1 (r .given) (omega (arith, arity-pos (r .which), r .able)); room = r .room }
 
-  pub ready-y : ReadyAll l top p x y z → 2 ≡ arity p → Ready l top y
-  ready-y r h = record { thing = argument (r .thing) 1; shown = given-2 (r .given) (omega (arith, r .able)); room = r .room }
+  ready-second : {v : Primitive} (r : ReadyAll l top p x y z) → v ≡ r .which → 2 ≤ arity v → Ready l top y
+  ready-second r e h =
+      record { thing = argument (r .thing) 1; shown = given-2 (r .given) (omega (arith, r .able, ap arity e, h)); room = r .room }
+
+  pub ready-1 : p ≡ 1 → ReadyAll l top p x y z → Ready l top y
+  unfolding primitiveOf arity
+  ready-1 h r = ready-second r (is-the 1 refl h (r .is)) (omega arith)
+
+  pub ready-4 : p ≡ 4 → ReadyAll l top p x y z → Ready l top y
+  unfolding primitiveOf arity
+  ready-4 h r = ready-second r (is-the 4 refl h (r .is)) (omega arith)
+
+  pub ready-5 : p ≡ 5 → ReadyAll l top p x y z → Ready l top y
+  unfolding primitiveOf arity
+  ready-5 h r = ready-second r (is-the 5 refl h (r .is)) (omega arith)
 
   module _ {l1 : List ℕ} {r : Part} where
-    -- of one value and of two: f is what primitive k does
-    does-1 : (k : ℕ) (f : Tree → Option Tree) → ((a b c : Tree) → primitive k a b c ≡ f a) → p ≡ k → Does1 f l l1 top x r → Works l l1 top p x y z r
-    does-1 k f e h d =
-        record { means = λ ts g j. rw (h, e (argument ts 0) (argument ts 1) (argument ts 2)) (d .means (argument ts 0) (given-1 g (omega (arith, arity-pos p, j)))) }
-
-    does-2 : (k : ℕ) (f : Tree → Tree → Option Tree) → ((a b c : Tree) → primitive k a b c ≡ f a b) → p ≡ k → 2 ≡ arity p → Does2 f l l1 top x y r → Works l l1 top p x y z r
-    does-2 k f e h n d =
+    -- where the number can only be primitive v's
+    works : (v : Primitive)
+        → ((ts : Trees) → Given l top x y z ts → tcount ts ≡ arity v → Pieced l l1 top (primitive v (argument ts 0) (argument ts 1) (argument ts 2)) r)
+        → ((q : Primitive) → primitiveOf p ≡ some q → v ≡ q) → Works l l1 top p x y z r
+    works v d h =
         record {
-          means = λ ts g j.
-              rw (h, e (argument ts 0) (argument ts 1) (argument ts 2))
-              (d .means (argument ts 0) (argument ts 1) (given-1 g (omega (arith, arity-pos p, j))) (given-2 g (omega (arith, n, j))));
+          means = λ q i.
+              subst (λ (w : Primitive). (ts : Trees) → Given l top x y z ts → tcount ts ≡ arity w → Pieced l l1 top (primitive w (argument ts 0) (argument ts 1) (argument ts 2)) r)
+              (h q i) d;
         }
+
+    -- of one value and of two
+    does-1 : (v : Primitive) (f : Tree → Option Tree) → ((a b c : Tree) → primitive v a b c ≡ f a) → ((q : Primitive) → primitiveOf p ≡ some q → v ≡ q)
+        → Does1 f l l1 top x r → Works l l1 top p x y z r
+    does-1 v f e h d =
+        works v (λ ts g j. rw (e (argument ts 0) (argument ts 1) (argument ts 2)) (d .means (argument ts 0) (given-1 g (omega (arith, arity-pos v, j))))) h
+
+    does-2 : (v : Primitive) (f : Tree → Tree → Option Tree) → ((a b c : Tree) → primitive v a b c ≡ f a b) → 2 ≤ arity v
+        → ((q : Primitive) → primitiveOf p ≡ some q → v ≡ q) → Does2 f l l1 top x y r → Works l l1 top p x y z r
+    does-2 v f e n h d =
+        works v (λ ts g j. rw (e (argument ts 0) (argument ts 1) (argument ts 2))
+        (d .means (argument ts 0) (argument ts 1) (given-1 g (omega (arith, n, j))) (given-2 g (omega (arith, n, j))))) h
 
     pub works-0 : p ≡ 0 → Does1 stxE l l1 top x r → Works l l1 top p x y z r
-    unfolding stxE primitive
-    works-0 h d = does-1 0 stxE (λ a b c. refl) h d
+    unfolding stxE primitive primitiveOf
+    works-0 h d = does-1 m.stxE stxE (λ a b c. refl) (λ q. is-the 0 refl h) d
 
     pub works-1 : p ≡ 1 → Does2 mkStx l l1 top x y r → Works l l1 top p x y z r
-    unfolding mkStx primitive
-    works-1 h d = does-2 1 mkStx (λ a b c. refl) h (takes-1 h) d
+    unfolding mkStx primitive primitiveOf arity
+    works-1 h d = does-2 m.mkStx mkStx (λ a b c. refl) (omega arith) (λ q. is-the 1 refl h) d
 
     pub works-2 : p ≡ 2 → Does1 first l l1 top x r → Works l l1 top p x y z r
-    unfolding first primitive
-    works-2 h d = does-1 2 first (λ a b c. refl) h d
+    unfolding first primitive primitiveOf
+    works-2 h d = does-1 m.first first (λ a b c. refl) (λ q. is-the 2 refl h) d
 
     pub works-3 : p ≡ 3 → Does1 rest l l1 top x r → Works l l1 top p x y z r
-    unfolding rest primitive
-    works-3 h d = does-1 3 rest (λ a b c. refl) h d
+    unfolding rest primitive primitiveOf
+    works-3 h d = does-1 m.rest rest (λ a b c. refl) (λ q. is-the 3 refl h) d
 
     pub works-4 : p ≡ 4 → Does2 linked l l1 top x y r → Works l l1 top p x y z r
-    unfolding linked primitive
-    works-4 h d = does-2 4 linked (λ a b c. refl) h (takes-4 h) d
+    unfolding linked primitive primitiveOf arity
+    works-4 h d = does-2 m.link linked (λ a b c. refl) (omega arith) (λ q. is-the 4 refl h) d
 
     pub works-5 : p ≡ 5 → Does2 same l l1 top x y r → Works l l1 top p x y z r
-    unfolding same primitive
-    works-5 h d = does-2 5 same (λ a b c. refl) h (takes-5 h) d
+    unfolding same primitive primitiveOf arity
+    works-5 h d = does-2 m.same same (λ a b c. refl) (omega arith) (λ q. is-the 5 refl h) d
 
-    pub works-6 : 3 ≡ arity p → Does3 pick l l1 top x y z r → Works l l1 top p x y z r
-    works-6 h d =
-        record {
-          means = λ ts g k.
-              rw (pick-is p (argument ts 0) (argument ts 1) (argument ts 2) h)
-              (d .means (argument ts 0) (argument ts 1) (argument ts 2) (given-1 g (omega (arith, k))) (given-2 g (omega (arith, k))) (given-3 g (omega (arith, k))));
-        }
+    pub works-6 : ¬ (p ≡ 0) → ¬ (p ≡ 1) → ¬ (p ≡ 2) → ¬ (p ≡ 3) → ¬ (p ≡ 4) → ¬ (p ≡ 5) → Does3 pick l l1 top x y z r → Works l l1 top p x y z r
+    unfolding pick primitive arity
+    works-6 a b c d e f k =
+        works m.pick (λ ts g j.
+        k .means (argument ts 0) (argument ts 1) (argument ts 2) (given-1 g (omega (arith, j))) (given-2 g (omega (arith, j))) (given-3 g (omega (arith, j))))
+        (λ q. is-pick a b c d e f)
 
-pub ruleset laws = (ready-x, ready-y, takes-1, takes-4, takes-5, takes-6, works-0, works-1, works-2, works-3, works-4, works-5, works-6)
+pub ruleset laws = (ready-x, ready-1, ready-4, ready-5, works-0, works-1, works-2, works-3, works-4, works-5, works-6)

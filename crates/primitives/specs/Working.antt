@@ -8,7 +8,8 @@ use lib.Dec.{eqb}
 use Rattle.model.specs.Choice.{if_then_else_}
 use Rattle.model.specs.Objects.{Stxs}
 use Rattle.model.specs.Trees.{Tree, Trees, tnil, tcons, tcount, fromStxs, toStxs}
-use Rattle.model.specs.Evaluating.{primitive, arity, argument}
+use Rattle.model.specs.Evaluating as m
+use Rattle.model.specs.Evaluating.{Primitive, primitiveOf, primitive, arity, argument}
 use Rattle.table.specs.Words.{Same}
 use Rattle.table.specs.declared.Node.{Node}
 use Rattle.things.specs.Rep.{Rep, RepP}
@@ -22,31 +23,31 @@ use Rattle.table.specs.Sizes.{unitSize}
 
 unfoldable pub stxE : Tree → Option Tree
 unfolding primitive
-stxE a = primitive 0 a a a
+stxE a = primitive m.stxE a a a
 
 unfoldable pub mkStx : Tree → Tree → Option Tree
 unfolding primitive
-mkStx a b = primitive 1 a b b
+mkStx a b = primitive m.mkStx a b b
 
 unfoldable pub first : Tree → Option Tree
 unfolding primitive
-first a = primitive 2 a a a
+first a = primitive m.first a a a
 
 unfoldable pub rest : Tree → Option Tree
 unfolding primitive
-rest a = primitive 3 a a a
+rest a = primitive m.rest a a a
 
 unfoldable pub linked : Tree → Tree → Option Tree
 unfolding primitive
-linked a b = primitive 4 a b b
+linked a b = primitive m.link a b b
 
 unfoldable pub same : Tree → Tree → Option Tree
 unfolding primitive
-same a b = primitive 5 a b b
+same a b = primitive m.same a b b
 
 unfoldable pub pick : Tree → Tree → Tree → Option Tree
 unfolding primitive
-pick a b c = primitive 6 a b c
+pick a b c = primitive m.pick a b c
 
 -- ---- what is asked
 
@@ -62,9 +63,11 @@ pub data Given (l : List ℕ) (top : ℕ) : ℕ → ℕ → ℕ → Trees → Ty
   one-more : {x y z w : ℕ} {t : Tree} {ts : Trees} → Rep l top x t → Given l top y z w ts → Given l top x y z (tcons t ts)
 
 pub record ReadyAll (l : List ℕ) (top p x y z : ℕ) : Type 0 where
+  pub which : Primitive
+  pub is : primitiveOf p ≡ some which
   pub thing : Trees
   pub given : Given l top x y z thing
-  pub able : tcount thing ≡ arity p
+  pub able : tcount thing ≡ arity which
   pub room : Roomy l top unitSize
 
 -- ---- what is given
@@ -84,7 +87,8 @@ pub record Does3 (f : Tree → Tree → Tree → Option Tree) (l l′ : List ℕ
   pub means : (t u w : Tree) → Rep l top x t → Rep l top y u → Rep l top z w → Pieced l l′ top (f t u w) r
 
 pub record Works (l l′ : List ℕ) (top p x y z : ℕ) (r : Part) : Type 0 where
-  pub means : (ts : Trees) → Given l top x y z ts → tcount ts ≡ arity p → Pieced l l′ top (primitive p (argument ts 0) (argument ts 1) (argument ts 2)) r
+  pub means : (q : Primitive) → primitiveOf p ≡ some q → (ts : Trees) → Given l top x y z ts → tcount ts ≡ arity q
+      → Pieced l l′ top (primitive q (argument ts 0) (argument ts 1) (argument ts 2)) r
 
 -- a chain of syntax objects, or not
 pub data Opened (ts : Trees) : Bool → Type 0 where

@@ -3,7 +3,7 @@
 use table::Node;
 use things::Made;
 ghost use mathlib.Core.Path.{_≡_};
-ghost use Rattle.model.specs.Evaluating.{arity};
+ghost use Rattle.model.specs.Evaluating.{primitiveOf, takes};
 ghost use Rattle.things.specs.Measuring.{SeenP};
 ghost use Rattle.primitives.specs.Working.{Ready, ReadyAll, Does1, Does2, Does3, Works, stxE, mkStx, first, rest, linked, same, pick, agreed, AllSyntax};
 
@@ -16,14 +16,15 @@ pub enum Part {
 // How many arguments each takes.
 const ARGUMENTS: [u32; 7] = [1, 2, 1, 1, 2, 2, 3];
 
-pub fn arguments(p: u32) -> u32
-    ensures { λ r. ⌜ r ≡ arity p ⌝ }
+// p is a primitive that takes n arguments.
+pub fn takes(p: u32, n: u32) -> bool
+    ensures { λ r. ⌜ r ≡ takes (primitiveOf p) n ⌝ }
 {
-    if p < 6 {
+    if p < 7 {
         let i = p as usize;
-        return ARGUMENTS[i];
+        return n == ARGUMENTS[i];
     }
-    ARGUMENTS[6]
+    false
 }
 
 // ---- 0 stx-e and 1 mk-stx

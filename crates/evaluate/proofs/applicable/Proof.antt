@@ -9,8 +9,8 @@ get-node-requires c κs = search (testing, needs)
 returns : tie.Need-returns
 returns c = search (testing, needs)
 
-arguments-requires : tie.Need-arguments-requires
-arguments-requires c κs = search (testing, needs)
+takes-requires : tie.Need-takes-requires
+takes-requires c κs = search (testing, needs)
 
 returns-2 : tie.Need-returns-2
 returns-2 c = search (testing, needs)
@@ -20,4 +20,4 @@ returns-3 c = search (testing, needs)
 
 pub applicable-spec : {M : Type 1} → statement M
 applicable-spec =
-    tie.close (tie.spec get-node-requires returns arguments-requires returns-2 returns-3)
+    tie.close (tie.spec get-node-requires returns takes-requires returns-2 returns-3)
