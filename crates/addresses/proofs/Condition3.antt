@@ -20,7 +20,7 @@ use Rattle.model.specs.Parsing.{parse}
 use Rattle.model.specs.Evaluating.{evaluate}
 use Rattle.model.specs.Expanding.{coreOnly}
 use Rattle.model.specs.Jobs.{Ending, refused, written, Result, budgetFits, lent, withImage, start, worked, fitted, reached, expandRoot, parseRoot, evaluateRoot, isAmong, closed, expandEnding, parseEnding, evaluateEnding, expandJob, parseJob, evaluateJob}
-use Rattle.laws.proofs.Tests.{eqb-false}
+use borrow.Author.Tests.{ne-eqb}
 use Rattle.laws.proofs.Stable.{Later, same}
 use Rattle.laws.proofs.StepLaws.{spend}
 use Rattle.codec_laws.specs.WellFormed.{Bytes, SyntaxFits, TreeImageFits}
@@ -42,7 +42,7 @@ use Rattle.addresses.proofs.ExpandJob.{expand-root-good, outcome-ok, li
 not-below : (n lo hi : ℕ) (l : List ℕ) → n < lo → Rise lo hi l → isAmong n l ≡ false
 unfolding isAmong
 not-below n lo hi [] h r = refl
-not-below n lo hi (m ∷ l) h r = rw (eqb-false n m (apart h (r .0))) (not-below n (suc m) hi l (after h (r .0)) (r .1))
+not-below n lo hi (m ∷ l) h r = rw (ne-eqb n m (apart h (r .0))) (not-below n (suc m) hi l (after h (r .0)) (r .1))
   where
     apart : n < lo → lo ≤ m → n ≢ m
     apart p q = omega arith

@@ -7,7 +7,7 @@ use lib.Dec.{leb}
 use Rattle.model.specs.Choice.{if_then_else_}
 use Rattle.model.specs.Refusals.{overBudget}
 use Rattle.model.specs.Steps.{State, Out, ok, no, Step, after, charge}
-use Rattle.laws.proofs.Tests.{leb-le, leb-gt}
+use borrow.Author.Tests.{leb-true, leb-false}
 use Rattle.laws.proofs.StepLaws.{spend}
 
 pub spend-spend : (a b : ℕ) (s : State) → spend b (spend a s) ≡ spend (a + b) s
@@ -38,8 +38,8 @@ unfolding charge spend
 charge-costs n s = go (leb n (s .left)) refl
   where
     go : (b : Bool) → leb n (s .left) ≡ b → Costs (Unit {0}) tt n s (if b then ok tt (spend n s) else no overBudget (s .left))
-    go true e = paid (leb-le n (s .left) e)
-    go false e = short (s .left) (leb-gt n (s .left) e)
+    go true e = paid (leb-true n (s .left) e)
+    go false e = short (s .left) (leb-false n (s .left) e)
 
 -- w units after u
 later-paid : {B : Type 0} {b : B} {w : ℕ} (u : ℕ) (s : State) → u ≤ s .left → {o : Out B} → Costs B b w (spend u s) o → Costs B b (u + w) s o

@@ -18,8 +18,8 @@ use Rattle.model.specs.Parsing.{parse}
 use Rattle.model.specs.Evaluating.{evaluate}
 use Rattle.model.specs.Expanding.{ofRoot, expand}
 use Rattle.model.specs.Jobs.{Ending, refused, named, written, answerOf, outputAfter, Result, budgetFits, lent, cleared, atPhase, withImage, start, worked, fitted, reached, expandRoot, parseRoot, evaluateRoot, closed, expandEnding, parseEnding, evaluateEnding, expandJob, parseJob, evaluateJob}
-use Rattle.laws.proofs.Tests.{leb-true, leb-le}
-use Rattle.codec_laws.proofs.Sequence.{and-both}
+use borrow.Author.Tests.{le-leb, leb-true}
+use Rattle.laws.proofs.Tests.{and-both}
 use Rattle.addresses.specs.OneNameOneAddress.{imageWritten}
 
 -- ---- the definitions, one step open
@@ -94,7 +94,7 @@ worked-no budget o f r u e = rw e
 
 pub fitted-is : (room : ℕ) (b : List ℕ) (u : ℕ) → length b ≤ room → length b ≤ mostImage → fitted room b u ≡ written b u
 unfolding fitted
-fitted-is room b u h k = rw (leb-true (length b) room h, leb-true (length b) mostImage k)
+fitted-is room b u h k = rw (le-leb (length b) room h, le-leb (length b) mostImage k)
 
 -- what a job gives after its ending e, and what it gives where budget or table do not fit
 abbrev pub after-ending : ℕ → List ℕ → List ℕ → Ending → Result
@@ -125,7 +125,7 @@ module _ (P : Ending → Type 0) (by-refusal : (r : Refusal) (u : ℕ) → P (re
   fitted-case room b u h = go (leb (length b) room && leb (length b) mostImage) refl
     where
       go : (t : Bool) → (leb (length b) room && leb (length b) mostImage) ≡ t → P (if t then written b u else refused tooLong u)
-      go true e = h (leb-le (length b) mostImage (and-both (leb (length b) room) (leb (length b) mostImage) e .1))
+      go true e = h (leb-true (length b) mostImage (and-both (leb (length b) room) (leb (length b) mostImage) e .1))
       go false e = by-refusal tooLong u
 
   pub worked-case : {A : Type 0} (budget : ℕ) (o : Out A) (f : A → State → Ending) → ((a : A) (s : State) → o ≡ ok a s → P (f a s)) → P (worked budget o f)

@@ -17,9 +17,9 @@ use Rattle.model.specs.Evaluating.{Primitive, stxE, mkStx, first, rest, link, s
 use Rattle.model.specs.Jobs.{isAmong, closed, closedAll}
 use Rattle.laws.specs.Ordered.{SetsIn}
 use Rattle.codec_laws.specs.WellFormed.{StxFits, StxsFit, IsValue, TreeFits, TreesFit, ValuesFit}
-use Rattle.codec_laws.proofs.Sequence.{and-both}
+use Rattle.laws.proofs.Tests.{and-both, both-true}
 use Rattle.addresses.proofs.Outcomes.{Outcome, gives, stops, chain, Kept, kept-refl, kept-same, kept-trans, charge-out, unless-out, madeTree-out}
-use Rattle.addresses.proofs.Owned.{both-true, closed-substitute}
+use Rattle.addresses.proofs.Owned.{closed-substitute}
 
 -- ---- what may be absent
 

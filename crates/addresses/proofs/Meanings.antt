@@ -16,13 +16,13 @@ use Rattle.model.specs.Parsing.{Form, formOf, headForm}
 use Rattle.model.specs.Expanding.{Meaning, core, variable, macro, unknown, Env, coreOnly, extend, coreMeaning, meaning, headMeaning}
 use Rattle.model.specs.Jobs.{isAmong}
 use Rattle.laws.specs.Ordered.{SetsIn}
-use Rattle.laws.proofs.ScopeSets.{eqb-eq}
+use borrow.Author.Tests.{eqb-true}
 use Rattle.laws.proofs.ResolveRule.{In}
 use Rattle.laws.proofs.Stable.{Later, resolve-later, later-in, keys-later, resolve-own}
 use Rattle.laws.proofs.StepLaws.{resolveAt-is}
 use Rattle.codec_laws.specs.WellFormed.{StxFits}
 use Rattle.addresses.proofs.Outcomes.{Outcome, gives, chain, resolveAt-out}
-use Rattle.addresses.proofs.Owned.{or-right}
+use Rattle.laws.proofs.Tests.{or-right}
 use Rattle.addresses.proofs.Fitting.{sets-more, tree-more}
 use Rattle.addresses.proofs.Evaluated.{TreeGood}
 use Rattle.addresses.proofs.States.{StateFits, keys, Grows, setAt-in}
@@ -130,7 +130,7 @@ module _ (k : ℕ) where
           → (if t then m else meaning n e) ≡ variable c x → MeaningGood ph n s (variable c x) × (isAmong n (vars (extend j m e)) ≡ true)
       go true t (core h) w r p = absurd w
       go true t (variable c′ x′) w r p = (
-        subst (λ (z : Meaning). MeaningGood ph n s z) p (subst (λ (z : ℕ). MeaningGood ph z s (variable c′ x′)) (sym (eqb-eq n j t)) w),
+        subst (λ (z : Meaning). MeaningGood ph n s z) p (subst (λ (z : ℕ). MeaningGood ph z s (variable c′ x′)) (sym (eqb-true n j t)) w),
         rw t,
       )
       go true t (macro v) w r p = absurd (differ (macro v) (variable c x) (omega arith) p)

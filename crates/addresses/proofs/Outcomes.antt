@@ -12,7 +12,7 @@ use Rattle.model.specs.Objects.{symbol, number, point, prim, rung, Sets, setAt,
 use Rattle.model.specs.Trees.{Tree, tnesting}
 use Rattle.model.specs.Resolving.{Found, means, several, resolve}
 use Rattle.model.specs.Steps.{State, Out, ok, no, Step, after, unless, charge, made, madeTree, addTo, flipIn, pruneFrom, nameOf, resolveAt, parts1, parts2, parts3, identifier}
-use Rattle.laws.proofs.Tests.{leb-le}
+use borrow.Author.Tests.{leb-true}
 use Rattle.laws.proofs.StepLaws.{spend}
 
 -- all but 3
@@ -93,7 +93,7 @@ tested : {A : Type 0} (x : A) (n : ℕ) (s : State)
 tested {A} x n s = go (leb n mostNesting) refl
   where
     go : (b : Bool) → leb n mostNesting ≡ b → Outcome A (λ y t. (x ≡ y) × (s ≡ t) × (n ≤ mostNesting)) (after (unless tooDeep b s) (λ v. λ t. ok x t))
-    go true e = gives x s (refl, refl, leb-le n mostNesting e)
+    go true e = gives x s (refl, refl, leb-true n mostNesting e)
     go false e = stops tooDeep (s .left) tt
 
 pub made-out : (x : Stx) (s : State) → Outcome Stx (λ y t. (x ≡ y) × (s ≡ t) × (nesting x ≤ mostNesting)) (made x s)

@@ -2,27 +2,15 @@
 use mathlib.Core.Path.{_≡_, refl, sym, _∙_}
 use mathlib.Core.Logic.{_⊎_, inl, inr}
 use Prim.Native.Nat.{ℕ}
-use mathlib.Core.Bool.{Bool, true, false, _&&_, _||_, false≢true}
+use mathlib.Core.Bool.{Bool, true, false, _||_, false≢true}
 use mathlib.Core.List.{List, [], _∷_}
 use lib.Dec.{eqb}
 use Rattle.model.specs.Choice.{if_then_else_}
 use Rattle.model.specs.Objects.{Stx, atom, list, Stxs, nil, cons}
 use Rattle.model.specs.Trees.{Tree, var, app, fun, datum, lst, stx, Trees, tnil, tcons, substitute, substituteAll, strip, stripAll}
 use Rattle.model.specs.Jobs.{isAmong, closed, closedAll}
-use Rattle.laws.proofs.ScopeSets.{eqb-true, eqb-eq}
-use Rattle.codec_laws.proofs.Sequence.{and-both}
-
-pub both-true : (a b : Bool) → a ≡ true → b ≡ true → (a && b) ≡ true
-both-true true b p q = q
-both-true false b p q = absurd (false≢true p)
-
-or-left : (a b : Bool) → a ≡ true → (a || b) ≡ true
-or-left true b p = refl
-or-left false b p = absurd (false≢true p)
-
-pub or-right : (a b : Bool) → b ≡ true → (a || b) ≡ true
-or-right true b p = refl
-or-right false b p = p
+use borrow.Author.Tests.{eq-eqb, eqb-true}
+use Rattle.laws.proofs.Tests.{and-both, both-true, or-left, or-right}
 
 or-cases : (a b : Bool) → (a || b) ≡ true → (a ≡ true) ⊎ (b ≡ true)
 or-cases true b p = inl refl
@@ -62,7 +50,7 @@ unfolding isAmong
 within-own x z a b h e y q = go (within-cons x z a b h y q)
   where
     go : (eqb y x ≡ true) ⊎ ((eqb y z || isAmong y b) ≡ true) → (eqb y z || isAmong y b) ≡ true
-    go (inl p) = or-left (eqb y z) (isAmong y b) (eqb-true y z (eqb-eq y x p ∙ sym (eqb-eq z x e)))
+    go (inl p) = or-left (eqb y z) (isAmong y b) (eq-eqb y z (eqb-true y x p ∙ sym (eqb-true z x e)))
     go (inr p) = p
 
 mutual

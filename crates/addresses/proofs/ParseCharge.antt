@@ -14,7 +14,7 @@ use Rattle.model.specs.Trees.{Tree, var, app, fun, datum, stx, Trees, tnil, tco
 use Rattle.model.specs.Resolving.{Bind, means, resolve}
 use Rattle.model.specs.Steps.{State, Out, ok, no, Step, charge, nameOf, resolveAt}
 use Rattle.model.specs.Parsing.{Form, lambda, letSyntax, quote, syntax, formOf, headForm, parseAll, parseForm, parseEntry, parse}
-use Rattle.laws.proofs.Tests.{leb-le}
+use borrow.Author.Tests.{leb-true}
 use Rattle.laws.proofs.StepLaws.{spend}
 use Rattle.addresses.specs.Charge.{formMade, formAt, sumOf, lastOf, sizeAfterHead, insideCharge, entryCharge, entryCharges}
 use Rattle.addresses.proofs.Outcomes.{Outcome, gives, stops, chain, resolveAt-out, parts1-out, parts2-out, identifier-out}
@@ -54,7 +54,7 @@ unfolding charge spend
 charge-spent n s = go (leb n (s .left)) refl
   where
     go : (b : Bool) → leb n (s .left) ≡ b → Outcome (Unit {0}) (λ v t. Spent n s t) (if b then ok tt (spend n s) else no overBudget (s .left))
-    go true e = gives tt (spend n s) (record { enough = leb-le n (s .left) e; is = refl })
+    go true e = gives tt (spend n s) (record { enough = leb-true n (s .left) e; is = refl })
     go false e = stops overBudget (s .left) tt
 
 -- what a further entry charges

@@ -24,7 +24,8 @@ use Rattle.codec_laws.specs.WellFormed.{StxFits, StxsFit, TreeFits, TreesFit}
 use Rattle.addresses.specs.OneNameOneAddress.{functionNames, functionNamesAll}
 use Rattle.addresses.proofs.Outcomes.{Kept}
 use Rattle.addresses.proofs.Fitting.{sets-more, stx-more, tree-more, strip-fits, strip-nesting}
-use Rattle.addresses.proofs.Owned.{both-true, strip-closed}
+use Rattle.laws.proofs.Tests.{both-true}
+use Rattle.addresses.proofs.Owned.{strip-closed}
 use Rattle.addresses.proofs.States.{StateFits, Grows, grows-refl, grows-trans, kept-grows, binds-in, Bound}
 use Rattle.addresses.proofs.Meanings.{vars, MeaningGood, Stays, formOf-none, binder-resolves-to-its-name}
 use Rattle.addresses.proofs.Costs.{Costs, free, charge-costs, costs-then, costs-map}

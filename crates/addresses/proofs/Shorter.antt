@@ -13,7 +13,7 @@ use Rattle.model.specs.Trees.{Tree, var, app, fun, datum, lst, stx, Trees, tnil
 use Rattle.model.specs.Resolving.{Bind}
 use Rattle.model.specs.Reading.{Head}
 use Rattle.model.specs.Writing.{groupsOf, numBytes, numsBytes, listBytes, setBytes, setsBytes, stxBytes, stxsBytes, treeBytes, treesBytes, wordsBytes, bindsBytes, headBytes, syntaxBytes, treeImageBytes}
-use Rattle.laws.proofs.Tests.{ltb-true}
+use borrow.Author.Tests.{lt-ltb}
 use Rattle.codec_laws.proofs.Lengths.{num-some}
 
 -- ---- numbers and sets
@@ -23,7 +23,7 @@ unfolding numBytes groupsOf
 num-two n h = go (ltb n 128)
   where
     rest : length (groupsOf 3 (n / 128)) ≡ 1
-    rest = rw (ltb-true (n / 128) 128 (omega arith))
+    rest = rw (lt-ltb (n / 128) 128 (omega arith))
 
     go : (t : Bool) → length (if t then n ∷ [] else (n % 128 + 128) ∷ groupsOf 3 (n / 128)) ≤ 2
     go true = omega arith
@@ -31,7 +31,7 @@ num-two n h = go (ltb n 128)
 
 small-one : (n : ℕ) → n < 128 → length (numBytes n) ≡ 1
 unfolding numBytes groupsOf
-small-one n h = rw (ltb-true n 128 h)
+small-one n h = rw (lt-ltb n 128 h)
 
 set-some : (a : Scopes) → 1 ≤ length (setBytes a)
 unfolding setBytes listBytes

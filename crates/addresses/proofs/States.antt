@@ -6,7 +6,7 @@ use Prim.Native.Nat.{ℕ, zero, suc, _+_, _-_, _^_, _≤_, _<_}
 use native.Mathlib.Nat.{le-refl, le-trans, le-of-eq, sub-le}
 use native.Mathlib.Numerals.{add-one}
 use native.Mathlib.Omega.{arith}
-use mathlib.Core.Bool.{Bool, true, false, _||_, true≢false, false≢true}
+use mathlib.Core.Bool.{Bool, true, false}
 use mathlib.Core.List.{List, [], _∷_}
 use lib.Dec.{eqb, leb, ltb}
 use lib.ListN.{length}
@@ -20,8 +20,9 @@ use Rattle.model.specs.Steps.{State, ok, no, Step, after, charge, freshName, fr
 use Rattle.model.specs.Expanding.{Binder, bindFresh}
 use Rattle.laws.specs.Ordered.{SetsIn, Sorted}
 use Rattle.laws.proofs.Members.{Small}
-use Rattle.laws.proofs.Tests.{ltb-lt}
-use Rattle.laws.proofs.ScopeSets.{has-add, eqb-true}
+use borrow.Author.Tests.{ltb-true, eq-eqb}
+use Rattle.laws.proofs.Tests.{or-left}
+use Rattle.laws.proofs.ScopeSets.{has-add}
 use Rattle.laws.proofs.ResolveRule.{In}
 use Rattle.laws.proofs.Order.{sorted-keys}
 use Rattle.laws.proofs.Store.{insert-sorted}
@@ -145,7 +146,7 @@ freshScope-out k s = go (ltb (s .scopes) mostScopes) refl
 
     go : (b : Bool) → ltb (s .scopes) mostScopes ≡ b
         → Outcome ℕ (λ j t. Grows k s t × (j ≤ t .scopes)) (if b then ok (s .scopes + 1) (withScope s) else no noScopeLeft (s .left))
-    go true e = gives (s .scopes + 1) (withScope s) (grown (ltb-lt (s .scopes) mostScopes e), le-refl (s .scopes + 1))
+    go true e = gives (s .scopes + 1) (withScope s) (grown (ltb-true (s .scopes) mostScopes e), le-refl (s .scopes + 1))
     go false e = stops noScopeLeft (s .left) tt
 
 -- ---- a fresh binder
@@ -170,12 +171,8 @@ setAt-in zero n c i = i .0
 setAt-in (suc zero) n c i = i .1
 setAt-in (suc (suc p)) n c i = i .2
 
-or-first : (a b : Bool) → a ≡ true → (a || b) ≡ true
-or-first true b p = refl
-or-first false b p = absurd (false≢true p)
-
 has-own : (j : ℕ) (a : Scopes) → has (suc j) (add (suc j) a) ≡ true
-has-own j a = has-add (suc j) j a ∙ or-first (eqb (suc j) (suc j)) (has (suc j) a) (eqb-true (suc j) (suc j) refl)
+has-own j a = has-add (suc j) j a ∙ or-left (eqb (suc j) (suc j)) (has (suc j) a) (eq-eqb (suc j) (suc j) refl)
 
 pub binder-set : (ph : ℕ) (c : Sets) (x : ℕ) (s : State) → newBind ph c x s .set ≡ add (s .scopes + 1) (setAt ph c)
 unfolding newBind
@@ -269,7 +266,7 @@ unfolding freshName withName
 name-then {B} {Q} f s h = go (ltb (s .names) mostNames) refl
   where
     go : (b : Bool) → ltb (s .names) mostNames ≡ b → Outcome B Q (after (if b then ok (s .names) (withName s) else no noNameLeft (s .left)) f)
-    go true e = h (ltb-lt (s .names) mostNames e)
+    go true e = h (ltb-true (s .names) mostNames e)
     go false e = stops noNameLeft (s .left) tt
 
 scope-then : {B : Type 0} {Q : B → State → Type 0} (f : ℕ → Step B) (s : State)
@@ -278,7 +275,7 @@ unfolding freshScope withScope
 scope-then {B} {Q} f s h = go (ltb (s .scopes) mostScopes) refl
   where
     go : (b : Bool) → ltb (s .scopes) mostScopes ≡ b → Outcome B Q (after (if b then ok (s .scopes + 1) (withScope s) else no noScopeLeft (s .left)) f)
-    go true e = h (ltb-lt (s .scopes) mostScopes e)
+    go true e = h (ltb-true (s .scopes) mostScopes e)
     go false e = stops noScopeLeft (s .left) tt
 
 charge-then : {B : Type 0} {Q : B → State → Type 0} (n : ℕ) (f : Unit {0} → Step B) (s : State)
@@ -300,7 +297,7 @@ bind-then {B} {Q} b f s h = go (ltb (length (s .binds)) mostBindings) refl
     t = record { left = s .left; names = s .names; scopes = s .scopes; binds = insert b (s .binds) }
 
     go : (x : Bool) → ltb (length (s .binds)) mostBindings ≡ x → Outcome B Q (after (if x then ok tt t else no noBindingLeft (s .left)) f)
-    go true e = h (ltb-lt (length (s .binds)) mostBindings e)
+    go true e = h (ltb-true (length (s .binds)) mostBindings e)
     go false e = stops noBindingLeft (s .left) tt
 
 pub bindFresh-out : (k ph : ℕ) (c : Sets) (x : ℕ) (s : State) → StateFits k s → x < k → SetsIn (s .scopes) c

@@ -11,8 +11,7 @@ use Rattle.model.specs.Limits.{mostScopes, mostNames, coreNames, mostWordLength
 use Rattle.model.specs.Refusals.{layout, overLimit, wrongKind}
 use Rattle.model.specs.Reading.{got, need, byte, bytes, num, numUpTo, goodWord, among, readWords, coreWords, Head, symbols, readHead}
 use Rattle.model.specs.Writing.{numBytes, wordsBytes, headBytes}
-use Rattle.laws.proofs.Tests.{leb-true, leb-le, eqb-false, eqb-ne}
-use Rattle.laws.proofs.ScopeSets.{eqb-eq, eqb-true}
+use borrow.Author.Tests.{le-leb, leb-true, ne-eqb, eqb-false, eqb-true, eq-eqb}
 use Rattle.codec_laws.specs.WellFormed.{Bytes, WordsFit, HeadFits}
 use Rattle.codec_laws.proofs.NumberTrip.{num-back, got-value, got-rest, fault≢got}
 use Rattle.codec_laws.proofs.Sequence.{next-got, need-got, moved, Wrote, wrote, join, num-w, upTo-w, upTo-back}
@@ -45,7 +44,7 @@ not-none k e = go (eqb k 0) refl e
 
     go : (t : Bool) → eqb k 0 ≡ t → not t ≡ true → 0 < k
     go true q p = absurd (false≢true p)
-    go false q p = some-more k (eqb-ne k 0 q)
+    go false q p = some-more k (eqb-false k 0 q)
 
 words-w : (n : ℕ) (seen ws : List (List ℕ)) (s rest : List ℕ) → Bytes s → readWords n seen s ≡ got ws rest → WordsTook n seen s ws rest
 unfolding readWords wordsBytes
@@ -61,7 +60,7 @@ words-w (suc n) seen ws s rest b e =
     let n₃ = next-got (need layout (goodWord (k .0) && not (among (k .0) seen)) (k .1)) _ ws rest (k .3) in
     let q₃ = need-got layout (goodWord (k .0) && not (among (k .0) seen)) (n₃ .0) (k .1) (n₃ .1) (n₃ .2) in
     let r = next-got (readWords n (k .0 ∷ seen) (n₃ .1)) _ ws rest (n₃ .3) in
-    one (g .0) (k .0) (r .0) (n₂ .1) (n₃ .1) (r .1) (p .1) (not-none (g .0) (q₁ .0)) (leb-le (g .0) mostWordLength (q₂ .0)) (q₃ .0)
+    one (g .0) (k .0) (r .0) (n₂ .1) (n₃ .1) (r .1) (p .1) (not-none (g .0) (q₁ .0)) (leb-true (g .0) mostWordLength (q₂ .0)) (q₃ .0)
     (num-w (g .0) s (n₂ .1) b (g .2 ∙ ap (got (g .0)) (q₁ .1 ∙ q₂ .1)) .0) (p .0 ∙ ap (λ (z : List ℕ). k .0 ++ z) (q₃ .1))
     (λ b′. words-w n (k .0 ∷ seen) (r .0) (n₃ .1) (r .1) b′ (r .2)) (r .3)
   where
@@ -96,7 +95,7 @@ head-w kind h s rest b e =
     let ws = next-got (readWords (w .0) coreWords (w .1)) _ h rest (w .3) in
     let m = next-got (numUpTo overLimit (mostNames - coreNames - w .0) (ws .1)) _ h rest (ws .3) in
     let n = next-got (numUpTo overLimit mostScopes (m .1)) _ h rest (m .3) in
-    go (g .0) (w .0) (m .0) (n .0) (ws .0) (n₂ .1) (w .1) (ws .1) (m .1) (n .1) (eqb-eq (g .0) kind (q₂ .0))
+    go (g .0) (w .0) (m .0) (n .0) (ws .0) (n₂ .1) (w .1) (ws .1) (m .1) (n .1) (eqb-true (g .0) kind (q₂ .0))
     (num-w (g .0) s (n₂ .1) b (g .2 ∙ ap (got (g .0)) (q₁ .1 ∙ q₂ .1)) .0)
     (λ b′. upTo-w overLimit (mostNames - coreNames) (w .0) (n₂ .1) (w .1) b′ (w .2))
     (λ b′. words-w (w .0) coreWords (ws .0) (w .1) (ws .1) b′ (ws .2))
@@ -149,8 +148,8 @@ words-back seen (w ∷ l) rest f =
       append-assoc (numBytes (length w) ++ w) (wordsBytes l) rest,
       append-assoc (numBytes (length w)) w (wordsBytes l ++ rest),
       num-back (length w) (w ++ (wordsBytes l ++ rest)) (omega (arith, f .1)),
-      eqb-false (length w) 0 (some-bytes (f .0)),
-      leb-true (length w) 32 (f .1),
+      ne-eqb (length w) 0 (some-bytes (f .0)),
+      le-leb (length w) 32 (f .1),
       bytes-back w (wordsBytes l ++ rest),
       f .2,
       words-back (w ∷ seen) l rest (f .3),
@@ -180,7 +179,7 @@ head-back kind h rest known f =
     ∙ rw (
       num-back kind (numBytes W ++ (wordsBytes (h .words) ++ (numBytes M ++ r₄))) (small known),
       is-kind known,
-      eqb-true kind kind refl,
+      eq-eqb kind kind refl,
       upTo-back overLimit 1020 W (wordsBytes (h .words) ++ (numBytes M ++ r₄)) W-le W-small,
       words-back coreWords (h .words) (numBytes M ++ r₄) (f .words-fit),
       upTo-back overLimit (1020 - W) M r₄ M-le M-small,

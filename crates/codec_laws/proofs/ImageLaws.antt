@@ -16,7 +16,7 @@ use Rattle.model.specs.Trees.{Tree}
 use Rattle.model.specs.Resolving.{Bind}
 use Rattle.model.specs.Reading.{Read, got, fault, Reader, give, Head, symbols, readHead, readBinds, readStx, readTree, atEnd, Image, readSyntax, readTreeImage, readImage, _>>=_, _>>_}
 use Rattle.model.specs.Writing.{numBytes, headBytes, bindsBytes, stxBytes, treeBytes, syntaxBytes, treeImageBytes}
-use Rattle.laws.proofs.Tests.{leb-true, leb-le}
+use borrow.Author.Tests.{le-leb, leb-true}
 use Rattle.codec_laws.specs.WellFormed.{Bytes, HeadFits, SyntaxFits, TreeImageFits}
 use Rattle.codec_laws.proofs.NumberTrip.{got-value, fault≢got}
 use Rattle.codec_laws.proofs.Sequence.{next-got, Wrote, join, nil-right}
@@ -41,12 +41,12 @@ whole r image rest i e = go (leb (length image) mostImage) refl e
   where
     go : (b : Bool) → leb (length image) mostImage ≡ b → (if b then r image else fault overLimit) ≡ got i rest
         → (r image ≡ got i rest) × (length image ≤ mostImage)
-    go true q f = (f, leb-le (length image) mostImage q)
+    go true q f = (f, leb-true (length image) mostImage q)
     go false q f = absurd (fault≢got overLimit i rest f)
 
 read-short : {R : Type 0} (r : Reader (Image R)) (image : List ℕ) (v : Read (Image R)) → length image ≤ mostImage → r image ≡ v → readImage r image ≡ v
 unfolding readImage
-read-short r image v h e = rw (leb-true (length image) mostImage h) e
+read-short r image v h e = rw (le-leb (length image) mostImage h) e
 
 head-counts : (h : Head) → HeadFits h → Counts h
 unfolding mostNames mostScopes

@@ -12,7 +12,7 @@ use Rattle.model.specs.Refusals.{Refusal, layout, overLimit}
 use Rattle.model.specs.Reading.{Read, got, fault, byte, groups, num}
 use Rattle.model.specs.Writing.{groupsOf, numBytes}
 use Rattle.codec_laws.specs.WellFormed.{Bytes}
-use Rattle.laws.proofs.Tests.{leb-true, ltb-true, ltb-false, eqb-false, leb-le, ltb-lt, ltb-ge, eqb-ne}
+use borrow.Author.Tests.{le-leb, lt-ltb, le-ltb, ne-eqb, leb-true, ltb-true, ltb-false, eqb-false}
 
 read-small : (k w n m : ℕ) (rest : List ℕ) → ltb m 128 ≡ true → eqb m 0 ≡ false
     → groups (suc k) w n (m ∷ rest) ≡ got (n + m * w) rest
@@ -47,16 +47,16 @@ pos-ne m h e = omega arith
 
 groups-back : (k w n m : ℕ) (rest : List ℕ) → 0 < m → m < room k → groups k w n (groupsOf k m ++ rest) ≡ got (n + m * w) rest
 unfolding groupsOf
-groups-back zero w n m rest p h = read-last w n m rest (leb-true m 15 (omega arith)) (eqb-false m 0 (pos-ne m p))
+groups-back zero w n m rest p h = read-last w n m rest (le-leb m 15 (omega arith)) (ne-eqb m 0 (pos-ne m p))
 groups-back (suc k) w n m rest p h = go (ltb m 128) refl (groups-back k (w * 128) (n + (m % 128 + 128 - 128) * w) (m / 128) rest)
   where
     go : (t : Bool) → ltb m 128 ≡ t
         → (0 < m / 128 → m / 128 < room k → groups k (w * 128) (n + (m % 128 + 128 - 128) * w) (groupsOf k (m / 128) ++ rest) ≡ got (n + (m % 128 + 128 - 128) * w + m / 128 * (w * 128)) rest)
         → groups (suc k) w n ((if t then m ∷ [] else (m % 128 + 128) ∷ groupsOf k (m / 128)) ++ rest) ≡ got (n + m * w) rest
-    go true e below = read-small k w n m rest e (eqb-false m 0 (pos-ne m p))
+    go true e below = read-small k w n m rest e (ne-eqb m 0 (pos-ne m p))
     go false e below =
-        read-more k w n (m % 128 + 128) (groupsOf k (m / 128) ++ rest) (ltb-false (m % 128 + 128) 128 (omega arith))
-        ∙ below (omega (arith, ltb-ge m 128 e)) (omega arith)
+        read-more k w n (m % 128 + 128) (groupsOf k (m / 128) ++ rest) (le-ltb (m % 128 + 128) 128 (omega arith))
+        ∙ below (omega (arith, ltb-false m 128 e)) (omega arith)
         ∙ ap (λ (x : ℕ). got x rest) (regroup n w m)
 
 -- a number of an image, written and read
@@ -66,8 +66,8 @@ num-back n rest h = go (ltb n 128) refl
   where
     go : (t : Bool) → ltb n 128 ≡ t → num ((if t then n ∷ [] else (n % 128 + 128) ∷ groupsOf 3 (n / 128)) ++ rest) ≡ got n rest
     go true e = rw e
-    go false e = rw (ltb-false (n % 128 + 128) 128 (omega arith))
-        (groups-back 3 128 (n % 128 + 128 - 128) (n / 128) rest (omega (arith, ltb-ge n 128 e)) (omega arith)
+    go false e = rw (le-ltb (n % 128 + 128) 128 (omega arith))
+        (groups-back 3 128 (n % 128 + 128 - 128) (n / 128) rest (omega (arith, ltb-false n 128 e)) (omega arith)
         ∙ ap (λ (x : ℕ). got x rest) (omega (arith, div-add-mod' n 128)))
 
 -- ---- what is read is written back the same
@@ -129,8 +129,8 @@ groups-same zero w n v (b ∷ s) rest bs e = go (leb b 15) refl (eqb b 0) refl
         let f = sym (read-last w n b s p q) ∙ e in
         record {
           m = b;
-          pos = ne-pos b (eqb-ne b 0 q);
-          fits = omega (arith, leb-le b 15 p);
+          pos = ne-pos b (eqb-false b 0 q);
+          fits = omega (arith, leb-true b 15 p);
           sum = sym (got-value (n + b * w) v s rest f);
           same = ap (λ (r : List ℕ). b ∷ r) (got-rest (n + b * w) v s rest f);
         }
@@ -146,9 +146,9 @@ groups-same (suc k) w n v (b ∷ s) rest bs e =
         record {
           m = q;
           pos = omega (arith, g .pos);
-          fits = omega (arith, g .fits, bs .0, ltb-ge b 128 p);
+          fits = omega (arith, g .fits, bs .0, ltb-false b 128 p);
           sum = g .sum ∙ omega arith;
-          same = rw (ltb-false q 128 (omega (arith, g .pos)), high (g .m), digit-back b (bs .0) (ltb-ge b 128 p) (g .m))
+          same = rw (le-ltb q 128 (omega (arith, g .pos)), high (g .m), digit-back b (bs .0) (ltb-false b 128 p) (g .m))
               (ap (λ (r : List ℕ). b ∷ r) (g .same));
         }
 
@@ -160,8 +160,8 @@ groups-same (suc k) w n v (b ∷ s) rest bs e =
         let f = sym (read-small k w n b s p q) ∙ e in
         record {
           m = b;
-          pos = ne-pos b (eqb-ne b 0 q);
-          fits = omega (arith, ltb-lt b 128 p, one-le-pow k 128 (zero-lt-suc 127));
+          pos = ne-pos b (eqb-false b 0 q);
+          fits = omega (arith, ltb-true b 128 p, one-le-pow k 128 (zero-lt-suc 127));
           sum = sym (got-value (n + b * w) v s rest f);
           same = rw p (ap (λ (r : List ℕ). b ∷ r) (got-rest (n + b * w) v s rest f));
         }
@@ -193,9 +193,9 @@ num-same (b ∷ s) rest v bs e = go (ltb b 128) refl
 
     many : ltb b 128 ≡ false → Groups 3 128 (b - 128) v s rest → (v < 4294967296) × (b ∷ s ≡ groupsOf 4 v ++ rest)
     many p g =
-        let big = ltb-ge b 128 p in (
+        let big = ltb-false b 128 p in (
           omega (arith, g .fits, g .sum, bs .0),
-          rw (ltb-false v 128 (omega (arith, g .pos, g .sum)), value-high (g .m) big (g .sum), value-low (g .m) big (g .sum))
+          rw (le-ltb v 128 (omega (arith, g .pos, g .sum)), value-high (g .m) big (g .sum), value-low (g .m) big (g .sum))
               (ap (λ (r : List ℕ). b ∷ r) (g .same)),
         )
 
@@ -203,7 +203,7 @@ num-same (b ∷ s) rest v bs e = go (ltb b 128) refl
     go true p =
         let f = sym (num-small b s p) ∙ e in
         let q = got-value b v s rest f in (
-          omega (arith, ltb-lt b 128 p, q),
-          rw (ltb-true v 128 (omega (arith, ltb-lt b 128 p, q))) (ap₂ (λ (x : ℕ) (r : List ℕ). x ∷ r) q (got-rest b v s rest f)),
+          omega (arith, ltb-true b 128 p, q),
+          rw (lt-ltb v 128 (omega (arith, ltb-true b 128 p, q))) (ap₂ (λ (x : ℕ) (r : List ℕ). x ∷ r) q (got-rest b v s rest f)),
         )
     go false p = many p (groups-same 3 128 (b - 128) v s rest (bs .1) (sym (num-more b s p) ∙ e))

@@ -12,7 +12,7 @@ use Rattle.model.specs.Refusals.{layout, overLimit}
 use Rattle.model.specs.Objects.{Atom, symbol, number, point, prim, rung, tagOf, contentOf, Sets, Stx, atom, list, Stxs, nil, cons, count, nesting, nestings}
 use Rattle.model.specs.Reading.{got, Reader, num, numUpTo, numBelow, readSet, readSets, readAtom, readParts, readContent, readStx, Head, symbols}
 use Rattle.model.specs.Writing.{numBytes, setBytes, setsBytes, stxBytes, stxsBytes}
-use Rattle.laws.proofs.ScopeSets.{eqb-eq}
+use borrow.Author.Tests.{eqb-true}
 use Rattle.laws.specs.Ordered.{SetsIn}
 use Rattle.codec_laws.specs.WellFormed.{Bytes, AtomFits, StxFits, StxsFit}
 use Rattle.codec_laws.proofs.NumberTrip.{num-back, fault≢got}
@@ -133,7 +133,7 @@ content-w l h part k c t true q x s₀ s rest w i e =
     moved (StxTook (suc l) h s₀) (list c (r .0)) x (r .1) rest (r .3) (
       join (numBytes 5 ++ setsBytes c ++ numBytes (count (r .0))) (stxsBytes (r .0)) s₀ (n .1) (r .1)
           (join (numBytes 5 ++ setsBytes c) (numBytes (count (r .0))) s₀ s (n .1)
-          (subst (λ (z : ℕ). Wrote (numBytes z ++ setsBytes c) s₀ s) (eqb-eq t 5 q) w)
+          (subst (λ (z : ℕ). Wrote (numBytes z ++ setsBytes c) s₀ s) (eqb-true t 5 q) w)
           (subst (λ (z : ℕ). Wrote (numBytes z) s (n .1)) (sym (w₂ .1)) (w₁ .0)))
           (w₂ .0),
       (i, w₂ .2),

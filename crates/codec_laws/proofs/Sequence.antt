@@ -1,13 +1,13 @@
 -- What a reader that succeeds says of its parts, and that a number read is written again, and a written one read back.
 use mathlib.Core.Path.{_≡_, refl, sym, ap, _∙_, subst}
 use Prim.Native.Nat.{ℕ, _≤_, _<_}
-use mathlib.Core.Bool.{Bool, true, false, _&&_, false≢true}
+use mathlib.Core.Bool.{Bool, true, false}
 use mathlib.Core.List.{List, [], _∷_, _++_, append-assoc}
 use lib.Dec.{ltb, leb}
 use Rattle.model.specs.Refusals.{Refusal, layout}
 use Rattle.model.specs.Reading.{Read, got, fault, Reader, next, need, num, numUpTo, numBelow}
 use Rattle.model.specs.Writing.{numBytes}
-use Rattle.laws.proofs.Tests.{leb-true, ltb-true, leb-le, ltb-lt}
+use borrow.Author.Tests.{le-leb, lt-ltb, leb-true, ltb-true}
 use Rattle.codec_laws.specs.WellFormed.{Bytes}
 use Rattle.codec_laws.proofs.NumberTrip.{num-same, num-back, got-value, got-rest, fault≢got}
 
@@ -25,10 +25,6 @@ need-got c false v s rest e = absurd (fault≢got c v rest e)
 -- what holds of the last step's value and rest holds of the whole reader's
 pub moved : {A : Type 0} (P : A → List ℕ → Type 0) (a b : A) (s t : List ℕ) → got a s ≡ got b t → P a s → P b t
 moved P a b s t e p = subst (λ z. P z t) (got-value a b s t e) (subst (P a) (got-rest a b s t e) p)
-
-pub and-both : (x y : Bool) → (x && y) ≡ true → (x ≡ true) × (y ≡ true)
-and-both true y e = (refl, e)
-and-both false y e = absurd (false≢true e)
 
 -- ---- s is w and then rest
 
@@ -63,7 +59,7 @@ upTo-w c m v s rest b e =
     let n = next-got (need c (leb (g .0) m) (g .1)) _ v rest (g .3) in
     let q = need-got c (leb (g .0) m) (n .0) (g .1) (n .1) (n .2) in
     moved (λ (z : ℕ) (r : List ℕ). Wrote (numBytes z) s r × (z ≤ m)) (g .0) v (n .1) rest (n .3)
-    (num-w (g .0) s (n .1) b (g .2 ∙ ap (got (g .0)) (q .1)) .0, leb-le (g .0) m (q .0))
+    (num-w (g .0) s (n .1) b (g .2 ∙ ap (got (g .0)) (q .1)) .0, leb-true (g .0) m (q .0))
 
 pub below-w : (m v : ℕ) (s rest : List ℕ) → Bytes s → numBelow m s ≡ got v rest → Wrote (numBytes v) s rest × (v < m)
 unfolding numBelow
@@ -72,12 +68,12 @@ below-w m v s rest b e =
     let n = next-got (need layout (ltb (g .0) m) (g .1)) _ v rest (g .3) in
     let q = need-got layout (ltb (g .0) m) (n .0) (g .1) (n .1) (n .2) in
     moved (λ (z : ℕ) (r : List ℕ). Wrote (numBytes z) s r × (z < m)) (g .0) v (n .1) rest (n .3)
-    (num-w (g .0) s (n .1) b (g .2 ∙ ap (got (g .0)) (q .1)) .0, ltb-lt (g .0) m (q .0))
+    (num-w (g .0) s (n .1) b (g .2 ∙ ap (got (g .0)) (q .1)) .0, ltb-true (g .0) m (q .0))
 
 pub upTo-back : (c : Refusal) (m v : ℕ) (rest : List ℕ) → v ≤ m → v < 4294967296 → numUpTo c m (numBytes v ++ rest) ≡ got v rest
 unfolding numUpTo
-upTo-back c m v rest h k = rw (num-back v rest k, leb-true v m h)
+upTo-back c m v rest h k = rw (num-back v rest k, le-leb v m h)
 
 pub below-back : (m v : ℕ) (rest : List ℕ) → v < m → v < 4294967296 → numBelow m (numBytes v ++ rest) ≡ got v rest
 unfolding numBelow
-below-back m v rest h k = rw (num-back v rest k, ltb-true v m h)
+below-back m v rest h k = rw (num-back v rest k, lt-ltb v m h)

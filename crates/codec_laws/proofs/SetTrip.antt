@@ -14,10 +14,11 @@ use Rattle.model.specs.Refusals.{layout}
 use Rattle.model.specs.Scopes.{Scopes, only, add, members}
 use Rattle.model.specs.Reading.{got, need, num, readMembers, readSet}
 use Rattle.model.specs.Writing.{numBytes, numsBytes, listBytes, setBytes}
-use Rattle.laws.proofs.Tests.{leb-true, ltb-true, leb-le, ltb-lt}
+use borrow.Author.Tests.{le-leb, lt-ltb, leb-true, ltb-true}
 use Rattle.codec_laws.specs.WellFormed.{Bytes}
 use Rattle.codec_laws.proofs.NumberTrip.{num-back, num-same, got-value, got-rest}
-use Rattle.codec_laws.proofs.Sequence.{next-got, need-got, and-both, bytes-rest}
+use Rattle.laws.proofs.Tests.{and-both}
+use Rattle.codec_laws.proofs.Sequence.{next-got, need-got, bytes-rest}
 use Rattle.laws.proofs.Members.{Asc, Small, asc-of, addAll, set-of-members, members-of-set}
 
 -- ---- sets stay small
@@ -69,7 +70,7 @@ members-same (suc c) n p m v s rest bs e =
         record {
           l = k ∷ r .l;
           len = ap suc (r .len);
-          asc = (ltb-lt p k (w .0), leb-le k n (w .1), r .asc);
+          asc = (ltb-true p k (w .0), leb-true k n (w .1), r .asc);
           value = r .value;
           same = b ∙ ap (λ (z : List ℕ). numBytes k ++ z) (r .same) ∙ sym (append-assoc (numBytes k) (numsBytes (r .l)) rest);
         }
@@ -100,7 +101,7 @@ members-back : (n p : ℕ) (m : Scopes) (l rest : List ℕ) → n ≤ 256 → As
 unfolding readMembers addAll numsBytes
 members-back n p m [] rest h a = refl
 members-back n p m (k ∷ l) rest h a =
-    rw (append-assoc (numBytes k) (numsBytes l) rest, num-back k (numsBytes l ++ rest) (omega (arith, a .1)), ltb-true p k (a .0), leb-true k n (a .1))
+    rw (append-assoc (numBytes k) (numsBytes l) rest, num-back k (numsBytes l ++ rest) (omega (arith, a .1)), lt-ltb p k (a .0), le-leb k n (a .1))
     (members-back n k (add k m) l rest h (a .2))
 
 asc-length : (p n : ℕ) (l : List ℕ) → Asc p n l → p + length l ≤ n ⊎ (l ≡ [])

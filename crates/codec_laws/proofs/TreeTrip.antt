@@ -11,7 +11,7 @@ use Rattle.model.specs.Objects.{Atom, tagOf, contentOf, Stx, atom, list, nestin
 use Rattle.model.specs.Trees.{Tree, var, app, fun, datum, lst, stx, Trees, tnil, tcons, tcount, tnesting, tnestings}
 use Rattle.model.specs.Reading.{got, Reader, need, num, numBelow, readAtom, readStx, readTrees, readApp, readTreeBody, readTree, Head, symbols}
 use Rattle.model.specs.Writing.{numBytes, stxBytes, treeBytes, treesBytes}
-use Rattle.laws.proofs.Tests.{leb-true, leb-le}
+use borrow.Author.Tests.{le-leb, leb-true}
 use Rattle.codec_laws.specs.WellFormed.{Bytes, AtomFits, IsValue, TreeFits, TreesFit, ValuesFit}
 use Rattle.codec_laws.proofs.NumberTrip.{num-back, fault≢got}
 use Rattle.codec_laws.proofs.Sequence.{next-got, need-got, moved, Wrote, wrote, join, num-w, below-w, below-back}
@@ -154,7 +154,7 @@ tree-w (suc l) h i low v s rest b e =
     let n = next-got (need layout (leb low (t .0)) (t .1)) _ v rest (t .3) in
     let q = need-got layout (leb low (t .0)) (n .0) (t .1) (n .1) (n .2) in
     body-w l h low i (readTree l h 0) (readTree l h 2) (readStx (suc l) h) (tree-w l h i 0) (tree-w l h i 2) (stx-w (suc l) h i) (t .0)
-    (leb-le low (t .0) (q .0)) v s (n .1) rest (num-w (t .0) s (n .1) b (t .2 ∙ ap (got (t .0)) (q .1)) .0) (n .3)
+    (leb-true low (t .0) (q .0)) v s (n .1) rest (num-w (t .0) s (n .1) b (t .2 ∙ ap (got (t .0)) (q .1)) .0) (n .3)
 
 -- ---- trees written
 
@@ -164,7 +164,7 @@ tagged-back : (l : ℕ) (h : Head) (low t : ℕ) (w rest : List ℕ) (v : Tree) 
     → readTree (suc l) h low ((numBytes t ++ w) ++ rest) ≡ got v rest
 unfolding readTree
 tagged-back l h low t w rest v q k e =
-    rw (append-assoc (numBytes t) w rest, num-back t (w ++ rest) (omega arith), leb-true low t q) e
+    rw (append-assoc (numBytes t) w rest, num-back t (w ++ rest) (omega arith), le-leb low t q) e
 
 var-body : (h : Head) (tree value : Reader Tree) (object : Reader Stx) (n : ℕ) (rest : List ℕ) → n < h .names → h .names ≤ 1024
     → readTreeBody h tree value object 0 (numBytes n ++ rest) ≡ got (var n) rest

@@ -16,7 +16,7 @@ use Rattle.refusals.specs.Refusing.{refusalOf, caseOf}
 use Rattle.refusals.proofs.Cases.{refusal-back}
 use Rattle.refusals.specs.declared.Refusal.{Refusal}
 use Rattle.numbers.specs.declared.Cursor.{Cursor}
-use Rattle.laws.proofs.Tests.{leb-true, leb-false}
+use borrow.Author.Tests.{le-leb, lt-leb}
 use Rattle.codec_laws.specs.WellFormed.{Bytes, HeadFits}
 use Rattle.codec_laws.proofs.HeadTrip.{head-w}
 use Rattle.head.specs.Heads.{headOf, headAt}
@@ -33,11 +33,11 @@ bytes-of (b ∷ s) h = (omega (arith, h 0), bytes-of s (λ i. h (suc i)))
 
 pub image-short : {R : Type 0} (read : Reader (Image R)) (s : List ℕ) → length s ≤ 65536 → readImage read s ≡ read s
 unfolding readImage mostImage
-image-short read s h = rw (leb-true (length s) 65536 h)
+image-short read s h = rw (le-leb (length s) 65536 h)
 
 pub image-long : {R : Type 0} (read : Reader (Image R)) (s : List ℕ) → 65536 < length s → readImage read s ≡ fault overLimit
 unfolding readImage mostImage
-image-long read s h = rw (leb-false (length s) 65536 h)
+image-long read s h = rw (lt-leb (length s) 65536 h)
 
 -- ---- the head
 

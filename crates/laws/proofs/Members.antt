@@ -4,14 +4,14 @@ use mathlib.Core.Logic.{_≢_}
 use Prim.Native.Nat.{ℕ, zero, suc, _+_, _/_, _%_, _^_, _≤_, _<_, zero-le}
 use native.Mathlib.Nat.{not-suc-le-zero, add-zero, le-refl}
 use native.Mathlib.Omega.{arith}
-use mathlib.Core.Bool.{Bool, true, false, _||_, false≢true}
+use mathlib.Core.Bool.{Bool, true, false, _||_, false≢true, or-false}
 use mathlib.Core.List.{List, [], _∷_}
 use lib.Dec.{eqb, ltb, leb}
 use lib.Arith.{lt-one}
 use Rattle.model.specs.Limits.{mostScopes}
 use Rattle.model.specs.Scopes.{Scopes, digit, has, add, keep, membersFrom, members}
-use Rattle.laws.proofs.Tests.{eqb-false, leb-le, leb-gt, ltb-lt, ltb-ge}
-use Rattle.laws.proofs.ScopeSets.{digit-zero, has-add, has-none, set-ext, eqb-true}
+use borrow.Author.Tests.{ne-eqb, leb-true, leb-false, ltb-true, ltb-false, eq-eqb}
+use Rattle.laws.proofs.ScopeSets.{digit-zero, has-add, has-none, set-ext}
 
 -- ---- ascending lists
 
@@ -33,7 +33,7 @@ not-below : (p n : ℕ) (l : List ℕ) → Asc p n l → (j : ℕ) → j ≤ p �
 unfolding member
 not-below p n [] a j h = refl
 not-below p n (k ∷ l) a j h =
-    rw (eqb-false j k (below (a .0))) (not-below k n l (a .2) j (omega (arith, a .0)))
+    rw (ne-eqb j k (below (a .0))) (not-below k n l (a .2) j (omega (arith, a .0)))
   where
     below : p < k → j ≢ k
     below q = omega arith
@@ -42,18 +42,18 @@ not-below p n (k ∷ l) a j h =
 not-above : (p n : ℕ) (l : List ℕ) → Asc p n l → (j : ℕ) → n < j → member j l ≡ false
 unfolding member
 not-above p n [] a j h = refl
-not-above p n (k ∷ l) a j h = rw (eqb-false j k (past (a .1))) (not-above k n l (a .2) j h)
+not-above p n (k ∷ l) a j h = rw (ne-eqb j k (past (a .1))) (not-above k n l (a .2) j h)
   where
     past : k ≤ n → j ≢ k
     past q = omega arith
 
 head-in : (k : ℕ) (l : List ℕ) → member k (k ∷ l) ≡ true
 unfolding member
-head-in k l = rw (eqb-true k k refl)
+head-in k l = rw (eq-eqb k k refl)
 
 tail-in : (j k : ℕ) (l : List ℕ) → j ≢ k → member j (k ∷ l) ≡ member j l
 unfolding member
-tail-in j k l h = rw (eqb-false j k h)
+tail-in j k l h = rw (ne-eqb j k h)
 
 -- two ascending lists with the same members are equal
 pub asc-ext : (p n : ℕ) (l r : List ℕ) → Asc p n l → Asc p n r → ((j : ℕ) → member j l ≡ member j r) → l ≡ r
@@ -72,21 +72,21 @@ asc-ext p n (k ∷ l) (k′ ∷ r) a b h = go (ltb k k′) refl (ltb k′ k) ref
       where
         low : (t : Bool) → leb j k ≡ t → member j l ≡ member j r
         low true q =
-            not-below k n l (a .2) j (leb-le j k q) ∙ sym (not-below k′ n r (b .2) j (omega (arith, leb-le j k q)))
+            not-below k n l (a .2) j (leb-true j k q) ∙ sym (not-below k′ n r (b .2) j (omega (arith, leb-true j k q)))
         low false q =
-            sym (tail-in j k l (omega (arith, leb-gt j k q))) ∙ h j ∙ tail-in j k′ r (omega (arith, leb-gt j k q))
+            sym (tail-in j k l (omega (arith, leb-false j k q))) ∙ h j ∙ tail-in j k′ r (omega (arith, leb-false j k q))
 
     go : (s : Bool) → ltb k k′ ≡ s → (t : Bool) → ltb k′ k ≡ t
         → (Asc k n r → ((j : ℕ) → member j l ≡ member j r) → l ≡ r) → (k ∷ l) ≡ (k′ ∷ r)
-    go true q t q′ rec = absurd (miss k k′ l r (ltb-lt k k′ q) (b .2) (h k))
-    go false q true q′ rec = absurd (miss k′ k r l (ltb-lt k′ k q′) (a .2) (sym (h k′)))
+    go true q t q′ rec = absurd (miss k k′ l r (ltb-true k k′ q) (b .2) (h k))
+    go false q true q′ rec = absurd (miss k′ k r l (ltb-true k′ k q′) (a .2) (sym (h k′)))
     go false q false q′ rec =
-        let e : k ≡ k′ = omega (arith, ltb-ge k k′ q, ltb-ge k′ k q′) in
+        let e : k ≡ k′ = omega (arith, ltb-false k k′ q, ltb-false k′ k q′) in
         ap₂ (λ (x : ℕ) (m : List ℕ). x ∷ m) e (rec (subst (λ (x : ℕ). Asc x n r) (sym e) (b .2)) (tails e))
 
 -- ---- the list of a set
 
-half-pow : (m j : ℕ) → m < 2 ^ suc j → m / 2 < 2 ^ j
+pub half-pow : (m j : ℕ) → m < 2 ^ suc j → m / 2 < 2 ^ j
 half-pow m j h = omega arith
 
 members-none : (c n : ℕ) → membersFrom c n 0 ≡ []
@@ -166,10 +166,6 @@ has-addAll p n (zero ∷ l) a j m = absurd (not-suc-le-zero (a .0))
 has-addAll p n (suc k ∷ l) a j m =
     has-addAll (suc k) n l (a .2) j (add (suc k) m) ∙ ap (λ (x : Bool). member j l || x) (has-add j k m)
     ∙ swap-or (member j l) (eqb j (suc k)) (has j m)
-
-or-false : (x : Bool) → (x || false) ≡ x
-or-false true = refl
-or-false false = refl
 
 -- the set of a set's list
 pub set-of-members : (m : Scopes) → Small m → addAll (members m) 0 ≡ m

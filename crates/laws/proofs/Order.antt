@@ -9,8 +9,7 @@ use lib.Dec.{eqb, ltb}
 use Rattle.model.specs.Scopes.{Scopes, lessThen, listBefore, setBefore, members}
 use Rattle.model.specs.Resolving.{Bind, bindBefore}
 use Rattle.laws.specs.Ordered.{Ascending, Sorted}
-use Rattle.laws.proofs.Tests.{ltb-true, ltb-false, ltb-lt}
-use Rattle.laws.proofs.ScopeSets.{eqb-true, eqb-eq}
+use borrow.Author.Tests.{lt-ltb, le-ltb, ltb-true, eq-eqb, eqb-true}
 use Rattle.laws.proofs.ResolveRule.{In}
 use Rattle.laws.proofs.Stable.{Keys}
 
@@ -19,17 +18,17 @@ unfolding lessThen
 less-cases x y r q = go (ltb x y) refl (eqb x y) refl q
   where
     go : (a : Bool) → ltb x y ≡ a → (b : Bool) → eqb x y ≡ b → lessThen a b r ≡ true → (x < y) ⊎ ((x ≡ y) × (r ≡ true))
-    go true p b k e = inl (ltb-lt x y p)
-    go false p true k e = inr (eqb-eq x y k, e)
+    go true p b k e = inl (ltb-true x y p)
+    go false p true k e = inr (eqb-true x y k, e)
     go false p false k e = absurd (false≢true e)
 
 pub less-yes : (x y : ℕ) (r : Bool) → x < y → lessThen (ltb x y) (eqb x y) r ≡ true
 unfolding lessThen
-less-yes x y r h = rw (ltb-true x y h)
+less-yes x y r h = rw (lt-ltb x y h)
 
 less-same : (x y : ℕ) (r : Bool) → x ≡ y → r ≡ true → lessThen (ltb x y) (eqb x y) r ≡ true
 unfolding lessThen
-less-same x y r p q = rw (ltb-false x y (back p), eqb-true x y p) q
+less-same x y r p q = rw (le-ltb x y (back p), eq-eqb x y p) q
   where
     back : x ≡ y → y ≤ x
     back e = omega arith

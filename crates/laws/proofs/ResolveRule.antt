@@ -3,13 +3,15 @@
 use mathlib.Core.Path.{_≡_, refl, sym, ap, _∙_, subst}
 use mathlib.Core.Logic.{_⊎_, inl, inr, _≢_}
 use Prim.Native.Nat.{ℕ}
-use mathlib.Core.Bool.{Bool, true, false, _&&_, false≢true}
+use mathlib.Core.Bool.{Bool, true, false, false≢true}
 use mathlib.Core.List.{List, [], _∷_}
-use lib.Dec.{T, eqb, eqb→eq}
+use lib.Dec.{eqb}
 use Rattle.model.specs.Choice.{if_then_else_}
 use Rattle.model.specs.Scopes.{Scopes, within}
 use Rattle.model.specs.Resolving.{Bind, Found, means, several, candidate, candidates, over, largest, choose, resolve}
-use Rattle.laws.proofs.ScopeSets.{within-antisym, eqb-true}
+use borrow.Author.Tests.{eqb-true, eq-eqb}
+use Rattle.laws.proofs.Tests.{and-both, both-true}
+use Rattle.laws.proofs.ScopeSets.{within-antisym}
 
 -- b is one of l
 abbrev pub In : Bind → List Bind → Type 0
@@ -29,14 +31,6 @@ pub data Rule (x : ℕ) (l : List Bind) : Found → Type 0 where
 
 -- ---- the tests
 
-and-both : (x y : Bool) → (x && y) ≡ true → (x ≡ true) × (y ≡ true)
-and-both true y e = (refl, e)
-and-both false y e = absurd (false≢true e)
-
-both-and : (x y : Bool) → x ≡ true → y ≡ true → (x && y) ≡ true
-both-and true y p q = q
-both-and false y p q = absurd (false≢true p)
-
 over-sound : (b : Bind) (l : List Bind) → over b l ≡ true → (c : Bind) → In c l → within (c .set) (b .set) ≡ true
 unfolding over
 over-sound b [] e c i = absurd i
@@ -48,7 +42,7 @@ over-complete : (b : Bind) (l : List Bind) → ((c : Bind) → In c l → within
 unfolding over
 over-complete b [] h = refl
 over-complete b (d ∷ l) h =
-    both-and (within (d .set) (b .set)) (over b l) (h d (inl refl)) (over-complete b l (λ c i. h c (inr i)))
+    both-true (within (d .set) (b .set)) (over b l) (h d (inl refl)) (over-complete b l (λ c i. h c (inr i)))
 
 -- ---- the search
 
@@ -88,9 +82,6 @@ pub record Candidate (x : ℕ) (s : Scopes) (bs : List Bind) (b : Bind) : Type 0
   pub symbol-is : b .symb ≡ x
   pub contained : within (b .set) s ≡ true
 
-T-of : (b : Bool) → b ≡ true → T b
-T-of b e = subst T (sym e) tt
-
 pub candidates-sound : (x : ℕ) (s : Scopes) (bs : List Bind) (b : Bind) → In b (candidates x s bs) → Candidate x s bs b
 unfolding candidates candidate
 candidates-sound x s [] b i = absurd i
@@ -105,7 +96,7 @@ candidates-sound x s (c ∷ l) b i = go (λ k. candidates-sound x s l b k) (cand
         let h = and-both (eqb (c .symb) x) (within (c .set) s) e in
         record {
           stored = inl p;
-          symbol-is = ap (λ (z : Bind). z .symb) p ∙ eqb→eq (c .symb) x (T-of _ (h .0));
+          symbol-is = ap (λ (z : Bind). z .symb) p ∙ eqb-true (c .symb) x (h .0);
           contained = ap (λ (z : Bind). within (z .set) s) p ∙ h .1;
         }
     go below true e (inr k) = further (below k)
@@ -121,7 +112,7 @@ candidates-complete x s (c ∷ l) b k =
     passes : (b ≡ c) → candidate x s c ≡ true
     passes p =
         ap (λ (z : Bind). candidate x s z) (sym p)
-        ∙ both-and (eqb (b .symb) x) (within (b .set) s) (eqb-true (b .symb) x (k .symbol-is)) (k .contained)
+        ∙ both-true (eqb (b .symb) x) (within (b .set) s) (eq-eqb (b .symb) x (k .symbol-is)) (k .contained)
 
     go : (b ≡ c) ⊎ In b l → (In b l → In b (candidates x s l)) → (t : Bool) → candidate x s c ≡ t
         → In b (if t then c ∷ candidates x s l else candidates x s l)

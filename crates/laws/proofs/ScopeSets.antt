@@ -1,10 +1,11 @@
 -- The laws of scope sets, all by their members.
-use mathlib.Core.Path.{_≡_, refl, sym, ap, ap₂, _∙_, subst}
+use mathlib.Core.Path.{_≡_, refl, sym, ap, ap₂, _∙_}
 use Prim.Native.Nat.{ℕ, zero, suc, _+_, _*_, _/_, _%_, _^_, _<_, min, max}
 use native.Mathlib.Nat.{not-suc-le-zero, le-of-suc-le-suc, zero-lt-suc, div-add-mod', mod-lt, mul-mod-left, mul-div-cancel, pow-suc, le-refl}
 use mathlib.Core.Bool.{Bool, true, false, not, _&&_, _||_, xor, true≢false, false≢true}
-use lib.Dec.{T, eqb, eqb→eq, eqb-refl, eqb·zero-suc, eqb·suc-zero, eqb·suc-suc}
+use lib.Dec.{eqb, eqb·zero-suc, eqb·suc-zero, eqb·suc-suc}
 use lib.Arith.{bin-ind, digits-div, digits-mod}
+use borrow.Author.Tests.{eqb-true, eq-eqb}
 use lib.Bits.{bitAnd, bitOr, bitXor, differ, and-step, or-step, xor-step}
 use Rattle.model.specs.Choice.{if_then_else_}
 use Rattle.model.specs.Scopes.{Scopes, digit, has, only, add, flip, prune, within}
@@ -177,22 +178,12 @@ left-and : (x y : Bool) → (x ≡ true → y ≡ true) → (x && y) ≡ x
 left-and true y h = h refl
 left-and false y h = refl
 
-pub eqb-eq : (a b : ℕ) → eqb a b ≡ true → a ≡ b
-eqb-eq a b e = eqb→eq a b (subst T (sym e) tt)
-
-pub eqb-true : (a b : ℕ) → a ≡ b → eqb a b ≡ true
-eqb-true a b e = is-true (eqb a b) (subst (λ (x : ℕ). T (eqb a x)) e (eqb-refl a))
-  where
-    is-true : (x : Bool) → T x → x ≡ true
-    is-true true t = refl
-    is-true false t = absurd t
-
 pub has-flip : (k j : ℕ) (m : Scopes) → has k (flip (suc j) m) ≡ xor (eqb k (suc j)) (has k m)
 unfolding flip xor
 has-flip k j m = go (has (suc j) m) refl
   where
     here : eqb k (suc j) ≡ true → has k m ≡ has (suc j) m
-    here e = ap (λ (i : ℕ). has i m) (eqb-eq k (suc j) e)
+    here e = ap (λ (i : ℕ). has i m) (eqb-true k (suc j) e)
 
     out : (x y : Bool) → (x ≡ true → y ≡ true) → (y && not x) ≡ xor x y
     out true true f = refl
@@ -213,12 +204,12 @@ has-flip k j m = go (has (suc j) m) refl
 pub within→sub : (a b : Scopes) → within a b ≡ true → Sub a b
 unfolding within
 within→sub a b e k h =
-    and-left (has k a) (has k b) (sym (has-and k a b) ∙ ap (has k) (eqb-eq (bitAnd a b) a e)) h
+    and-left (has k a) (has k b) (sym (has-and k a b) ∙ ap (has k) (eqb-true (bitAnd a b) a e)) h
 
 pub sub→within : (a b : Scopes) → Sub a b → within a b ≡ true
 unfolding within
 sub→within a b h =
-    eqb-true (bitAnd a b) a (set-ext (bitAnd a b) a (λ k. has-and k a b ∙ left-and (has k a) (has k b) (h k)))
+    eq-eqb (bitAnd a b) a (set-ext (bitAnd a b) a (λ k. has-and k a b ∙ left-and (has k a) (has k b) (h k)))
 
 pub within-refl : (a : Scopes) → within a a ≡ true
 within-refl a = sub→within a a (λ k h. h)

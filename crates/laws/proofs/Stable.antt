@@ -4,20 +4,18 @@ use mathlib.Core.Logic.{_⊎_, inl, inr}
 use Prim.Native.Nat.{ℕ, zero, suc, _^_, _/_, _≤_, _<_}
 use native.Mathlib.Nat.{le-trans, not-suc-le-zero}
 use native.Mathlib.Omega.{arith}
-use mathlib.Core.Bool.{Bool, true, false, _&&_, _||_, true≢false, false≢true}
+use mathlib.Core.Bool.{Bool, true, false, _&&_, false≢true}
 use mathlib.Core.List.{List, [], _∷_}
 use lib.Dec.{eqb}
 use lib.Arith.{lt-one}
 use Rattle.model.specs.Choice.{if_then_else_}
 use Rattle.model.specs.Scopes.{Scopes, digit, has, within}
 use Rattle.model.specs.Resolving.{Bind, means, bindBefore, insert, candidate, candidates, choose, resolve}
-use Rattle.laws.proofs.ScopeSets.{digit-zero, within→sub, within-refl, eqb-true, eqb-eq}
+use Rattle.laws.proofs.ScopeSets.{digit-zero, within→sub, within-refl}
+use Rattle.laws.proofs.Members.{half-pow}
 use Rattle.laws.proofs.ResolveRule.{In, Largest, found, rule-one, resolve-is, candidates-sound, candidates-complete}
 
 -- ---- no member above the bound
-
-half-pow : (m j : ℕ) → m < 2 ^ suc j → m / 2 < 2 ^ j
-half-pow m j h = omega arith
 
 digit-above : (n k : ℕ) (m : Scopes) → m < 2 ^ n → n ≤ k → digit k m ≡ false
 unfolding digit

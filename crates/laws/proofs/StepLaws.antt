@@ -8,7 +8,7 @@ use Rattle.model.specs.Refusals.{Refusal, overBudget}
 use Rattle.model.specs.Objects.{Sets, setAt}
 use Rattle.model.specs.Resolving.{means, resolve}
 use Rattle.model.specs.Steps.{State, Out, ok, no, Step, after, charge, nameOf, resolveAt}
-use Rattle.laws.proofs.Tests.{leb-le}
+use borrow.Author.Tests.{leb-true}
 
 pub no≢ok : {A : Type 0} (c : Refusal) (u : ℕ) (a : A) (s : State) → no c u ≡ ok a s → ⊥
 no≢ok c u a s e = subst code e tt
@@ -40,7 +40,7 @@ unfolding charge spend
 charge-ok n v s t e = go (leb n (s .left)) refl e
   where
     go : (b : Bool) → leb n (s .left) ≡ b → (if b then ok tt (spend n s) else no overBudget (s .left)) ≡ ok v t → (n ≤ s .left) × (spend n s ≡ t)
-    go true q f = (leb-le n (s .left) q, ok-state tt v (spend n s) t f)
+    go true q f = (leb-true n (s .left) q, ok-state tt v (spend n s) t f)
     go false q f = absurd (no≢ok overBudget (s .left) v t f)
 
 -- ---- resolving

@@ -9,8 +9,7 @@ use lib.Dec.{eqb, ltb}
 use Rattle.model.specs.Choice.{if_then_else_}
 use Rattle.model.specs.Scopes.{Scopes, lessThen, listBefore, setBefore, members}
 use Rattle.model.specs.Resolving.{Bind, bindBefore, insert}
-use Rattle.laws.proofs.Tests.{ltb-ge, eqb-ne}
-use Rattle.laws.proofs.ScopeSets.{eqb-eq}
+use borrow.Author.Tests.{ltb-false, eqb-false, eqb-true}
 use Rattle.laws.proofs.Members.{Small, addAll, set-of-members}
 use Rattle.laws.proofs.ResolveRule.{In}
 use Rattle.laws.specs.Ordered.{Ascending, Sorted}
@@ -25,9 +24,9 @@ less-neither x y r t p q = go (ltb x y) refl (ltb y x) refl (eqb x y) refl (eqb 
         → lessThen a c r ≡ false → lessThen b d t ≡ false → (x ≡ y) × (r ≡ false) × (t ≡ false)
     go true ea b eb c ec d ed p q = absurd (true≢false p)
     go false ea true eb c ec d ed p q = absurd (true≢false q)
-    go false ea false eb true ec true ed p q = (eqb-eq x y ec, p, q)
-    go false ea false eb true ec false ed p q = absurd (eqb-ne y x ed (sym (eqb-eq x y ec)))
-    go false ea false eb false ec d ed p q = absurd (eqb-ne x y ec (omega (arith, ltb-ge x y ea, ltb-ge y x eb)))
+    go false ea false eb true ec true ed p q = (eqb-true x y ec, p, q)
+    go false ea false eb true ec false ed p q = absurd (eqb-false y x ed (sym (eqb-true x y ec)))
+    go false ea false eb false ec d ed p q = absurd (eqb-false x y ec (omega (arith, ltb-false x y ea, ltb-false y x eb)))
 
 list-total : (a b : List ℕ) → listBefore a b ≡ false → listBefore b a ≡ false → a ≡ b
 unfolding listBefore

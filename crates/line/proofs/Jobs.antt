@@ -11,14 +11,14 @@ use lib.Seq.{length-take-le}
 use Rattle.model.specs.Limits.{mostBudget, wordsPerUnit, programBudget, mostImage}
 use Rattle.model.specs.Reading.{readSyntax, readImage}
 use Rattle.model.specs.Jobs.{Ending, refused, named, written, Answer, answerOf, outputAfter, Result, budgetFits, lent, withImage, expandEnding, parseEnding, expandJob, parseJob, Line, lineOf, thenParsed, program}
-use Rattle.laws.proofs.Tests.{leb-true}
+use borrow.Author.Tests.{le-leb}
 use Rattle.addresses.proofs.Endings.{after-ending, expandWork, expandEnding-is, expandJob-is, parseJob-is, lent-cases, lent-ended, fitted-case, worked-case, image-case, phase-case, Ended, take-whole, Wrote, nothing-wrote}
 use Rattle.proof_bench.proofs.Answers.{expand-units-are-within-the-budget, parse-units-are-within-the-budget}
 
 -- the table that the program lends is enough for its budget
 lent-is : (table output : List ℕ) (e : Ending) → 16000 ≤ length table → lent 400 table output e ≡ after-ending 400 table output e
 unfolding lent budgetFits mostBudget wordsPerUnit
-lent-is table output e h = rw (leb-true 16000 (length table) h)
+lent-is table output e h = rw (le-leb 16000 (length table) h)
 
 answer-line : (before : ℕ) {a : Answer} (e : Ending) → a ≡ answerOf e → record { code = a .code; units = before + a .units } ≡ lineOf before e
 unfolding answerOf lineOf

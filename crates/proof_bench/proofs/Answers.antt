@@ -14,8 +14,8 @@ use Rattle.model.specs.Reading.{Read, got, fault, Image, readSyntax, readTreeIm
 use Rattle.model.specs.Writing.{syntaxBytes, treeImageBytes}
 use Rattle.model.specs.Steps.{State, Out, ok, no}
 use Rattle.model.specs.Jobs.{Ending, refused, named, written, answerOf, outputAfter, cleared, Result, budgetFits, lent, atPhase, withImage, start, worked, fitted, reached, resolveRoot, expandRoot, parseRoot, evaluateRoot, closed, resolveEnding, expandEnding, parseEnding, evaluateEnding, resolveJob, expandJob, parseJob, evaluateJob}
-use Rattle.laws.proofs.Tests.{leb-le}
-use Rattle.codec_laws.proofs.Sequence.{and-both}
+use borrow.Author.Tests.{leb-true}
+use Rattle.laws.proofs.Tests.{and-both}
 use Rattle.addresses.proofs.Endings.{after-ending, untouched, lent-cases, expandWork, parseWork, evaluateWork, expandEnding-is, parseEnding-is, evaluateEnding-is, expandJob-is, parseJob-is, evaluateJob-is}
 
 pub resolveJob-is : (image : List ℕ) (ph budget : ℕ) (table : List ℕ) → resolveJob image ph budget table ≡ lent budget table [] (resolveEnding image ph budget)
@@ -84,7 +84,7 @@ enough-words : (budget n : ℕ) → budgetFits budget n ≡ true → (budget ≤
 unfolding budgetFits
 enough-words budget n q =
     let w = and-both (leb budget 4096) (leb (40 * budget) n) q in
-    (leb-le budget 4096 (w .0), leb-le (40 * budget) n (w .1))
+    (leb-true budget 4096 (w .0), leb-true (40 * budget) n (w .1))
 
 pub the-table-keeps-its-length : (budget : ℕ) (table output : List ℕ) (e : Ending) → length ((lent budget table output e) .table) ≡ length table
 unfolding lent cleared

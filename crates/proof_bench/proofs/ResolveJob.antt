@@ -16,7 +16,7 @@ use Rattle.model.specs.Resolving.{Bind, Found, means, several, candidates, reso
 use Rattle.model.specs.Reading.{got, Image, readSyntax, readImage}
 use Rattle.model.specs.Steps.{Out, no, charge, nameOf, resolveAt, identifier}
 use Rattle.model.specs.Jobs.{Ending, refused, named, Answer, answerOf, Result, budgetFits, lent, atPhase, withImage, start, worked, resolveRoot, resolveEnding, resolveJob}
-use Rattle.laws.proofs.Tests.{leb-true}
+use borrow.Author.Tests.{le-leb}
 use Rattle.laws.proofs.ScopeSets.{within-refl, within-antisym}
 use Rattle.laws.proofs.ResolveRule.{In, Largest, Rule, free, found, unclear, resolve-is, candidates-sound}
 use Rattle.laws.proofs.ResolveExactly.{Named, Unclear, symbol-where-none, target-of-largest, name-comes-of, ambiguous-exactly}
@@ -161,7 +161,7 @@ resolveEnding-is image ph budget = refl
 
 at-a-phase : (ph : ℕ) (e : Ending) → ph ≤ 2 → atPhase ph e ≡ e
 unfolding atPhase
-at-a-phase ph e h = rw (leb-true ph 2 h)
+at-a-phase ph e h = rw (le-leb ph 2 h)
 
 abbrev ending : Found → Ending
 ending (means n) = named n 1
@@ -171,7 +171,7 @@ ending several = refused ambiguous 1
 identifier-is-resolved : (ph budget : ℕ) (i : Image Stx) (c : Sets) (x : ℕ) → 1 ≤ budget
     → resolveRoot ph (atom c (symbol x)) (start budget i) ≡ nameOf (resolve x (setAt ph c) (i .binds)) (spend 1 (start budget i))
 unfolding resolveRoot charge size identifier resolveAt start spend
-identifier-is-resolved ph budget i c x h = rw (leb-true 1 budget h)
+identifier-is-resolved ph budget i c x h = rw (le-leb 1 budget h)
 
 identifier-is-not-paid : (ph : ℕ) (i : Image Stx) (c : Sets) (x : ℕ) → resolveRoot ph (atom c (symbol x)) (start 0 i) ≡ no overBudget 0
 unfolding resolveRoot charge size start
@@ -254,7 +254,7 @@ pub nothing-paid-is-code-19 : (image rest : List ℕ) (i : Image Stx) (c : Sets)
 unfolding budgetFits answerOf
 nothing-paid-is-code-19 image rest i c x ph table reads root-is phase =
     ap (λ (r : Result). r .answer) (resolveJob-is image ph 0 table)
-    ∙ answers-its-ending 0 table (resolveEnding image ph 0) (leb-true 0 (length table) zero-le)
+    ∙ answers-its-ending 0 table (resolveEnding image ph 0) (le-leb 0 (length table) zero-le)
     ∙ ap answerOf
     (ends-with-its-work image rest i c x reads root-is ph 0 phase
     ∙ worked-no 0 (resolveRoot ph (atom c (symbol x)) (start 0 i)) _ overBudget 0 (identifier-is-not-paid ph i c x))

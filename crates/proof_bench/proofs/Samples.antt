@@ -7,9 +7,9 @@ use mathlib.Core.List.{List, [], _∷_}
 use lib.Dec.{ltb}
 use lib.ListN.{length, replicate}
 use Rattle.model.specs.Jobs.{Result, expandJob}
-use Rattle.laws.proofs.Tests.{ltb-lt}
+use borrow.Author.Tests.{ltb-true}
 use Rattle.codec_laws.specs.WellFormed.{Bytes}
-use Rattle.codec_laws.proofs.Sequence.{and-both}
+use Rattle.laws.proofs.Tests.{and-both}
 use Rattle.addresses.specs.OneNameOneAddress.{imageWritten}
 use Rattle.proof_bench.specs.Contracts.{Words, Call, Expanding, MeetsExpand}
 use Rattle.proof_bench.proofs.Uniqueness.{one-result}
@@ -137,7 +137,7 @@ unfolding small
 small-bytes [] e = tt
 small-bytes (n ∷ l) e =
     let w = and-both (ltb n 128) (small l) e in
-    (below n (ltb-lt n 128 (w .0)), small-bytes l (w .1))
+    (below n (ltb-true n 128 (w .0)), small-bytes l (w .1))
 
 pub seven-call : Call seven 0 32 words room
 unfolding seven small
