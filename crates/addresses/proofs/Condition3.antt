@@ -165,10 +165,6 @@ module _ (image : List ℕ) (is-bytes : Bytes image) (budget : ℕ) (b : List �
       subst (λ (z : List ℕ). length (treeImageBytes (result .head) (x .tree)) ≤ length z) (run .bytes)
       (image-shorter (result .head) (run .s .binds) (run .r) (x .tree) (x .tree-shorter))
 
-  start-binds : (n : ℕ) → (start n result) .binds ≡ run .s .binds
-  unfolding start result
-  start-binds n = refl
-
   parse-work : (n room : ℕ) → parseCharge (result .binds) (result .root) ≤ n → length (treeImageBytes (result .head) tree) ≤ room
       → parseWork n room result ≡ written (treeImageBytes (result .head) tree) (parseCharge (result .binds) (result .root))
   unfolding result start spend reached charged

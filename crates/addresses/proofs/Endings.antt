@@ -17,7 +17,7 @@ use Rattle.model.specs.Steps.{State, Out, ok, no, after, charge}
 use Rattle.model.specs.Parsing.{parse}
 use Rattle.model.specs.Evaluating.{evaluate}
 use Rattle.model.specs.Expanding.{ofRoot, expand}
-use Rattle.model.specs.Jobs.{Ending, refused, named, written, answerOf, outputAfter, Result, budgetFits, lent, cleared, atPhase, withImage, start, worked, fitted, reached, expandRoot, parseRoot, evaluateRoot, closed, expandEnding, parseEnding, evaluateEnding, expandJob, parseJob, evaluateJob}
+use Rattle.model.specs.Jobs.{Ending, refused, named, written, answerOf, outputAfter, Result, budgetFits, lent, cleared, atPhase, withImage, start, worked, fitted, reached, resolveRoot, expandRoot, parseRoot, evaluateRoot, closed, resolveEnding, expandEnding, parseEnding, evaluateEnding, resolveJob, expandJob, parseJob, evaluateJob}
 use borrow.Author.Tests.{le-leb, leb-true}
 use Rattle.laws.proofs.Tests.{and-both}
 use Rattle.addresses.specs.OneNameOneAddress.{imageWritten}
@@ -37,6 +37,9 @@ unfolding evaluateRoot
 evaluateRoot-is t s = refl
 
 -- what each job does with an image that it has read
+abbrev pub resolveWork : ℕ → ℕ → Image Stx → Ending
+resolveWork ph budget i = worked budget (resolveRoot ph (i .root) (start budget i)) (λ n s. named n (budget - s .left))
+
 abbrev pub expandWork : ℕ → ℕ → ℕ → Image Stx → Ending
 expandWork ph budget room i =
     worked budget (expandRoot ph (i .root) (start budget i)) (λ r s. fitted room (syntaxBytes (reached (i .head) s) (s .binds) r) (budget - s .left))
@@ -51,6 +54,10 @@ evaluateWork budget room i =
     then worked budget (evaluateRoot (i .root) (start budget i)) (λ r s. fitted room (treeImageBytes (reached (i .head) s) r) (budget - s .left))
     else refused unowned 0
 
+pub resolveEnding-is : (image : List ℕ) (ph budget : ℕ) → resolveEnding image ph budget ≡ atPhase ph (withImage (readImage readSyntax image) (resolveWork ph budget))
+unfolding resolveEnding
+resolveEnding-is image ph budget = refl
+
 pub expandEnding-is : (image : List ℕ) (ph budget room : ℕ)
     → expandEnding image ph budget room ≡ atPhase ph (withImage (readImage readSyntax image) (expandWork ph budget room))
 unfolding expandEnding
@@ -64,6 +71,10 @@ pub evaluateEnding-is : (image : List ℕ) (budget room : ℕ)
     → evaluateEnding image budget room ≡ withImage (readImage readTreeImage image) (evaluateWork budget room)
 unfolding evaluateEnding
 evaluateEnding-is image budget room = refl
+
+pub resolveJob-is : (image : List ℕ) (ph budget : ℕ) (table : List ℕ) → resolveJob image ph budget table ≡ lent budget table [] (resolveEnding image ph budget)
+unfolding resolveJob
+resolveJob-is image ph budget table = refl
 
 pub expandJob-is : (image : List ℕ) (ph budget : ℕ) (table output : List ℕ)
     → expandJob image ph budget table output ≡ lent budget table output (expandEnding image ph budget (length output))

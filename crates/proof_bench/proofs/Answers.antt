@@ -1,5 +1,5 @@
--- What comes back, and what output and table hold, of every job: each is `lent` of how it ends (`expandJob-is`, `parseJob-is` and
--- `evaluateJob-is` of addresses/proofs/Endings, and `resolveJob-is` here).
+-- What comes back, and what output and table hold, of every job: each is `lent` of how it ends (`resolveJob-is`, `expandJob-is`, `parseJob-is`
+-- and `evaluateJob-is` of addresses/proofs/Endings).
 use mathlib.Core.Path.{_≡_, refl, sym, ap, _∙_, subst}
 use Prim.Native.Nat.{ℕ, _+_, _-_, _*_, _≤_, zero-le}
 use native.Mathlib.Nat.{sub-le}
@@ -17,10 +17,6 @@ use Rattle.model.specs.Jobs.{Ending, refused, named, written, answerOf, outputA
 use borrow.Author.Tests.{leb-true}
 use Rattle.laws.proofs.Tests.{and-both}
 use Rattle.addresses.proofs.Endings.{after-ending, untouched, lent-cases, expandWork, parseWork, evaluateWork, expandEnding-is, parseEnding-is, evaluateEnding-is, expandJob-is, parseJob-is, evaluateJob-is}
-
-pub resolveJob-is : (image : List ℕ) (ph budget : ℕ) (table : List ℕ) → resolveJob image ph budget table ≡ lent budget table [] (resolveEnding image ph budget)
-unfolding resolveJob
-resolveJob-is image ph budget table = refl
 
 -- ---- refusals
 

@@ -25,8 +25,7 @@ use Rattle.laws.proofs.Order.{sorted-keys}
 use Rattle.laws.proofs.StepLaws.{spend}
 use Rattle.codec_laws.specs.WellFormed.{Bytes}
 use Rattle.codec_laws.proofs.ImageLaws.{syntax-read-keeps-limits, syntax-read-then-written, syntax-written-then-read}
-use Rattle.addresses.proofs.Endings.{with-read, worked-no}
-use Rattle.proof_bench.proofs.Answers.{resolveJob-is}
+use Rattle.addresses.proofs.Endings.{resolveWork, resolveEnding-is, resolveJob-is, with-read, worked-no}
 
 -- ---- the statement
 
@@ -151,13 +150,6 @@ module _ (x : ℕ) (s : Scopes) (bs : List Bind) (k : Keys bs) where
   }
 
 -- ---- the job answers what is found
-
-abbrev resolveWork : ℕ → ℕ → Image Stx → Ending
-resolveWork ph budget i = worked budget (resolveRoot ph (i .root) (start budget i)) (λ n s. named n (budget - s .left))
-
-resolveEnding-is : (image : List ℕ) (ph budget : ℕ) → resolveEnding image ph budget ≡ atPhase ph (withImage (readImage readSyntax image) (resolveWork ph budget))
-unfolding resolveEnding
-resolveEnding-is image ph budget = refl
 
 at-a-phase : (ph : ℕ) (e : Ending) → ph ≤ 2 → atPhase ph e ≡ e
 unfolding atPhase
