@@ -72,7 +72,7 @@ xor-digitwise = record {
 pub digit-and : (k a b : ℕ) → digit k (bitAnd a b) ≡ (digit k a && digit k b)
 digit-and = digit-op bitAnd min _&&_ and-digitwise
 
-pub digit-or : (k a b : ℕ) → digit k (bitOr a b) ≡ (digit k a || digit k b)
+digit-or : (k a b : ℕ) → digit k (bitOr a b) ≡ (digit k a || digit k b)
 digit-or = digit-op bitOr max _||_ or-digitwise
 
 pub digit-xor : (k a b : ℕ) → digit k (bitXor a b) ≡ xor (digit k a) (digit k b)
@@ -133,7 +133,7 @@ unfolding has only
 has-only zero j = sym (eqb·zero-suc j)
 has-only (suc k) j = digit-pow k j ∙ sym (eqb·suc-suc k j)
 
-has-or : (k : ℕ) (a b : Scopes) → has k (bitOr a b) ≡ (has k a || has k b)
+pub has-or : (k : ℕ) (a b : Scopes) → has k (bitOr a b) ≡ (has k a || has k b)
 unfolding has
 has-or zero a b = refl
 has-or (suc k) a b = digit-or k a b

@@ -1,29 +1,17 @@
 -- One pass resolves as the definition does: one candidate contains every other exactly where its set is the union of all.
 use mathlib.Core.Path.{_≡_, refl, sym, ap, _∙_, subst}
-use mathlib.Core.Bool.{Bool, true, false, _&&_, _||_, false≢true, true≢false}
+use mathlib.Core.Bool.{Bool, true, false, _&&_, _||_, false≢true}
 use mathlib.Core.List.{List, [], _∷_, _++_, append-assoc, append-nil}
-use Prim.Native.Nat.{ℕ, zero, suc}
+use Prim.Native.Nat.{ℕ}
 use lib.Bits.{bitOr}
 use Rattle.model.specs.Choice.{if_then_else_}
-use Rattle.model.specs.Scopes.{Scopes, has, digit, within}
-use Rattle.model.specs.Resolving.{Bind, Found, means, several, candidate, candidates, over, largest, choose, resolve}
-use Rattle.laws.proofs.ScopeSets.{Sub, digit-or, within→sub, sub→within, within-refl, within-trans}
-use Rattle.store.specs.Pass.{Order, free, clear, unclear, Seen, noneSeen, alone, joined, beyondAll, takingBy, taking, seeing, passing, meaning}
+use Rattle.model.specs.Scopes.{Scopes, has, within}
+use Rattle.model.specs.Resolving.{Bind, means, several, candidate, candidates, over, largest, choose, resolve}
+use Rattle.laws.proofs.Tests.{or-left, or-right}
+use Rattle.laws.proofs.ScopeSets.{has-or, within→sub, sub→within, within-refl, within-trans}
+use Rattle.store.specs.Pass.{unclear, Seen, noneSeen, alone, joined, beyondAll, takingBy, taking, seeing, passing, meaning}
 
 -- ---- the union of two sets
-
-has-or : (k : ℕ) (a b : Scopes) → has k (bitOr a b) ≡ (has k a || has k b)
-unfolding has
-has-or zero a b = refl
-has-or (suc k) a b = digit-or k a b
-
-or-left : (x y : Bool) → x ≡ true → (x || y) ≡ true
-or-left true y e = refl
-or-left false y e = absurd (false≢true e)
-
-or-right : (x y : Bool) → y ≡ true → (x || y) ≡ true
-or-right true y e = refl
-or-right false y e = e
 
 or-cases : (x y : Bool) {z : Bool} → (x ≡ true → z ≡ true) → (y ≡ true → z ≡ true) → (x || y) ≡ true → z ≡ true
 or-cases true y f g e = f refl
