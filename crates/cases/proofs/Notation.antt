@@ -3,7 +3,7 @@ use Prim.Native.Nat.{ℕ, _+_, _*_}
 use mathlib.Core.List.{List, [], _∷_, _++_}
 use lib.ListN.{length, drop, replicate}
 use Rattle.model.specs.Scopes.{Scopes}
-use Rattle.model.specs.Objects.{symbol, prim, Sets, noSets, Stx, atom, list, Stxs, nil, cons}
+use Rattle.model.specs.Objects.{symbol, prim, noSets, Stx, atom, list, Stxs, cons}
 use Rattle.model.specs.Resolving.{Bind}
 use Rattle.model.specs.Reading.{Head}
 use Rattle.model.specs.Writing.{syntaxBytes}

@@ -1,13 +1,13 @@
 -- Condition 2 of resolving: it answers with a binding exactly when one largest candidate exists, with the symbol itself exactly when
 -- there is no candidate, and says ambiguous exactly when there are candidates and none contains the others. The answer is one, and
 -- does not depend on the order of the store. `Keys`: no symbol and set is bound twice, which every image and every expansion keeps.
-use mathlib.Core.Path.{_≡_, refl, sym, ap, _∙_, subst}
-use mathlib.Core.Logic.{_⊎_, inl, inr, _≢_, _↔_}
+use mathlib.Core.Path.{_≡_, refl, sym, _∙_, subst}
+use mathlib.Core.Logic.{inl, _≢_, _↔_}
 use Prim.Native.Nat.{ℕ}
 use mathlib.Core.List.{List, [], _∷_}
-use Rattle.model.specs.Scopes.{Scopes, within}
+use Rattle.model.specs.Scopes.{Scopes}
 use Rattle.model.specs.Resolving.{Bind, Found, means, several, candidates, resolve}
-use Rattle.laws.proofs.ResolveRule.{In, Largest, Rule, free, found, unclear, Candidate, candidates-sound, candidates-complete, resolve-is, Apart, rule-one}
+use Rattle.laws.proofs.ResolveRule.{In, Largest, Rule, free, found, unclear, candidates-sound, candidates-complete, resolve-is, Apart, rule-one}
 use Rattle.laws.proofs.Stable.{Keys}
 
 module _ (x : ℕ) (s : Scopes) where

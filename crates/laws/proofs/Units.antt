@@ -1,5 +1,5 @@
 -- Units never rise, and fall at each entry; names are never given back: of evaluating, parsing and expanding.
-use mathlib.Core.Path.{_≡_, refl, sym, ap, _∙_, subst}
+use mathlib.Core.Path.{_≡_, sym, ap, subst}
 use Prim.Native.Nat.{ℕ, zero, suc, _+_, _-_, _≤_, _<_}
 use native.Mathlib.Nat.{le-refl, le-trans, sub-le}
 use native.Mathlib.Omega.{arith}
@@ -11,7 +11,7 @@ use Rattle.model.specs.Limits.{mostNames, mostScopes, mostBindings, mostNesting
 use Rattle.model.specs.Refusals.{Refusal, noRule, noPhase, tooManyEntries, overBudget, noNameLeft, noScopeLeft, noBindingLeft, notApplicable, tooDeep, ambiguous}
 use Rattle.model.specs.Choice.{if_then_else_}
 use Rattle.model.specs.Scopes.{Scopes, add}
-use Rattle.model.specs.Objects.{Atom, symbol, number, point, prim, rung, Sets, setAt, changeAt, Stx, atom, list, Stxs, nil, cons, size, nesting}
+use Rattle.model.specs.Objects.{symbol, number, point, prim, rung, Sets, setAt, changeAt, Stx, atom, list, Stxs, nil, cons, size, nesting}
 use Rattle.model.specs.Trees.{Tree, var, app, fun, datum, lst, stx, Trees, tnil, tcons, tcount, tsize, tnesting, substitute, asStx, strip}
 use Rattle.model.specs.Resolving.{Bind, insert, Found, means, several, resolve}
 use Rattle.model.specs.Steps.{State, Out, ok, no, Step, after, done, refuse, unless, charge, made, madeTree, addTo, flipIn, pruneFrom, freshName, freshScope, bind, nameOf, resolveAt, parts1, parts2, parts3, identifier}

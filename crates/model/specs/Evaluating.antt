@@ -1,11 +1,11 @@
 -- Document 01, 'Parsing and evaluating': evaluating a tree.
 use Prim.Native.Nat.{ℕ, zero, suc}
-use mathlib.Core.Bool.{Bool, true, false, _&&_}
+use mathlib.Core.Bool.{Bool, false}
 use mathlib.Core.Option.{Option, none, some}
 use lib.Dec.{eqb}
 use Rattle.model.specs.Choice.{if_then_else_, given}
 use Rattle.model.specs.Refusals.{unowned, notApplicable, wrongArgument, tooManyEntries}
-use Rattle.model.specs.Objects.{Atom, symbol, number, point, prim, rung, Sets, Stx, atom, list, sameAtom}
+use Rattle.model.specs.Objects.{symbol, number, point, prim, rung, Sets, Stx, atom, list, sameAtom}
 use Rattle.model.specs.Trees.{Tree, var, app, fun, datum, lst, stx, Trees, tnil, tcons, tcount, tsize, substitute, asStx, asAtom, asList, asNumber, fromStxs, toStxs}
 use Rattle.model.specs.Steps.{Entries, Step, _>>=_, _>>_, done, refuse, unless, charge, madeTree}
 

@@ -1,15 +1,13 @@
 -- Document 01, 'Expanding'.
-use Prim.Native.Nat.{ℕ, zero, suc, _+_}
-use mathlib.Core.Bool.{Bool, true, false}
+use Prim.Native.Nat.{zero, suc, _+_}
 use mathlib.Core.Option.{Option, none, some}
 use lib.Dec.{eqb, leb}
 use Rattle.model.specs.Choice.{if_then_else_}
 use Rattle.model.specs.Limits.{lastPhase}
 use Rattle.model.specs.Refusals.{noMeaning, noRule, noSyntax, noPhase, tooManyEntries}
 use Rattle.model.specs.Scopes.{Scope, Scopes, noScopes, add}
-use Rattle.model.specs.Objects.{Name, Symbol, Phase, Atom, symbol, number, point, prim, rung, Sets, setAt, changeAt, Stx, atom, list, Stxs, nil, cons, size}
-use Rattle.model.specs.Trees.{Tree, var, app, fun, datum, lst, stx, Trees, tnil, tcons, asStx}
-use Rattle.model.specs.Resolving.{Bind}
+use Rattle.model.specs.Objects.{Name, Symbol, Phase, symbol, number, point, prim, rung, Sets, setAt, changeAt, Stx, atom, list, Stxs, nil, cons}
+use Rattle.model.specs.Trees.{Tree, app, stx, tnil, tcons, asStx}
 use Rattle.model.specs.Steps.{Entries, Step, _>>=_, _>>_, done, refuse, unless, charge, made, addTo, flipIn, pruneFrom, freshName, freshScope, bind, resolveAt, parts1, parts2, parts3, identifier}
 use Rattle.model.specs.Evaluating.{evaluate}
 use Rattle.model.specs.Parsing.{Form, lambda, letSyntax, quote, syntax, formOf, parse}

@@ -1,7 +1,7 @@
 -- Document 01, 'What the work covers' and 'Numbers given back': the four jobs, what each leaves in output and table, and the
 -- program's line.
 use Prim.Native.Nat.{ℕ, zero, suc, _+_, _-_, _*_, _/_, _%_}
-use mathlib.Core.Bool.{Bool, true, false, not, _&&_, _||_}
+use mathlib.Core.Bool.{Bool, true, false, _&&_, _||_}
 use mathlib.Core.List.{List, [], _∷_, _++_}
 use lib.Dec.{eqb, ltb, leb}
 use lib.ListN.{length, drop, replicate}
@@ -12,7 +12,7 @@ use Rattle.model.specs.Objects.{Name, Phase, Stx, size}
 use Rattle.model.specs.Trees.{Tree, var, app, fun, datum, lst, stx, Trees, tnil, tcons, loadSize}
 use Rattle.model.specs.Reading.{Read, got, fault, Head, Image, readSyntax, readTreeImage, readImage}
 use Rattle.model.specs.Writing.{syntaxBytes, treeImageBytes}
-use Rattle.model.specs.Steps.{Units, State, Out, ok, no, Step, _>>=_, _>>_, done, charge, resolveAt, identifier}
+use Rattle.model.specs.Steps.{Units, State, Out, ok, no, Step, _>>=_, _>>_, charge, resolveAt, identifier}
 use Rattle.model.specs.Evaluating.{evaluate}
 use Rattle.model.specs.Parsing.{parse}
 use Rattle.model.specs.Expanding.{ofRoot, expand}

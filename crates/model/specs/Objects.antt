@@ -1,7 +1,7 @@
 -- Document 01, 'Things and their numbers': atoms and syntax objects; their size and nesting; and, of 'Expanding', what adding,
 -- flipping and pruning a scope do to an object.
 use Prim.Native.Nat.{ℕ, zero, suc, _+_, max}
-use mathlib.Core.Bool.{Bool, true, false, _&&_}
+use mathlib.Core.Bool.{Bool, _&&_}
 use lib.Dec.{eqb}
 use Rattle.model.specs.Scopes.{Scope, Scopes, noScopes, add, flip, prune}
 

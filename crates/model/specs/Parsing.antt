@@ -1,10 +1,10 @@
 -- Document 01, 'Parsing and evaluating': parsing an expanded object.
-use Prim.Native.Nat.{ℕ, zero, suc}
+use Prim.Native.Nat.{zero, suc}
 use mathlib.Core.Option.{Option, none, some}
 use Rattle.model.specs.Refusals.{noRule, tooManyEntries}
-use Rattle.model.specs.Objects.{Name, Phase, Atom, symbol, number, point, prim, rung, Sets, Stx, atom, list, Stxs, nil, cons, size}
-use Rattle.model.specs.Trees.{Tree, var, app, fun, datum, lst, stx, Trees, tnil, tcons, strip}
-use Rattle.model.specs.Steps.{Entries, Step, _>>=_, _>>_, done, refuse, unless, charge, resolveAt, parts1, parts2, identifier}
+use Rattle.model.specs.Objects.{Name, Phase, symbol, number, point, prim, rung, Stx, atom, list, Stxs, nil, cons, size}
+use Rattle.model.specs.Trees.{Tree, var, app, fun, datum, stx, Trees, tnil, tcons, strip}
+use Rattle.model.specs.Steps.{Entries, Step, _>>=_, _>>_, done, refuse, charge, resolveAt, parts1, parts2, identifier}
 
 -- the core forms are names 0 to 3; any other name heads none
 pub data Form : Type 0 where

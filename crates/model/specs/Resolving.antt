@@ -1,5 +1,5 @@
 -- Document 01, 'Resolving': bindings, their order, and what an identifier's name is.
-use mathlib.Core.Bool.{Bool, true, false, _&&_}
+use mathlib.Core.Bool.{Bool, true, _&&_}
 use mathlib.Core.List.{List, [], _∷_}
 use lib.Dec.{eqb, ltb}
 use Rattle.model.specs.Choice.{if_then_else_}

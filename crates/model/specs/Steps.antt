@@ -1,15 +1,15 @@
 -- Document 01, 'Expanding', its first paragraph, for expand, parse and evaluate alike: a job's state, what is charged, tested and
 -- made, and fresh names and scopes.
-use Prim.Native.Nat.{ℕ, zero, suc, _+_, _-_}
+use Prim.Native.Nat.{ℕ, _+_, _-_}
 use mathlib.Core.Bool.{Bool, true, false}
-use mathlib.Core.List.{List, [], _∷_}
-use lib.Dec.{eqb, ltb, leb}
+use mathlib.Core.List.{List}
+use lib.Dec.{ltb, leb}
 use lib.ListN.{length}
 use Rattle.model.specs.Choice.{if_then_else_}
 use Rattle.model.specs.Limits.{mostNames, mostScopes, mostBindings, mostNesting}
 use Rattle.model.specs.Refusals.{Refusal, ambiguous, noRule, noNameLeft, noScopeLeft, noBindingLeft, tooDeep, overBudget}
-use Rattle.model.specs.Scopes.{Scope, Scopes, add, flip, prune}
-use Rattle.model.specs.Objects.{Name, Symbol, Phase, Sets, setAt, changeAt, Atom, symbol, Stx, atom, list, Stxs, nil, cons, size, nesting, addScope, flipScope, pruneScopes}
+use Rattle.model.specs.Scopes.{Scope, Scopes}
+use Rattle.model.specs.Objects.{Name, Symbol, Phase, Sets, setAt, Atom, symbol, Stx, atom, list, Stxs, nil, cons, size, nesting, addScope, flipScope, pruneScopes}
 use Rattle.model.specs.Trees.{Tree, tnesting}
 use Rattle.model.specs.Resolving.{Bind, insert, Found, means, several, resolve}
 

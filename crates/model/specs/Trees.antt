@@ -1,7 +1,6 @@
 -- Document 01, 'Things and their numbers': trees and values, their size and nesting; and, of 'Parsing and evaluating', stripping
 -- and substituting.
-use Prim.Native.Nat.{ℕ, zero, suc, _+_, max}
-use mathlib.Core.Bool.{Bool, true, false}
+use Prim.Native.Nat.{ℕ, suc, _+_, max}
 use mathlib.Core.Option.{Option, none, some}
 use lib.Dec.{eqb}
 use Rattle.model.specs.Choice.{if_then_else_, given}

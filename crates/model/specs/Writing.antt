@@ -6,7 +6,7 @@ use lib.ListN.{length}
 use Rattle.model.specs.Choice.{if_then_else_}
 use Rattle.model.specs.Limits.{coreNames}
 use Rattle.model.specs.Scopes.{Scopes, members}
-use Rattle.model.specs.Objects.{Atom, tagOf, contentOf, Sets, Stx, atom, list, Stxs, nil, cons, count}
+use Rattle.model.specs.Objects.{tagOf, contentOf, Sets, Stx, atom, list, Stxs, nil, cons, count}
 use Rattle.model.specs.Trees.{Tree, var, app, fun, datum, lst, stx, Trees, tnil, tcons, tcount}
 use Rattle.model.specs.Resolving.{Bind}
 use Rattle.model.specs.Reading.{Head}
