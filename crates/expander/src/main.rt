@@ -1,7 +1,8 @@
 // Reads one image on standard input, expands it at phase 0, parses the result, and prints one line: the code, and the units of both jobs.
+mod line;
 
 // One byte more than an image may have shows that there are too many.
-const INPUT: usize = 65537;
+const INPUT: usize = meirhuppa::limits::MOST_IMAGE + 1;
 
 fn print(image: &[u8]) {
     let mut text = [0u8; line::MOST_BYTES];

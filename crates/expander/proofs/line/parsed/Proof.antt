@@ -1,7 +1,7 @@
-use Rattle.line.proofs.Jobs.{line-laws}
+use Rattle.expander.proofs.Jobs.{line-laws}
 use borrow.Author.Needs.{needs}
-use Rattle.line.proofs.parsed.Statement.{statement}
-use Rattle.line.proofs.parsed.Tie as tie
+use Rattle.expander.proofs.line.parsed.Statement.{statement}
+use Rattle.expander.proofs.line.parsed.Tie as tie
 
 meirhuppa-parse-requires : tie.Need-meirhuppa-parse-requires
 meirhuppa-parse-requires c κs = search (line-laws, needs)

@@ -10,7 +10,7 @@ use Rattle.model.specs.Jobs.{Line, digits, lineBytes}
 use Rattle.text.specs.Placing.{Placed}
 use Rattle.text.proofs.Placing.{placed-then, placed-length}
 use Rattle.text.proofs.Decimal.{digits-before, few-digits}
-use Rattle.line.specs.Bytes.{Printed}
+use Rattle.expander.specs.Bytes.{Printed}
 
 abbrev code-word : List ℕ
 code-word = 99 ∷ 111 ∷ 100 ∷ 101 ∷ 32 ∷ []

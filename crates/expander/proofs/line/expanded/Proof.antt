@@ -1,7 +1,7 @@
-use Rattle.line.proofs.Jobs.{line-laws}
+use Rattle.expander.proofs.Jobs.{line-laws}
 use borrow.Author.Needs.{needs}
-use Rattle.line.proofs.expanded.Statement.{statement}
-use Rattle.line.proofs.expanded.Tie as tie
+use Rattle.expander.proofs.line.expanded.Statement.{statement}
+use Rattle.expander.proofs.line.expanded.Tie as tie
 
 meirhuppa-expand-requires : tie.Need-meirhuppa-expand-requires
 meirhuppa-expand-requires c κs = search (line-laws, needs)

@@ -4,7 +4,7 @@ use mathlib.Core.Path.{_≡_}
 use mathlib.Core.List.{List}
 use lib.ListN.{length}
 use Rattle.model.specs.Jobs as m
-use Rattle.line.specs.declared.Line.{Line}
+use Rattle.expander.specs.declared.line.Line.{Line}
 
 abbrev pub lineIs : Line → m.Line
 lineIs l = record { code = l .code; units = l .units }

@@ -1,7 +1,7 @@
-use Rattle.line.proofs.Bytes.{bytes-laws}
+use Rattle.expander.proofs.Bytes.{bytes-laws}
 use borrow.Author.Needs.{needs}
-use Rattle.line.proofs.put_line.Statement.{statement}
-use Rattle.line.proofs.put_line.Tie as tie
+use Rattle.expander.proofs.line.put_line.Statement.{statement}
+use Rattle.expander.proofs.line.put_line.Tie as tie
 
 slice-aggregate-put-named : tie.Need-slice-aggregate-put-named
 slice-aggregate-put-named c = search (bytes-laws, needs)

@@ -1,7 +1,7 @@
-use Rattle.line.proofs.Bytes.{bytes-laws}
+use Rattle.expander.proofs.Bytes.{bytes-laws}
 use borrow.Author.Needs.{needs}
-use Rattle.line.proofs.print.Statement.{statement}
-use Rattle.line.proofs.print.Tie as tie
+use Rattle.expander.proofs.line.print.Statement.{statement}
+use Rattle.expander.proofs.line.print.Tie as tie
 
 of-image-requires : tie.Need-of-image-requires
 of-image-requires c κs = search (bytes-laws, needs)

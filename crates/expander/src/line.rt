@@ -7,8 +7,8 @@ ghost use Prim.Native.Nat.{_≤_};
 ghost use Rattle.model.specs.Limits.{programBudget, mostImage};
 ghost use lib.ListN.{length};
 ghost use Rattle.model.specs.Jobs.{parseEnding, lineOf, program, lineBytes};
-ghost use Rattle.line.specs.Lines.{lineIs, Lent};
-ghost use Rattle.line.specs.Bytes.{Printed};
+ghost use Rattle.expander.specs.Lines.{lineIs, Lent};
+ghost use Rattle.expander.specs.Bytes.{Printed};
 
 const BUDGET: u32 = 400;
 
