@@ -7,5 +7,6 @@ pub mod Order
 pub mod Members
 pub mod Store
 pub mod StepLaws
+pub mod Walk
 pub mod Units
 pub mod Sizes
