@@ -29,7 +29,7 @@ element-copy-out-if1 : tie.Need-element-copy-out-if1 Inv-loop μ-loop
 element-copy-out-if1 c = search needs
 
 returns : tie.Need-returns Inv-loop μ-loop
-returns c = search (within-not, sym, of-fits, needs)
+returns c = sym (search (within-not, of-fits, needs))
 
 add-i : tie.Need-add-i Inv-loop μ-loop
 add-i c = search needs
