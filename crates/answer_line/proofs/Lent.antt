@@ -8,10 +8,11 @@ use native.Mathlib.Numerals.{add-one}
 use mir.Syntax.{w32, w64}
 use mir.Val.{Fits}
 use lib.Dec.{eqb}
-use lib.ListN.{length, take, drop, set, getD, replicate, length-set, length-drop, drop-of-length-le}
+use lib.ListN.{length, take, drop, set, getD, replicate, length-set, drop-of-length-le}
 use lib.Seq.{length-take-le, take-all, take-suc-set, drop-cons}
 use borrow.Author.Tests.{eq-eqb, ne-eqb, le-leb, lt-leb}
 use Rattle.model.specs.Limits.{wordsPerUnit}
+use Rattle.numbers.proofs.Reading.{part-from}
 use Rattle.answer_line.specs.Format.{wordFill, allAre, isClear}
 
 -- ---- filling
@@ -69,10 +70,6 @@ module _ {v : ℕ} {l : List ℕ} {i : ℕ} (w : Alike v l i) where
   unfolding allAre
   alike-ended h = sym (w .rest ∙ ap (allAre v) (drop-of-length-le l h))
 
--- the rest of a list as the code takes it: from a place to the end
-pub rest-is : (n : ℕ) (l : List ℕ) → take (length l - n) (drop n l) ≡ drop n l
-rest-is n l = take-all (length l - n) (drop n l) (let e = length-drop n l in omega arith)
-
 -- ---- clear
 
 module _ (l : List ℕ) (budget : ℕ) where
@@ -93,6 +90,6 @@ module _ (l : List ℕ) (budget : ℕ) where
   pub clear-rest : {f g : Bool} → 40 * budget ≤ length l → f ≡ allAre 0 (take (40 * budget) l) → f ≡ true → g ≡ allAre wordFill (take (length l - 40 * budget) (drop (40 * budget) l))
       → g ≡ isClear budget l
   unfolding isClear wordsPerUnit
-  clear-rest h e q r = simp (le-leb (40 * budget) (length l) h, sym e, q, ← rest-is (40 * budget) l, sym r)
+  clear-rest h e q r = simp (le-leb (40 * budget) (length l) h, sym e, q, ← part-from (40 * budget) l, sym r)
 
 pub ruleset buffer-laws = (fill-begun, fill-more, fill-ended, alike-begun, alike-more, alike-not, alike-ended, clear-fits, front-long, clear-short, clear-front, clear-rest)

@@ -14,7 +14,7 @@ use Rattle.text.proofs.Placing.{placed-then}
 use Rattle.text.proofs.Decimal.{digits-before}
 use Rattle.text.proofs.Hexadecimal.{hex-length}
 use Rattle.answer_line.specs.Format.{wordFill, byteFill, allAre, isClear, numberColumn, tableColumn, writtenColumn, outputColumn, numberColumns, bufferColumns, answerLine}
-use Rattle.answer_line.proofs.Lent.{rest-is}
+use Rattle.numbers.proofs.Reading.{part-from}
 
 -- the same bytes under another name
 renamed : {out xs ys out′ : List ℕ} {at past : ℕ} → xs ≡ ys → Placed out at xs out′ past → Placed out at ys out′ past
@@ -68,7 +68,7 @@ module _ (count : ℕ) (output : List ℕ) where
   kept-past h = let e : length output ≤ count = omega arith in sym (ap (allAre byteFill) (drop-of-length-le output e))
 
   pub kept-rest : {k : Bool} → k ≡ allAre byteFill (take (length output - count) (drop count output)) → k ≡ allAre byteFill (drop count output)
-  kept-rest e = e ∙ ap (allAre byteFill) (rest-is count output)
+  kept-rest e = e ∙ ap (allAre byteFill) (part-from count output)
 
   pub part-long : count ≤ length output → count ≡ length (take count output)
   part-long h = sym (length-take-le count output h)

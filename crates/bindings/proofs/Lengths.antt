@@ -5,6 +5,9 @@ use Prim.Native.Nat.{ℕ, _+_, _-_, _*_, _≤_, _<_}
 use native.Mathlib.Omega.{arith}
 use lib.ListN.{length, length-append}
 use lib.Seq.{sets}
+use Rattle.store.specs.Sizes.{mostBindings}
+use Rattle.bindings.specs.Lengths.{longestBinding, longestBindings}
+use Rattle.sets.specs.Writing.{longestSet}
 use Rattle.model.specs.Scopes.{Scopes}
 use Rattle.model.specs.Resolving.{Bind}
 use Rattle.model.specs.Writing.{numBytes, setBytes, bindBytes, bindsBytes}
@@ -30,10 +33,10 @@ module _ (x t : ℕ) (s : Scopes) where
   pub len-is : {a b c : ℕ} → a ≡ length (numBytes x) → b ≡ length (numBytes t) → c ≡ length (setBytes s) → a + b + c ≡ length (bindBytes it)
   len-is p q r = omega (arith, bind-length)
 
-  pub len-small : {a b c : ℕ} → a ≡ length (numBytes x) → b ≡ length (numBytes t) → c ≤ 387 → a + b + c ≤ 397
+  pub len-small : {a b c : ℕ} → a ≡ length (numBytes x) → b ≡ length (numBytes t) → c ≤ longestSet → a + b + c ≤ longestBinding
   len-small p q r = omega (arith, num-short x, num-short t)
 
-  pub len-fits : {a b c : ℕ} → a ≡ length (numBytes x) → b ≡ length (numBytes t) → c ≤ 387 → a + b + c < 18446744073709551616
+  pub len-fits : {a b c : ℕ} → a ≡ length (numBytes x) → b ≡ length (numBytes t) → c ≤ longestSet → a + b + c < 18446744073709551616
   len-fits p q r = omega (arith, num-short x, num-short t)
 
   pub len-fits-two : {a b : ℕ} → a ≡ length (numBytes x) → b ≡ length (numBytes t) → a + b < 18446744073709551616
@@ -86,27 +89,27 @@ all-bytes l n = ap (λ (k : ℕ). bindsBytes (bindsFrom l 0 k)) (let e : n - 0 �
 
 pub record Counted (l : List ℕ) (n i total : ℕ) : Type 0 where
   pub inside : i ≤ n
-  pub small : total ≤ 397 * i
+  pub small : total ≤ longestBinding * i
   pub is : total + length (bindsBytes (bindsFrom l i (n - i))) ≡ length (bindsBytes (bindsOf l n))
 
 pub count-start : (l : List ℕ) (n : ℕ) → Counted l n 0 0
 count-start l n = record { inside = omega arith; small = omega arith; is = omega (arith, ap length (all-bytes l n)) }
 
 module _ {l : List ℕ} {n i total : ℕ} (w : Counted l n i total) where
-  pub count-more : {b : Bind} {k : ℕ} → i < n → b ≡ bindAt l i → k ≡ length (bindBytes b) → k ≤ 397 → Counted l n (i + 1) (total + k)
+  pub count-more : {b : Bind} {k : ℕ} → i < n → b ≡ bindAt l i → k ≡ length (bindBytes b) → k ≤ longestBinding → Counted l n (i + 1) (total + k)
   count-more h e p q = record {
     inside = omega arith;
     small = omega (arith, w .small);
     is = omega (arith, w .is, next-length l n i h, p, ap (λ (x : Bind). length (bindBytes x)) e);
   }
 
-  pub count-fits : {k : ℕ} → i < n → n ≤ 512 → k ≤ 397 → total + k < 18446744073709551616
+  pub count-fits : {k : ℕ} → i < n → n ≤ mostBindings → k ≤ longestBinding → total + k < 18446744073709551616
   count-fits h m q = omega (arith, w .small)
 
   pub count-is : n ≤ i → total ≡ length (bindsBytes (bindsOf l n))
   count-is h = omega (arith, w .is, ap length (no-bytes l n i h))
 
-  pub count-small : n ≤ 512 → total ≤ 203264
+  pub count-small : n ≤ mostBindings → total ≤ longestBindings
   count-small m = omega (arith, w .small, w .inside)
 
 -- ---- writing: what is written and what is left make all

@@ -14,10 +14,12 @@ ghost use mathlib.Core.Path.{_≡_};
 ghost use mathlib.Core.List.{[]};
 ghost use Prim.Native.Nat.{_+_, _-_, _*_, _≤_, _<_};
 ghost use lib.ListN.{length};
+ghost use Rattle.scopes.specs.Sets.{setScopes};
+ghost use Rattle.numbers.specs.Limits.{mostImage};
 ghost use Rattle.numbers.specs.Answers.{seenAt, unseen};
 ghost use Rattle.store.specs.Words.{bindOf};
 ghost use Rattle.bindings.specs.Sections.{readOne, readTarget, readAll, noBind, bindSeen, bindsSeen, MoreRead, SomeRead};
-ghost use Rattle.store.specs.Sizes.{bindingSize, storeSize};
+ghost use Rattle.store.specs.Sizes.{bindingSize, storeSize, mostBindings};
 
 // A binding beside the place past it, or beside the fault.
 pub struct BindingRead {
@@ -48,7 +50,7 @@ impl BindingRead {
 
 // The target and the set of a binding, behind its symbol x.
 fn read_target(c: Cursor, s: &[u8], counts: Counts, x: u32) -> BindingRead
-    requires { ⌜ (c .at + length (now s) ≤ 65536) × (counts .scopes ≤ 256) ⌝ }
+    requires { ⌜ (c .at + length (now s) ≤ mostImage) × (counts .scopes ≤ setScopes) ⌝ }
     ensures { λ r. ⌜ bindSeen r ≡ seenAt noBind (c .at + length (now (s .entry))) (readTarget counts x (now (s .entry))) ⌝ }
 {
     match c.number_below(s, counts.names) {
@@ -75,7 +77,7 @@ fn read_target(c: Cursor, s: &[u8], counts: Counts, x: u32) -> BindingRead
 
 // A binding: symbol, target, set.
 fn read_binding(c: Cursor, s: &[u8], counts: Counts) -> BindingRead
-    requires { ⌜ (c .at + length (now s) ≤ 65536) × (counts .scopes ≤ 256) ⌝ }
+    requires { ⌜ (c .at + length (now s) ≤ mostImage) × (counts .scopes ≤ setScopes) ⌝ }
     ensures { λ r. ⌜ bindSeen r ≡ seenAt noBind (c .at + length (now (s .entry))) (readOne counts (now (s .entry))) ⌝ }
 {
     match c.number_below(s, counts.symbols) {
@@ -94,7 +96,7 @@ fn read_more(
     count: usize,
     last: Binding,
 ) -> Place
-    requires image { ⌜ (c .at + length (now s) ≤ 65536) × (counts .scopes ≤ 256) ⌝ }
+    requires image { ⌜ (c .at + length (now s) ≤ mostImage) × (counts .scopes ≤ setScopes) ⌝ }
     requires held { ⌜ (i ≤ count) × (count * bindingSize ≤ length (now store)) ⌝ }
     ensures { λ r. ⌜ MoreRead counts (now (s .entry)) (c .at + length (now (s .entry))) (bindOf last) i count (now (store .entry)) (now (store .exit)) r ⌝ }
 {
@@ -124,7 +126,7 @@ fn read_more(
 
 // So many bindings, into the store from its start.
 fn read_some(c: Cursor, s: &[u8], counts: Counts, store: &mut [u64], count: usize) -> Place
-    requires image { ⌜ (c .at + length (now s) ≤ 65536) × (counts .scopes ≤ 256) ⌝ }
+    requires image { ⌜ (c .at + length (now s) ≤ mostImage) × (counts .scopes ≤ setScopes) ⌝ }
     requires held { ⌜ count * bindingSize ≤ length (now store) ⌝ }
     ensures { λ r. ⌜ SomeRead counts (now (s .entry)) (c .at + length (now (s .entry))) count (now (store .exit)) r ⌝ }
 {
@@ -145,10 +147,10 @@ fn read_some(c: Cursor, s: &[u8], counts: Counts, store: &mut [u64], count: usiz
 
 // The bindings of an image, at a cursor, where `s` is the image from there on.
 pub fn read_bindings(c: Cursor, s: &[u8], counts: Counts, store: &mut [u64]) -> BindingsRead
-    requires image { ⌜ (c .at + length (now s) ≤ 65536) × (counts .scopes ≤ 256) ⌝ }
+    requires image { ⌜ (c .at + length (now s) ≤ mostImage) × (counts .scopes ≤ setScopes) ⌝ }
     requires held { ⌜ storeSize ≤ length (now store) ⌝ }
     ensures { λ r. ⌜ bindsSeen (now (store .exit)) r ≡ seenAt [] (c .at + length (now (s .entry))) (readAll counts (now (s .entry))) ⌝ }
-    ensures { λ r. ⌜ r .count ≤ 512 ⌝ }
+    ensures { λ r. ⌜ r .count ≤ mostBindings ⌝ }
 {
     match c.number_up_to(s, Refusal::OverLimit, Resolving::MOST as u32) {
         Number::Read(n, past) => {

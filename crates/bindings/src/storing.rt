@@ -8,13 +8,14 @@ ghost use mathlib.Core.Path.{_≡_};
 ghost use Prim.Native.Nat.{_+_, _*_, _≤_};
 ghost use lib.ListN.{length};
 ghost use lib.Seq.{sets};
+ghost use Rattle.bindings.specs.Lengths.{longestBinding, longestBindings};
 ghost use Rattle.model.specs.Writing.{bindBytes, bindsBytes};
 ghost use Rattle.store.specs.Words.{bindOf, bindsOf};
-ghost use Rattle.store.specs.Sizes.{bindingSize};
+ghost use Rattle.store.specs.Sizes.{bindingSize, mostBindings};
 
 // How many bytes a binding takes.
 fn binding_len(b: Binding) -> usize
-    ensures { λ r. ⌜ (r ≡ length (bindBytes (bindOf b))) × (r ≤ 397) ⌝ }
+    ensures { λ r. ⌜ (r ≡ length (bindBytes (bindOf b))) × (r ≤ longestBinding) ⌝ }
 {
     let symbol = b.symbol;
     let target = b.target;
@@ -38,8 +39,8 @@ fn put_binding(out: &mut [u8], at: usize, b: Binding) -> usize
 
 // How many bytes the first count bindings take.
 pub fn bindings_len(store: &[u64], count: usize) -> usize
-    requires { ⌜ (count * bindingSize ≤ length (now store)) × (count ≤ 512) ⌝ }
-    ensures { λ r. ⌜ (r ≡ length (bindsBytes (bindsOf (now (store .entry)) count))) × (r ≤ 203264) ⌝ }
+    requires { ⌜ (count * bindingSize ≤ length (now store)) × (count ≤ mostBindings) ⌝ }
+    ensures { λ r. ⌜ (r ≡ length (bindsBytes (bindsOf (now (store .entry)) count))) × (r ≤ longestBindings) ⌝ }
 {
     let mut n: usize = 0;
     let mut i: usize = 0;

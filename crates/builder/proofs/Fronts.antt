@@ -7,6 +7,8 @@ use native.Mathlib.Omega.{arith}
 use lib.Dec.{eqb, leb, ltb}
 use lib.ListN.{length, take, drop, length-drop}
 use lib.Seq.{drop-drop}
+use Rattle.scopes.specs.Sets.{setScopes}
+use Rattle.numbers.specs.Limits.{mostImage}
 use Rattle.model.specs.Choice.{if_then_else_}
 use Rattle.model.specs.Refusals.{layout, overLimit}
 use Rattle.model.specs.Objects as m
@@ -85,7 +87,7 @@ taken-left {image = image} {past = past} {k = k} {v = v} {rest = rest} t e =
 part : (image : List ℕ) (at : ℕ) → List ℕ
 part image at = take (length image - at) (drop at image)
 
-pub place-short : {image : List ℕ} {at : ℕ} → Within image at → at + length (take (length image - at) (drop at image)) ≤ 65536
+pub place-short : {image : List ℕ} {at : ℕ} → Within image at → at + length (take (length image - at) (drop at image)) ≤ mostImage
 place-short {image} {at} w = rw part-from (omega (arith, w .inside, w .short, length-drop at image))
 
 module _ {image : List ℕ} {at : ℕ} (h : NumberHere image at) {r : Number}
@@ -121,10 +123,10 @@ module _ {image : List ℕ} {at scopes : ℕ} (h : FrontHere image at scopes) wh
     pub here-inside : here ≤ length image
     here-inside = behind .inside
 
-    pub here-short : here + length (take (length image - here) (drop here image)) ≤ 65536
+    pub here-short : here + length (take (length image - here) (drop here image)) ≤ mostImage
     here-short = let w : Within image here = record { inside = here-inside; short = h .place .short } in place-short w
 
-    pub few-scopes : scopes ≤ 256
+    pub few-scopes : scopes ≤ setScopes
     few-scopes = h .few
 
     module _ {o : Seen m.Sets} (a : o ≡ seenAt noSets (here + length (take (length image - here) (drop here image))) (readSets scopes (take (length image - here) (drop here image)))) where

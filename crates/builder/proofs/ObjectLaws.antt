@@ -109,11 +109,6 @@ module _ {scopes : ℕ} {image : List ℕ} {at tag n past : ℕ} {c : Sets} (f :
             low = omega (arith, s .room .low, b .rises);
           }
 
-      pub atom-roomy : ¬ (tag ≡ listTag) → Roomy l top nodeSize
-      atom-roomy h =
-          let p = atom-at (s .read) h in
-          record { fits = omega (arith, s .room .fits, ap loadSize (p .is), load-atom (p .sets) (p .value)); small = s .room .small; low = s .room .low }
-
     pub list-builds : {l1 l2 : List ℕ} {r : Built} {at1 top1 : ℕ} → tag ≡ listTag → BuildsAll (ObjectsRead scopes) n l l1 top image past r
         → StoredObject l1 l2 (r .top) (record { tag = tag; content = r .at }) c at1 top1 → Builds (ObjectRead scopes) l l2 top image at (at + 1) (record { at = at1; top = top1; past = r .past })
     list-builds {l1} {l2} {r} h b o =

@@ -4,6 +4,7 @@ use mathlib.Core.List.{List}
 use Prim.Native.Nat.{ℕ, _+_, _-_, _*_, _≤_, _<_, _^_}
 use native.Mathlib.Omega.{arith}
 use lib.ListN.{length, drop}
+use Rattle.scopes.specs.Sets.{setScopes}
 use Rattle.model.specs.Objects.{Atom, tagOf, contentOf, atom, list, size}
 use Rattle.model.specs.Trees.{Tree, Trees, var, fun, datum, tcons, loadSize}
 use Rattle.model.specs.Reading.{got, num}
@@ -32,7 +33,7 @@ pub record Leads (R Q : List ℕ → Tree → List ℕ → Type 0) (image : List
   pub further : {t : Tree} {rest : List ℕ} → R (drop at image) t rest → at + 1 ≤ past
 
 module _ {R Q : List ℕ → Tree → List ℕ → Type 0} {image : List ℕ} {at past : ℕ} (L : Leads R Q image at past) {l : List ℕ} {top : ℕ} where
-  leads-judged : {scopes k : ℕ} → k ≤ 256 → Judged R l top image at scopes → Judged Q l top image past k
+  leads-judged : {scopes k : ℕ} → k ≤ setScopes → Judged R l top image at scopes → Judged Q l top image past k
   leads-judged h s =
       record {
         thing = s .thing;

@@ -4,6 +4,7 @@ use mathlib.Core.Path.{_≡_}
 use mathlib.Core.List.{List}
 use Prim.Native.Nat.{ℕ, _+_, _*_, _≤_}
 use lib.ListN.{length, drop}
+use Rattle.scopes.specs.Sets.{setScopes}
 use Rattle.model.specs.Objects.{size}
 use Rattle.model.specs.Trees.{Tree, Trees, loadSize, tsizesBy}
 use Rattle.table.specs.Words.{Same}
@@ -23,7 +24,7 @@ pub record Room (l : List ℕ) (top n : ℕ) (image : List ℕ) (at scopes : ℕ
   pub small : length l ≤ tableSize
   pub low : 1 ≤ top
   pub place : Within image at
-  pub few : scopes ≤ 256
+  pub few : scopes ≤ setScopes
 
 pub record Judged (R : List ℕ → Tree → List ℕ → Type 0) (l : List ℕ) (top : ℕ) (image : List ℕ) (at scopes : ℕ) : Type 0 where
   pub thing : Tree

@@ -3,6 +3,8 @@ use mathlib.Core.Path.{_≡_}
 use mathlib.Core.List.{List}
 use Prim.Native.Nat.{ℕ, _+_, _≤_}
 use lib.ListN.{length, drop}
+use Rattle.scopes.specs.Sets.{setScopes}
+use Rattle.numbers.specs.Limits.{mostImage}
 use Rattle.model.specs.Objects as m
 use Rattle.model.specs.Reading.{got, num, readSets}
 use Rattle.table.specs.declared.Sets.{Sets}
@@ -11,7 +13,7 @@ use Rattle.things.specs.Rep.{setsOf}
 -- a place of an image
 pub record Within (image : List ℕ) (at : ℕ) : Type 0 where
   pub inside : at ≤ length image
-  pub short : length image ≤ 65536
+  pub short : length image ≤ mostImage
 
 -- `rest` is what the image has from `past` on, which is not before `from`
 pub record Left (image : List ℕ) (from past : ℕ) (rest : List ℕ) : Type 0 where
@@ -39,7 +41,7 @@ pub record ObjectFront (scopes : ℕ) (s : List ℕ) (tag : ℕ) (sets : m.Sets)
 
 pub record FrontHere (image : List ℕ) (at scopes : ℕ) : Type 0 where
   pub place : Within image at
-  pub few : scopes ≤ 256
+  pub few : scopes ≤ setScopes
   pub tag : ℕ
   pub sets : m.Sets
   pub n : ℕ

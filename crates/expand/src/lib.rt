@@ -36,7 +36,7 @@ pub struct Context {
 }
 
 impl Context {
-    pub const LAST_PHASE: u32 = 2;
+    pub const LAST_PHASE: u32 = table::Sets::LAST_PHASE;
 
     // The prunable set with a scope more.
     fn also_prunable(self, k: Scope) -> ScopeSet

@@ -12,7 +12,7 @@ pub enum Finished {
     TooLong,
 }
 
-const MOST_IMAGE: usize = 65536;
+const MOST_IMAGE: usize = numbers::Cursor::MOST_IMAGE;
 
 // What an output of so many bytes may take.
 fn most_for(room: usize) -> usize

@@ -100,7 +100,7 @@ module _ {ph n : ℕ} {l st : List ℕ} {i top : ℕ} {x : Stx} {r : Naming} (p 
   pub on-unnamed : r ≡ Unnamed → nameFound ph (bindsOf st n) x ≡ none
   on-unnamed e = sym (p .means top x q) ∙ ap namingOf e
 
-some-is : {A : Type 0} {a b : A} → some a ≡ some b → a ≡ b
+pub some-is : {A : Type 0} {a b : A} → some a ≡ some b → a ≡ b
 some-is e = cc
 
 -- resolving an identifier that the rules look at

@@ -3,9 +3,13 @@ use numbers::Cursor;
 use numbers::Number;
 use numbers::Place;
 use refusals::Refusal;
+use scopes::Name;
+use scopes::Scope;
 ghost use mathlib.Core.Path.{_≡_};
 ghost use Prim.Native.Nat.{ℕ, _+_, _≤_};
 ghost use lib.ListN.{length, drop};
+ghost use Rattle.words.specs.Section.{mostWords};
+ghost use Rattle.numbers.specs.Limits.{mostImage};
 ghost use Rattle.model.specs.Reading.{readHead};
 ghost use Rattle.numbers.specs.Answers.{placeAt};
 ghost use Rattle.head.specs.Heads.{readKind, readAfterKind, headAt, CountsRead};
@@ -36,17 +40,15 @@ impl Head {
 
     pub const TREE: u32 = 2;
 
-    pub const CORE_NAMES: u32 = 4;
+    pub const CORE_NAMES: u32 = Name::CORE;
 
-    // Names that are no core names.
-    const MOST_NAMES: u32 = 1020;
-
-    const MOST_SCOPES: u32 = 256;
+    // Words and made names together: core names are counted among the names.
+    const MOST_NEW: u32 = Name::MOST - Head::CORE_NAMES;
 }
 
 // The kind: 1 or 2, and the job's.
 fn read_kind(s: &[u8], kind: u32) -> Place
-    requires { ⌜ length (now s) ≤ 65536 ⌝ }
+    requires { ⌜ length (now s) ≤ mostImage ⌝ }
     ensures { λ r. ⌜ r ≡ placeAt (length (now (s .entry))) (readKind kind (now (s .entry))) ⌝ }
 {
     let start = Cursor { at: 0 };
@@ -69,14 +71,14 @@ fn read_kind(s: &[u8], kind: u32) -> Place
 
 // The counts of made names and scopes, behind so many words.
 fn read_counts(s: &[u8], c: Cursor, words: u32) -> HeadRead
-    requires { ⌜ (length (now s) ≤ 65536) × (c .at ≤ length (now s)) × (words ≤ 1020) ⌝ }
+    requires { ⌜ (length (now s) ≤ mostImage) × (c .at ≤ length (now s)) × (words ≤ mostWords) ⌝ }
     ensures { λ r. ⌜ CountsRead (now (s .entry)) (c .at) words r ⌝ }
 {
     let at = c.at;
-    match c.number_up_to(&s[at..], Refusal::OverLimit, Head::MOST_NAMES - words) {
+    match c.number_up_to(&s[at..], Refusal::OverLimit, Head::MOST_NEW - words) {
         Number::Read(made, past) => {
             let at = past.at;
-            match past.number_up_to(&s[at..], Refusal::OverLimit, Head::MOST_SCOPES) {
+            match past.number_up_to(&s[at..], Refusal::OverLimit, Scope::MOST) {
                 Number::Read(scopes, end) => HeadRead::Read(
                     Head {
                         words,
@@ -94,11 +96,11 @@ fn read_counts(s: &[u8], c: Cursor, words: u32) -> HeadRead
 
 // The words and counts, behind the kind.
 fn read_after_kind(s: &[u8], c: Cursor) -> HeadRead
-    requires { ⌜ (length (now s) ≤ 65536) × (c .at ≤ length (now s)) ⌝ }
+    requires { ⌜ (length (now s) ≤ mostImage) × (c .at ≤ length (now s)) ⌝ }
     ensures { λ r. ⌜ r ≡ headAt (length (now (s .entry))) (readAfterKind (drop (c .at) (now (s .entry)))) ⌝ }
 {
     let at = c.at;
-    match c.number_up_to(&s[at..], Refusal::OverLimit, Head::MOST_NAMES) {
+    match c.number_up_to(&s[at..], Refusal::OverLimit, Head::MOST_NEW) {
         Number::Read(words, past) => {
             let start = past.at;
             match words::read_words(s, start, start, 0, words) {
@@ -112,7 +114,7 @@ fn read_after_kind(s: &[u8], c: Cursor) -> HeadRead
 
 // The head of the image s, which has to be of that kind.
 pub fn read_head(s: &[u8], kind: u32) -> HeadRead
-    requires { ⌜ length (now s) ≤ 65536 ⌝ }
+    requires { ⌜ length (now s) ≤ mostImage ⌝ }
     ensures { λ r. ⌜ r ≡ headAt (length (now (s .entry))) (readHead kind (now (s .entry))) ⌝ }
 {
     match read_kind(s, kind) {

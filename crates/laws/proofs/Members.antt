@@ -89,7 +89,7 @@ asc-ext p n (k ∷ l) (k′ ∷ r) a b h = go (ltb k k′) refl (ltb k′ k) ref
 pub half-pow : (m j : ℕ) → m < 2 ^ suc j → m / 2 < 2 ^ j
 half-pow m j h = omega arith
 
-members-none : (c n : ℕ) → membersFrom c n 0 ≡ []
+pub members-none : (c n : ℕ) → membersFrom c n 0 ≡ []
 unfolding membersFrom keep
 members-none zero n = refl
 members-none (suc c) n = members-none c (suc n)
@@ -153,7 +153,7 @@ unfoldable pub addAll : List ℕ → Scopes → Scopes
 addAll [] m = m
 addAll (k ∷ l) m = addAll l (add k m)
 
-swap-or : (x y z : Bool) → (x || (y || z)) ≡ ((y || x) || z)
+pub swap-or : (x y z : Bool) → (x || (y || z)) ≡ ((y || x) || z)
 swap-or true true z = refl
 swap-or true false z = refl
 swap-or false true z = refl

@@ -9,6 +9,7 @@ use lib.Seq.{take-all}
 use mir.Syntax.{w32}
 use mir.Val.{Fits}
 use borrow.Author.Tests.{lt-ltb, le-ltb, le-leb, lt-leb, eq-eqb, ne-eqb}
+use Rattle.model.specs.Limits as m
 use Rattle.model.specs.Reading.{byte, groups, num, numUpTo, numBelow}
 use Rattle.refusals.specs.declared.Refusal.{Refusal}
 use Rattle.refusals.specs.declared.Refusal.the-variants.{Layout, OverLimit}
@@ -17,9 +18,15 @@ use Rattle.numbers.specs.declared.Cursor.{Cursor}
 use Rattle.numbers.specs.declared.Number.{Number}
 use Rattle.numbers.specs.declared.Number.the-variants.{Read, Fault}
 use Rattle.numbers.specs.Answers.{numberAt}
+use Rattle.numbers.specs.Limits.{mostImage}
 use Rattle.numbers.specs.Weights.{Weighed, second, third, fourth, fifth}
 use Rattle.numbers.proofs.Tails.{num-tail}
 use Rattle.numbers.proofs.Answering.{number-shape, gives, refuses, stops}
+
+-- an image is as long as the model allows
+pub image-is : mostImage ≡ m.mostImage
+unfolding m.mostImage
+image-is = refl
 
 -- `&s[k..]` is what is left of s behind k
 pub part-from : (k : ℕ) (s : List ℕ) → take (length s - k) (drop k s) ≡ drop k s

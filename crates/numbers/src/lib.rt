@@ -4,6 +4,7 @@ ghost use mathlib.Core.Path.{_≡_};
 ghost use Prim.Native.Nat.{ℕ, _+_, _-_, _≤_, _<_};
 ghost use lib.ListN.{length, drop};
 ghost use lib.Seq.{sets};
+ghost use Rattle.numbers.specs.Limits.{mostImage};
 ghost use Rattle.model.specs.Reading.{num, groups, numUpTo, numBelow};
 ghost use Rattle.model.specs.Writing.{numBytes};
 ghost use Rattle.refusals.specs.Refusing.{refusalOf};
@@ -28,6 +29,12 @@ pub enum Place {
 }
 
 impl Cursor {
+    // Bytes of an image.
+    pub const MOST_IMAGE: usize = 65536;
+
+    // Levels of what an image holds.
+    pub const MOST_NESTING: u32 = 64;
+
     // The image from `past` on, where `s` is the image from this cursor on.
     pub fn after(self, s: &[u8], past: Cursor) -> &[u8]
         requires { ⌜ (self .at ≤ past .at) × (past .at ≤ self .at + length (now s)) ⌝ }
@@ -39,7 +46,7 @@ impl Cursor {
 
     // The number at this cursor, where `s` is the image from here on.
     pub fn number(self, s: &[u8]) -> Number
-        requires { ⌜ self .at + length (now s) ≤ 65536 ⌝ }
+        requires { ⌜ self .at + length (now s) ≤ mostImage ⌝ }
         ensures { λ r. ⌜ r ≡ numberAt (self .at + length (now (s .entry))) (num (now (s .entry))) ⌝ }
     {
         if s.len() == 0 {
@@ -55,7 +62,7 @@ impl Cursor {
 
     // The groups after the first: `sum` is what they add to, `weight` the next one's, and `left` more come before the fifth.
     fn groups(self, s: &[u8], left: u32, weight: u32, sum: u32) -> Number
-        requires { ⌜ (self .at + length (now s) ≤ 65536) × Weighed left weight sum ⌝ }
+        requires { ⌜ (self .at + length (now s) ≤ mostImage) × Weighed left weight sum ⌝ }
         ensures { λ r. ⌜ r ≡ numberAt (self .at + length (now (s .entry))) (groups left weight sum (now (s .entry))) ⌝ }
     {
         if s.len() == 0 {
@@ -88,7 +95,7 @@ impl Cursor {
 
     // A number that is at most `most`, else the fault given.
     pub fn number_up_to(self, s: &[u8], fault: Refusal, most: u32) -> Number
-        requires { ⌜ self .at + length (now s) ≤ 65536 ⌝ }
+        requires { ⌜ self .at + length (now s) ≤ mostImage ⌝ }
         ensures { λ r. ⌜ r ≡ numberAt (self .at + length (now (s .entry))) (numUpTo (refusalOf fault) most (now (s .entry))) ⌝ }
     {
         match self.number(s) {
@@ -105,7 +112,7 @@ impl Cursor {
 
     // A number of something declared: below `limit`.
     pub fn number_below(self, s: &[u8], limit: u32) -> Number
-        requires { ⌜ self .at + length (now s) ≤ 65536 ⌝ }
+        requires { ⌜ self .at + length (now s) ≤ mostImage ⌝ }
         ensures { λ r. ⌜ r ≡ numberAt (self .at + length (now (s .entry))) (numBelow limit (now (s .entry))) ⌝ }
     {
         match self.number(s) {

@@ -4,6 +4,7 @@ use mathlib.Core.List.{List}
 use Prim.Native.Nat.{ℕ, _+_, _*_, _≤_, _<_}
 use native.Mathlib.Omega.{arith}
 use lib.ListN.{length}
+use Rattle.store.specs.Sizes.{mostBindings}
 use Rattle.model.specs.Objects.{Stx, Stxs, nil, cons}
 use Rattle.model.specs.Trees.{Trees, tnil, tcons, stx, fromStxs}
 use Rattle.model.specs.Steps as m
@@ -49,7 +50,7 @@ pub record Going (left ph : ℕ) (st l : List ℕ) (s : State) (c : ℕ) (l′ :
   pub kept : Same (s .top) l l′
   pub grows : s .top ≤ t .top
   pub long : length l′ ≡ length l
-  pub few : t .bindings ≤ 512
+  pub few : t .bindings ≤ mostBindings
   pub spent : t .units ≤ s .units
   pub means : (ps : Stxs) → RepP l (s .top) c (fromStxs ps) → Half left ph st l′ s t from turned ps
 

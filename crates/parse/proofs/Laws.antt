@@ -2,7 +2,7 @@
 use mathlib.Core.Path.{_≡_, refl, sym, ap, _∙_}
 use mathlib.Core.List.{List}
 use mathlib.Core.Option.{Option, none, some}
-use Prim.Native.Nat.{ℕ, zero, suc, _+_, _-_, _*_, _^_, _≤_, _<_, min}
+use Prim.Native.Nat.{ℕ, zero, suc, _+_, _-_, _*_, _^_, _≤_, _<_}
 use native.Mathlib.Omega.{arith}
 use lib.ListN.{length}
 use Rattle.model.specs.Objects as ob
@@ -31,14 +31,14 @@ use Rattle.table.specs.declared.Node.{Node}
 use Rattle.table.specs.declared.Cell.{Cell}
 use Rattle.table.proofs.Laws.{same-trans}
 use Rattle.things.specs.Rep.{Rep, RepP, is-none, is-atom, is-list}
-use Rattle.things.specs.Weights.{weight}
 use Rattle.things.specs.Measuring.{Seen, SeenP, Extends, Measured}
 use Rattle.things.specs.Making.{Roomy, Stored, Closable, Closed, Linkable, Linked}
 use Rattle.things.specs.declared.Extent.{Extent}
 use Rattle.things.specs.declared.Made.{Made}
 use Rattle.things.proofs.Frame.{below, belowP, carry, carryP}
-use Rattle.things.proofs.ByTag.{tag-is, tag-low, atom-at, list-at, stx-tag, cons-at}
+use Rattle.things.proofs.ByTag.{tag-is, tag-low, atom-at, list-at, stx-tag, cons-at, same-object}
 use Rattle.things.proofs.Making.{made-var, made-app, made-datum}
+use Rattle.things.proofs.Measuring.{charged-size, covered-size}
 use Rattle.forms.specs.Shapes.{Single, Double}
 use Rattle.forms.specs.Names.{Names, formed}
 use Rattle.forms.specs.declared.One.{One}
@@ -55,11 +55,8 @@ use Rattle.syntax.specs.Copying.{Copyable, Copied}
 use Rattle.parse.specs.Shown.{Held, ShownTree, ShownChain, trees, chains}
 use Rattle.parse.specs.Parsing.{unpaid, Ready, ReadyParts, ReadyForm, ReadyChain, ReadyData, nameRule, functionRule, lambdaRule, dataRule, quoteRule, syntaxRule, applicationRule, Parsed, ParsedEntry, ParsedName, ParsedList, ParsedForm, ParsedLambda, ParsedFunction, ParsedQuote, ParsedData, ParsedSyntax, ParsedApplication, ParsedParts}
 use Rattle.parse.proofs.Rules.{parse-entry, entry-atom, entry-symbol, entry-empty, list-named, list-unclear, list-unnamed, form-lambda, form-let-syntax, form-quote, form-syntax, form-other, application-is, application-no}
-use Rattle.table.specs.Sizes.{cellSize, twoCells, nodeSize, unitSize}
+use Rattle.table.specs.Sizes.{cellSize, twoCells, nodeSize, unitSize, mostSize}
 use Rattle.store.specs.Sizes.{bindingSize}
-
-stx-is : {a b : Stx} → stx a ≡ stx b → a ≡ b
-stx-is e = cc
 
 -- ---- the state before the entry was charged
 
@@ -76,11 +73,6 @@ top-is w = ap (λ (y : State). y .top) (w .is)
 node-later : {l l1 : List ℕ} {top1 : ℕ} (s : State) → Same (s .top) l l1 → top1 ≡ s .top + nodeSize → Later 1 twoCells l l1 (unpaid s) (raisedTo top1 s)
 unfolding unpaid
 node-later s k g = record { kept = k; grows = omega (arith, g); fits = omega (arith, g); spent = omega arith }
-
--- after at least a later state
-later-unpaid : {n v : ℕ} {l l1 : List ℕ} {s s1 : State} → Later n v l l1 s s1 → Later (n + 1) (v + unitSize) l l1 (unpaid s) s1
-unfolding unpaid
-later-unpaid p = record { kept = p .kept; grows = p .grows; fits = omega (arith, p .fits); spent = omega (arith, p .spent) }
 
 -- ---- what is read
 
@@ -142,7 +134,7 @@ module _ {st l : List ℕ} (s : State) {i : ℕ} {o : Node} (e : o ≡ getNode l
   entry-list-ready r h = let q = list-at (r .shown) e h in record { thing = q .parts; shown = q .shown; room = r .room; held = r .held }
 
   pub entry-list : {left ph : ℕ} {l1 : List ℕ} {r : Answer} → o .tag ≡ listTag → ParsedList left ph st l l1 s (o .content) r → ParsedEntry left ph st l l1 s i r
-  entry-list h a = record { means = λ x w. let q = list-at w e h in rw (stx-is (q .is)) (a .means (q .sets) (q .parts) (q .shown)) }
+  entry-list h a = record { means = λ x w. let q = list-at w e h in rw (same-object (q .is)) (a .means (q .sets) (q .parts) (q .shown)) }
 
   pub entry-name : {left ph : ℕ} {l1 : List ℕ} {r : Answer} → o .tag ≡ 0 → ParsedName ph st l l1 s i r → ParsedEntry left ph st l l1 s i r
   entry-name {left} {ph} h a =
@@ -169,7 +161,7 @@ module _ {st l : List ℕ} (s : State) {i : ℕ} {o : Node} (e : o ≡ getNode l
             λ j. record { tag = atomValueTag + (q .tag) j; content = (q .content) j } in
             let d2 : Stored l l1 (s .top) (record { tag = atomValueTag + tagOf (q .value); content = contentOf (q .value) }) (k .at) (k .top) = rw node at d in
             let rule : parseEntry (λ y. parse left ph y) ph x (stateOf s (bindsOf st)) ≡ ok (datum (q .value)) (stateOf s (bindsOf st)) =
-            ap (λ (v : Stx). parseEntry (λ y. parse left ph y) ph v (stateOf s (bindsOf st))) (stx-is (q .is))
+            ap (λ (v : Stx). parseEntry (λ y. parse left ph y) ph v (stateOf s (bindsOf st))) (same-object (q .is))
             ∙ entry-atom (λ y. parse left ph y) ph (stateOf s (bindsOf st)) (q .sets) (q .value) (λ t. n0 (q .tag ∙ t)) in
             rw g (gives (record { at = k .at; state = raisedTo (k .top) s }) (record {
               value = datum (q .value);
@@ -435,11 +427,7 @@ unfolding unpaid
 data-seen s r = record { top = s .top; thing = stx (r .thing); shown = r .shown; inside = omega (arith, r .room .fits); small = r .room .small }
 
 module _ {l : List ℕ} (s : State) {i : ℕ} {ex : Extent} (k : Measured l i ex) {y : Charged} (f : y ≡ chargeOf (ex .weight) s) (r : ReadyData l (unpaid s) i) where
-  measured : (x : Stx) {top : ℕ} → Rep l top i (stx x) → ex .weight ≡ min 4097 (size x)
-  unfolding weight
-  measured x {top} w = k .means top (stx x) w .weight
-
-  few-units : s .units < 4097
+  few-units : s .units < mostSize
   unfolding unpaid
   few-units = omega (arith, r .room .fits, r .room .small)
 
@@ -447,19 +435,16 @@ module _ {l : List ℕ} (s : State) {i : ℕ} {ex : Extent} (k : Measured l i ex
   unfolding dataRule
   data-short {t} g =
       let q = charge-failed (ex .weight) s f g in
-      record { means = λ b x w. rw (q .is) (stops _ (then-no _ (charge-no (size x) s b (omega (arith, q .short, few-units, measured x w))))) }
+      record { means = λ b x w. rw (q .is) (stops _ (then-no _ (charge-no (size x) s b (omega (arith, q .short, few-units, charged-size k x w))))) }
 
   module _ {u : State} (g : y ≡ charged.Paid u) where
     went : Went (ex .weight) s u
     went = charge-went (ex .weight) s f g
 
-    exactly : (x : Stx) → Rep l (s .top) i (stx x) → ex .weight ≡ size x
-    exactly x w = omega (arith, measured x w, few-units, went .enough)
-
     pub strip-ready : Copyable l (u .top) i
     unfolding unpaid
     strip-ready =
-        let n : ex .weight ≡ size (r .thing) = exactly (r .thing) (r .shown) in
+        let n : ex .weight ≡ size (r .thing) = covered-size k few-units (went .enough) (r .thing) (r .shown) in
         rw (went .is) (record { thing = r .thing; shown = r .shown; charged = omega (arith, n, went .enough, few-units); room = omega (arith, r .room .fits, went .enough, n); small = r .room .small; low = r .room .low })
 
     pub data-made : {l1 : List ℕ} {at : Made} {z : State} → Copied strip l l1 (u .top) i (at .at) (at .top) → z ≡ raisedTo (at .top) u
@@ -472,7 +457,7 @@ module _ {l : List ℕ} (s : State) {i : ℕ} {ex : Extent} (k : Measured l i ex
         let v2 : Copied strip l l1 (s .top) i (at .at) (at .top) = rw ut at v in
         record {
           means = λ b x w.
-              let n : ex .weight ≡ size x = exactly x w in
+              let n : ex .weight ≡ size x = covered-size k few-units (went .enough) x w in
               let q = v2 .means x w in
               let same : stateOf (paid (size x) s) b ≡ stateOf u b = rw (went .is) (ap (λ (k : ℕ). stateOf (paid k s) b) (sym n)) in
               rw j (gives (record { at = at .at; state = raisedTo (at .top) u }) (record {

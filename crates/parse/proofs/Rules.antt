@@ -13,6 +13,7 @@ use Rattle.model.specs.Steps.{State, Out, ok, no, after, Step, nameOf, resolveA
 use Rattle.model.specs.Parsing as p
 use Rattle.model.specs.Parsing.{formOf, headForm, parseAll, parseForm, parseEntry, parse}
 use Rattle.forms.specs.Names.{nameFound}
+use Rattle.forms.proofs.Names.{some-is}
 use Rattle.steps.proofs.Laws.{Entry, then-ok, then-no}
 use Rattle.parse.specs.Parsing.{nameRule, lambdaRule, dataRule, quoteRule, syntaxRule, applicationRule, functionRule}
 
@@ -36,9 +37,6 @@ module _ (self : Stx → Step Tree) (ph : ℕ) (y : State) where
   pub entry-empty : (c : Sets) → parseEntry self ph (list c nil) y ≡ no noRule (y .left)
   unfolding parseEntry
   entry-empty c = refl
-
-  some-is : {A : Type 0} {a b : A} → some a ≡ some b → a ≡ b
-  some-is e = cc
 
   -- the head's form
   head-named : (h : Stx) {n : ℕ} → nameFound ph (y .binds) h ≡ some (res.means n) → headForm ph h y ≡ ok (formOf n) y

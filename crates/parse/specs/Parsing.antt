@@ -3,6 +3,7 @@
 use mathlib.Core.List.{List}
 use Prim.Native.Nat.{ℕ, _+_, _≤_}
 use lib.ListN.{length}
+use Rattle.store.specs.Sizes.{mostBindings}
 use Rattle.model.specs.Objects.{Sets, Stx, list, Stxs, size}
 use Rattle.model.specs.Trees.{Tree, var, app, fun, stx, Trees, tcons, fromStxs, strip}
 use Rattle.model.specs.Steps.{Step, _>>=_, _>>_, done, charge, resolveAt, parts1, parts2, identifier}
@@ -47,13 +48,13 @@ pub record ReadyChain (l : List ℕ) (s : State) (c : ℕ) : Type 0 where
   pub thing : Stxs
   pub shown : RepP l (s .top) c (fromStxs thing)
   pub room : Room l s
-  pub few : s .bindings ≤ 512
+  pub few : s .bindings ≤ mostBindings
 
 pub record ReadyData (l : List ℕ) (s : State) (i : ℕ) : Type 0 where
   pub thing : Stx
   pub shown : Rep l (s .top) i (stx thing)
   pub room : Room l s
-  pub few : s .bindings ≤ 512
+  pub few : s .bindings ≤ mostBindings
 
 -- ---- the rules' parts by themselves
 

@@ -7,20 +7,20 @@ use Rattle.steps.specs.Agreement.{Shape}
 use Rattle.steps.specs.declared.State.{State}
 use Rattle.steps.specs.declared.Out.{Out}
 use Rattle.things.specs.Rep.{Rep, RepP}
-use Rattle.store.specs.Sizes.{storeSize}
+use Rattle.store.specs.Sizes.{storeSize, mostBindings}
 
 -- the store is whole, and holds no more than it has room for
 pub record Held (st : List ℕ) (s : State) : Type 0 where
-  pub few : s .bindings ≤ 512
+  pub few : s .bindings ≤ mostBindings
   pub wide : storeSize ≤ length st
 
 pub record ShownTree (l : List ℕ) (o : Out) (t : Tree) : Type 0 where
   pub rep : Rep l (o .state .top) (o .at) t
-  pub few : o .state .bindings ≤ 512
+  pub few : o .state .bindings ≤ mostBindings
 
 pub record ShownChain (l : List ℕ) (o : Out) (ts : Trees) : Type 0 where
   pub rep : RepP l (o .state .top) (o .at) ts
-  pub few : o .state .bindings ≤ 512
+  pub few : o .state .bindings ≤ mostBindings
 
 abbrev pub trees : Shape Tree Out
 trees = record { shows = λ l o t. ShownTree l o t; state = λ o. o .state }

@@ -11,9 +11,10 @@ use lib.Pow.{shr-shr, field, mod-mod-pow}
 use borrow.Author.Tests.{eqb-true}
 use Rattle.model.specs.Limits.{mostScopes}
 use Rattle.model.specs.Scopes.{keep, membersFrom, members}
+use Rattle.laws.proofs.Members.{members-none}
 use Rattle.scopes.specs.Sets.{wordsFrom, setWords, setScopes, wordMembers, mostLong, longMembers}
 use Rattle.scopes.proofs.Words.{Words, words-low, words-above}
-use Rattle.scopes.proofs.Order.{digit-one, half-less, no-members}
+use Rattle.scopes.proofs.Order.{digit-one, half-less}
 
 length-keep : (m n : ℕ) (l : List ℕ) → length (keep (eqb (m % 2) 1) n l) ≡ m % 2 + length l
 unfolding keep
@@ -53,7 +54,7 @@ module _ {m x n : ℕ} (w : Counted m x n) where
 
   pub count-done : x ≡ 0 → n ≡ length (wordMembers m)
   count-done e =
-      let z : membersFrom (w .digits) (w .from) x ≡ [] = ap (membersFrom (w .digits) (w .from)) e ∙ no-members (w .digits) (w .from) in
+      let z : membersFrom (w .digits) (w .from) x ≡ [] = ap (membersFrom (w .digits) (w .from)) e ∙ members-none (w .digits) (w .from) in
       let l = ap length z in
       omega (arith, w .is)
 
@@ -132,7 +133,7 @@ length-short d c n x h =
     let a : x % 2 ^ d ≡ x = mod-eq-of-lt h in
     let b : x / 2 ^ d ≡ 0 = div-zero h in
     let k : length (membersFrom d n (x % 2 ^ d)) ≡ length (membersFrom d n x) = ap (λ (z : ℕ). length (membersFrom d n z)) a in
-    let j : length (membersFrom c n (x / 2 ^ d)) ≡ 0 = ap (λ (z : ℕ). length (membersFrom c n z)) b ∙ ap length (no-members c n) in
+    let j : length (membersFrom c n (x / 2 ^ d)) ≡ 0 = ap (λ (z : ℕ). length (membersFrom c n z)) b ∙ ap length (members-none c n) in
     omega arith
   where
     div-zero : {y z : ℕ} → y < z → y / z ≡ 0

@@ -11,6 +11,7 @@ use borrow.Author.Tests.{eqb-true, eqb-false, eq-eqb, ne-eqb, lt-ltb, le-ltb}
 use Rattle.model.specs.Limits.{mostScopes}
 use Rattle.scopes.specs.Sets.{setScopes}
 use Rattle.model.specs.Scopes.{keep, membersFrom, members, lessThen, listBefore, setBefore}
+use Rattle.laws.proofs.Members.{members-none}
 
 pub digit-one : (m : ℕ) → eqb (m % 2) 1 ≡ false → m % 2 ≡ 0
 digit-one m e = let h : m % 2 ≡ 1 → ⊥ = eqb-false (m % 2) 1 e in bit (m % 2) (mod-lt m (lit< tt)) h
@@ -29,11 +30,6 @@ pub half-less : (c m : ℕ) → m < 2 ^ suc c → m / 2 < 2 ^ c
 half-less c m s = let e : 2 ^ suc c ≡ 2 ^ c * 2 = pow-suc 2 c in omega arith
 
 -- ---- the members from n on
-
-pub no-members : (c n : ℕ) → membersFrom c n 0 ≡ []
-unfolding membersFrom keep
-no-members zero n = refl
-no-members (suc c) n = no-members c (suc n)
 
 -- the first of a list that is not empty is n or larger
 record First (n : ℕ) (l : List ℕ) : Type 0 where
@@ -81,7 +77,7 @@ ahead c n a b p q s h =
 
 longer : (c n a : ℕ) → a % 2 ≡ 1 → beforeFrom (suc c) n a 0 ≡ false
 unfolding membersFrom keep listBefore
-longer c n a p = rw (p, no-members c (suc n))
+longer c n a p = rw (p, members-none c (suc n))
 
 behind : (c n a b : ℕ) → a % 2 ≡ 0 → b % 2 ≡ 1 → a < 2 ^ suc c → 0 < a → beforeFrom (suc c) n a b ≡ false
 unfolding membersFrom keep listBefore lessThen
@@ -91,7 +87,7 @@ behind c n a b p q s h =
 
 prefix : (c n b : ℕ) → b % 2 ≡ 1 → beforeFrom (suc c) n 0 b ≡ true
 unfolding membersFrom keep listBefore
-prefix c n b q = rw (q, no-members c (suc n))
+prefix c n b q = rw (q, members-none c (suc n))
 
 -- ---- what a walk over the low digits knows: x and y are left of a and b, and decide
 

@@ -1,8 +1,9 @@
 -- A change at a charge: one law for each way out, whatever the change.
 use mathlib.Core.Path.{_≡_, sym, ap, _∙_}
 use mathlib.Core.List.{List}
-use Prim.Native.Nat.{ℕ, _-_, _<_, min}
+use Prim.Native.Nat.{ℕ, _-_, _<_}
 use native.Mathlib.Omega.{arith}
+use Rattle.table.specs.Sizes.{mostSize}
 use Rattle.model.specs.Objects.{Stx, size}
 use Rattle.model.specs.Trees.{stx}
 use Rattle.model.specs.Steps.{ok}
@@ -15,11 +16,10 @@ use Rattle.steps.specs.declared.Answer.the-variants.{Done, Refused}
 use Rattle.steps.specs.declared.Charged.{Charged}
 use Rattle.steps.specs.declared.Charged.the-variants as charged
 use Rattle.steps.proofs.Laws.{Went, charge-went, charge-failed, charge-ok, charge-no, then-ok, then-no}
-use Rattle.things.specs.Rep.{Rep}
-use Rattle.things.specs.Weights.{weight}
 use Rattle.things.specs.Measuring.{Seen, Measured}
 use Rattle.things.specs.declared.Extent.{Extent}
 use Rattle.things.specs.declared.Made.{Made}
+use Rattle.things.proofs.Measuring.{charged-size, covered-size}
 use Rattle.syntax.specs.Copying.{Copyable, Copied}
 use Rattle.scoping.specs.Changing.{ReadyObject, changeRule, Changes}
 
@@ -27,29 +27,22 @@ pub object-seen : {l : List ℕ} {s : State} {i : ℕ} → ReadyObject l s i →
 object-seen {s = s} r = record { top = s .top; thing = stx (r .thing); shown = r .shown; inside = omega (arith, r .room .fits); small = r .room .small }
 
 module _ {l : List ℕ} {s : State} {i : ℕ} {ex : Extent} (k : Measured l i ex) {y : Charged} (f : y ≡ chargeOf (ex .weight) s) (r : ReadyObject l s i) where
-  measured : (x : Stx) {top : ℕ} → Rep l top i (stx x) → ex .weight ≡ min 4097 (size x)
-  unfolding weight
-  measured x {top} w = k .means top (stx x) w .weight
-
-  few-units : s .units < 4097
+  few-units : s .units < mostSize
   few-units = omega (arith, r .room .fits, r .room .small, r .room .low)
 
   pub change-short : {g : Stx → Stx} {t : Stop} → y ≡ charged.Refused t → Changes g l l s i (Refused t)
   unfolding changeRule
   change-short e =
       let q = charge-failed (ex .weight) s f e in
-      record { means = λ b x w. rw (q .is) (stops _ (then-no _ (charge-no (size x) s b (omega (arith, q .short, few-units, measured x w))))) }
+      record { means = λ b x w. rw (q .is) (stops _ (then-no _ (charge-no (size x) s b (omega (arith, q .short, few-units, charged-size k x w))))) }
 
   module _ {u : State} (e : y ≡ charged.Paid u) where
     went : Went (ex .weight) s u
     went = charge-went (ex .weight) s f e
 
-    exactly : (x : Stx) → Rep l (s .top) i (stx x) → ex .weight ≡ size x
-    exactly x w = omega (arith, measured x w, few-units, went .enough)
-
     pub change-ready : Copyable l (u .top) i
     change-ready =
-        let n : ex .weight ≡ size (r .thing) = exactly (r .thing) (r .shown) in
+        let n : ex .weight ≡ size (r .thing) = covered-size k few-units (went .enough) (r .thing) (r .shown) in
         rw (went .is) (record { thing = r .thing; shown = r .shown; charged = omega (arith, n, went .enough, few-units); room = omega (arith, r .room .fits, went .enough, n); small = r .room .small; low = r .room .low })
 
     pub change-made : (g : Stx → Stx) {l1 : List ℕ} {at : Made} {z : State} → Copied (λ x. stx (g x)) l l1 (u .top) i (at .at) (at .top) → z ≡ raisedTo (at .top) u
@@ -62,7 +55,7 @@ module _ {l : List ℕ} {s : State} {i : ℕ} {ex : Extent} (k : Measured l i ex
         let v2 : Copied (λ x. stx (g x)) l l1 (s .top) i (at .at) (at .top) = rw ut at v in
         record {
           means = λ b x w.
-              let n : ex .weight ≡ size x = exactly x w in
+              let n : ex .weight ≡ size x = covered-size k few-units (went .enough) x w in
               let q = v2 .means x w in
               let same : stateOf (paid (size x) s) b ≡ stateOf u b = rw (went .is) (ap (λ (k : ℕ). stateOf (paid k s) b) (sym n)) in
               rw j (gives (record { at = at .at; state = raisedTo (at .top) u }) (record {

@@ -25,6 +25,7 @@ use Rattle.scopes.specs.declared.Scope.{Scope}
 use Rattle.scopes.specs.declared.ScopeSet.{ScopeSet}
 use Rattle.store.specs.Words.{bindOf, bindsOf, bindsFrom, bindAt}
 use Rattle.store.specs.declared.bindings.Binding.{Binding}
+pub use Rattle.store.proofs.Runs.{binds-length}
 use Rattle.steps.specs.States.{Store, stateOf, stopOf, paid, raisedTo, chargeOf, Room}
 use Rattle.steps.specs.Agreement.{Later, Ended, ended, Gave, Agrees, gives, stops}
 use Rattle.steps.specs.declared.State.{State}
@@ -34,7 +35,7 @@ use Rattle.steps.specs.declared.Answer.{Answer}
 use Rattle.steps.specs.declared.Answer.the-variants.{Done, Refused}
 use Rattle.steps.specs.declared.Charged.{Charged}
 use Rattle.steps.specs.declared.Charged.the-variants as charged
-use Rattle.steps.proofs.Laws.{Went, charge-went, charge-failed, charge-ok, charge-no, then-ok, then-no, later-refl, later-trans, room-later, on-done, on-refused, since}
+use Rattle.steps.proofs.Laws.{Went, charge-went, charge-failed, charge-ok, charge-no, then-ok, then-no, on-test, later-refl, later-trans, room-later, on-done, on-refused, since}
 use Rattle.table.specs.Words.{getNode, getSets, Same}
 use Rattle.table.specs.declared.Node.{Node}
 use Rattle.table.specs.declared.Sets as tb
@@ -134,15 +135,6 @@ module _ {l : List ℕ} {i ph : ℕ} {o : Node} (e : o ≡ getNode l i) {c : tb.
           let same : scopesOf z ≡ setAt ph d = g ∙ ap (λ (w : tb.Sets). setAt ph (setsOf w)) f ∙ ap (setAt ph) y in
           let symb : o .content ≡ x = content-is e q in
           λ j. record { symb = symb j; target = n .0; set = same j }
-
-from-length : (st : List ℕ) (i n : ℕ) → length (bindsFrom st i n) ≡ n
-unfolding bindsFrom
-from-length st i zero = refl
-from-length st i (suc n) = ap suc (from-length st (suc i) n)
-
-pub binds-length : (st : List ℕ) (n : ℕ) → length (bindsOf st n) ≡ n
-unfolding bindsOf
-binds-length st n = from-length st 0 n
 
 module _ (st : List ℕ) (s : State) (b : Binding) where
   pub put-full : 512 ≤ s .bindings → Puts st st s b (charged.Refused (record { refusal = NoBindingLeft; units = s .units }))
@@ -312,10 +304,6 @@ record ScopeWent (s t : State) : Type 0 where
 record ScopeFailed (s : State) (f : Stop) : Type 0 where
   none : 256 ≤ s .scopes
   is : f ≡ stopOf NoScopeLeft s
-
-on-test : {A : Type 0} (c : Bool) (x y : A) (P : A → Type 0) → (c ≡ true → P x) → (c ≡ false → P y) → P (if c then x else y)
-on-test true x y P f g = f refl
-on-test false x y P f g = g refl
 
 scope-went : (s : State) {x : Charged} {t : State} → x ≡ freshScopeOf s → x ≡ charged.Paid t → ScopeWent s t
 unfolding freshScopeOf

@@ -1,6 +1,7 @@
 -- A change of an object, charged its size.
 use mathlib.Core.List.{List}
 use Prim.Native.Nat.{ℕ, _≤_}
+use Rattle.store.specs.Sizes.{mostBindings}
 use Rattle.model.specs.Objects.{Stx, size}
 use Rattle.model.specs.Trees.{stx}
 use Rattle.model.specs.Steps.{Step, _>>_, done, charge}
@@ -14,7 +15,7 @@ use Rattle.table.specs.Sizes.{nodeSpare}
 
 pub record ShownObject (l : List ℕ) (o : Out) (x : Stx) : Type 0 where
   pub rep : Rep l (o .state .top) (o .at) (stx x)
-  pub few : o .state .bindings ≤ 512
+  pub few : o .state .bindings ≤ mostBindings
 
 abbrev pub objects : Shape Stx Out
 objects = record { shows = λ l o x. ShownObject l o x; state = λ o. o .state }
@@ -23,7 +24,7 @@ pub record ReadyObject (l : List ℕ) (s : State) (i : ℕ) : Type 0 where
   pub thing : Stx
   pub shown : Rep l (s .top) i (stx thing)
   pub room : Room l s
-  pub few : s .bindings ≤ 512
+  pub few : s .bindings ≤ mostBindings
 
 unfoldable pub changeRule : (Stx → Stx) → Stx → Step Stx
 unfolding charge size

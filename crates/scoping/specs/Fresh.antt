@@ -5,6 +5,7 @@ use mathlib.Core.Bool.{Bool, true, false}
 use Prim.Native.Nat.{ℕ, _+_, _≤_}
 use lib.ListN.{length}
 use lib.Dec.{leb}
+use Rattle.store.specs.Sizes.{mostBindings}
 use Rattle.model.specs.Choice.{if_then_else_}
 use Rattle.model.specs.Scopes.{add}
 use Rattle.model.specs.Objects.{Sets, setAt, changeAt, symbol, Stx, atom, addScope, flipScope}
@@ -14,7 +15,7 @@ use Rattle.model.specs.Steps.{Step, _>>=_, _>>_, done, charge, freshName, fresh
 use Rattle.model.specs.Expanding as m
 use Rattle.model.specs.Expanding.{bindFresh}
 use Rattle.refusals.specs.declared.Refusal.the-variants.{NoScopeLeft}
-use Rattle.scopes.specs.Sets.{Declared}
+use Rattle.scopes.specs.Sets.{Declared, setScopes}
 use Rattle.scopes.specs.declared.Name.{Name}
 use Rattle.scopes.specs.declared.Scope.{Scope}
 use Rattle.store.specs.Words.{bindOf, bindsOf}
@@ -60,8 +61,8 @@ pub record ShownTaken (o : State) (k : Taken) (next : ℕ) : Type 0 where
   pub name : k .name ≡ next
   pub scope : o .scopes ≡ k .scope
   pub from-one : 1 ≤ o .scopes
-  pub most : o .scopes ≤ 256
-  pub few : o .bindings ≤ 512
+  pub most : o .scopes ≤ setScopes
+  pub few : o .bindings ≤ mostBindings
 
 abbrev pub taken : ℕ → Shape Taken State
 taken next = record { shows = λ l o k. ShownTaken o k next; state = λ o. o }
@@ -75,7 +76,7 @@ pub record Keys (l : List ℕ) (i name ph : ℕ) (r : Binding) : Type 0 where
   pub means : (top : ℕ) (c : Sets) (x : ℕ) → Rep l top i (stx (atom c (symbol x))) → bindOf r ≡ record { symb = x; target = name; set = setAt ph c }
 
 pub record Few (o : State) : Type 0 where
-  pub few : o .bindings ≤ 512
+  pub few : o .bindings ≤ mostBindings
 
 abbrev pub puts : Shape (Unit {0}) State
 puts = record { shows = λ l o k. Few o; state = λ o. o }
@@ -88,7 +89,7 @@ pub record ShownPut (n : Name) (k : Scope) (at : ℕ) (o : Binder) : Type 0 wher
   pub name : o .name ≡ n
   pub scope : o .scope ≡ k
   pub place : o .at ≡ at
-  pub few : o .state .bindings ≤ 512
+  pub few : o .state .bindings ≤ mostBindings
 
 abbrev pub putsBinder : Name → Scope → ℕ → Shape (Unit {0}) Binder
 putsBinder n k at = record { shows = λ l o w. ShownPut n k at o; state = λ o. o .state }
@@ -115,7 +116,7 @@ pub record ShownBinder (x : ℕ) (l : List ℕ) (o : Binder) (k : m.Binder) : Ty
   pub scope : o .scope .0 ≡ k .scope
   pub declared : Declared (o .scope)
   pub rep : Rep l (o .state .top) (o .at) (stx (atom (k .sets) (symbol x)))
-  pub few : o .state .bindings ≤ 512
+  pub few : o .state .bindings ≤ mostBindings
 
 abbrev pub binders : ℕ → Shape m.Binder Binder
 binders x = record { shows = λ l o k. ShownBinder x l o k; state = λ o. o .state }
@@ -143,7 +144,7 @@ pub record BindsFresh (ph : ℕ) (st st′ l l′ : List ℕ) (s : State) (i : �
 
 unfoldable pub freshScopeOf : State → Charged
 freshScopeOf s =
-    if leb 256 (s .scopes)
+    if leb setScopes (s .scopes)
     then charged.Refused (stopOf NoScopeLeft s)
     else charged.Paid (record { top = s .top; units = s .units; names = s .names; scopes = s .scopes + 1; bindings = s .bindings })
 
@@ -172,7 +173,7 @@ pub record ShownMark (l : List ℕ) (o : Mark) (k : Marked) : Type 0 where
   pub intro : o .intro .0 ≡ k .intro
   pub uses-declared : Declared (o .uses)
   pub intro-declared : Declared (o .intro)
-  pub few : o .state .bindings ≤ 512
+  pub few : o .state .bindings ≤ mostBindings
 
 abbrev pub marks : Shape Marked Mark
 marks = record { shows = λ l o k. ShownMark l o k; state = λ o. o .state }

@@ -12,6 +12,7 @@ use steps::State;
 use steps::Stop;
 use store::bindings;
 use store::bindings::Binding;
+use store::resolving::Resolving;
 use things::Made;
 ghost use mathlib.Core.Path.{_≡_};
 ghost use Prim.Native.Nat.{ℕ, _+_, _≤_};
@@ -23,7 +24,7 @@ ghost use Rattle.things.specs.Measuring.{Seen};
 ghost use Rattle.scoping.specs.Changing.{ReadyObject, Changes};
 ghost use Rattle.syntax.specs.Copying.{Copyable};
 ghost use Rattle.scoping.specs.Fresh.{freshScopeOf, Takes, Puts, PutsBinder, Keys, Added, ReadyBinder, Binds, BindsFresh, Marks, MarksFresh};
-ghost use Rattle.store.specs.Sizes.{storeSize};
+ghost use Rattle.store.specs.Sizes.{storeSize, mostBindings};
 
 // ---- changes of scopes, charged the object's size
 
@@ -89,7 +90,7 @@ pub enum Bound {
 
 // The next name and the next scope, and the charge for the binder: the state's last name and scope are then those.
 fn take(s: State) -> Charged
-    requires { ⌜ s .bindings ≤ 512 ⌝ }
+    requires { ⌜ s .bindings ≤ mostBindings ⌝ }
     ensures { λ r. ⌜ Takes s r ⌝ }
 {
     let n = s.names;
@@ -129,11 +130,11 @@ fn key(table: &[u32], i: u32, name: Name, phase: u32) -> Binding
 }
 
 fn put(store: &mut [u64], s: State, b: Binding) -> Charged
-    requires { ⌜ (s .bindings ≤ 512) × (storeSize ≤ length (now store)) ⌝ }
+    requires { ⌜ (s .bindings ≤ mostBindings) × (storeSize ≤ length (now store)) ⌝ }
     ensures { λ r. ⌜ Puts (now (store .entry)) (now (store .exit)) s b r ⌝ }
 {
     let n = s.bindings;
-    if 512 <= n {
+    if Resolving::MOST as u32 <= n {
         return Charged::Refused(Stop {
             refusal: Refusal::NoBindingLeft,
             units: s.units,
@@ -148,7 +149,7 @@ fn put(store: &mut [u64], s: State, b: Binding) -> Charged
 
 // The same with the binder, which lies at the index.
 fn put_binder(store: &mut [u64], s: State, b: Binding, name: Name, scope: Scope, at: u32) -> Bound
-    requires { ⌜ (s .bindings ≤ 512) × (storeSize ≤ length (now store)) ⌝ }
+    requires { ⌜ (s .bindings ≤ mostBindings) × (storeSize ≤ length (now store)) ⌝ }
     ensures { λ r. ⌜ PutsBinder name scope at (now (store .entry)) (now (store .exit)) s b r ⌝ }
 {
     match put(store, s, b) {

@@ -14,7 +14,7 @@ use Rattle.model.specs.Objects.{Sets, noSets}
 use Rattle.model.specs.Reading as m
 use Rattle.model.specs.Reading.{got, fault, next, need, byte, num, readMembers, readSet, readSets}
 use Rattle.scopes.specs.declared.Scope.{Scope}
-use Rattle.scopes.specs.Sets.{Declared}
+use Rattle.scopes.specs.Sets.{Declared, setScopes}
 use Rattle.refusals.specs.declared.Refusal.{Refusal}
 use Rattle.refusals.specs.declared.Refusal.the-variants.{Layout}
 use Rattle.numbers.specs.declared.Cursor.{Cursor}
@@ -49,7 +49,7 @@ no-sets {f = f} e = ap (λ (v : Scopes). record { value = record { at0 = v; at1 
 
 -- ---- members
 
-pub declared : {k : Scope} {p n : ℕ} → p < k .0 → k .0 ≤ n → n ≤ 256 → Declared k
+pub declared : {k : Scope} {p n : ℕ} → p < k .0 → k .0 ≤ n → n ≤ setScopes → Declared k
 declared l h m = record { from-one = omega arith; most = omega arith }
 
 members-more : (left n p : ℕ) (m : Scopes) (s : List ℕ) → (left ≡ 0 → ⊥)

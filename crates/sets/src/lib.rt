@@ -10,13 +10,14 @@ ghost use mathlib.Core.Bool.{true};
 ghost use Prim.Native.Nat.{ℕ, _+_, _-_, _≤_, _<_};
 ghost use lib.ListN.{length};
 ghost use lib.Seq.{sets};
+ghost use Rattle.numbers.specs.Limits.{mostImage};
 ghost use Rattle.model.specs.Scopes.{members};
 ghost use Rattle.model.specs.Objects.{noSets};
 ghost use Rattle.model.specs.Reading.{readMembers, readSet, readSets};
 ghost use Rattle.model.specs.Writing.{numsBytes, setBytes, setsBytes};
 ghost use Rattle.numbers.specs.Answers.{placeAt, seenAt, unseen};
-ghost use Rattle.scopes.specs.Sets.{scopesOf};
-ghost use Rattle.sets.specs.Writing.{threeSets};
+ghost use Rattle.scopes.specs.Sets.{scopesOf, setScopes};
+ghost use Rattle.sets.specs.Writing.{threeSets, longestSet, longestSets};
 ghost use Rattle.sets.specs.Seeing.{setSeen, setsSeen, readLaterSets, StartsEmpty};
 
 // A set beside the place past it, or beside the fault.
@@ -61,7 +62,7 @@ impl SetsRead {
 
 // `count` members, strictly ascending and at most `scopes`.
 fn read_members(c: Cursor, s: &[u8], scopes: u32, count: u32) -> SetRead
-    requires { ⌜ (c .at + length (now s) ≤ 65536) × (scopes ≤ 256) ⌝ }
+    requires { ⌜ (c .at + length (now s) ≤ mostImage) × (scopes ≤ setScopes) ⌝ }
     ensures { λ r. ⌜ setSeen r ≡ seenAt 0 (c .at + length (now (s .entry))) (readMembers count scopes 0 0 (now (s .entry))) ⌝ }
 {
     let mut here = c;
@@ -93,7 +94,7 @@ fn read_members(c: Cursor, s: &[u8], scopes: u32, count: u32) -> SetRead
 
 // The set at a cursor, where `s` is the image from there on, and `scopes` scopes are declared.
 pub fn read_set(c: Cursor, s: &[u8], scopes: u32) -> SetRead
-    requires { ⌜ (c .at + length (now s) ≤ 65536) × (scopes ≤ 256) ⌝ }
+    requires { ⌜ (c .at + length (now s) ≤ mostImage) × (scopes ≤ setScopes) ⌝ }
     ensures { λ r. ⌜ setSeen r ≡ seenAt 0 (c .at + length (now (s .entry))) (readSet scopes (now (s .entry))) ⌝ }
 {
     match c.number(s) {
@@ -104,7 +105,7 @@ pub fn read_set(c: Cursor, s: &[u8], scopes: u32) -> SetRead
 
 // The sets of phases 1 and 2, behind that of phase 0.
 fn read_later_sets(c: Cursor, s: &[u8], scopes: u32, at0: ScopeSet) -> SetsRead
-    requires { ⌜ (c .at + length (now s) ≤ 65536) × (scopes ≤ 256) ⌝ }
+    requires { ⌜ (c .at + length (now s) ≤ mostImage) × (scopes ≤ setScopes) ⌝ }
     ensures { λ r. ⌜ setsSeen r ≡ seenAt noSets (c .at + length (now (s .entry))) (readLaterSets scopes (scopesOf at0) (now (s .entry))) ⌝ }
 {
     let second = read_set(c, s, scopes);
@@ -129,7 +130,7 @@ fn read_later_sets(c: Cursor, s: &[u8], scopes: u32, at0: ScopeSet) -> SetsRead
 
 // The sets of phases 0, 1 and 2, one after another.
 fn read_each_set(c: Cursor, s: &[u8], scopes: u32) -> SetsRead
-    requires { ⌜ (c .at + length (now s) ≤ 65536) × (scopes ≤ 256) ⌝ }
+    requires { ⌜ (c .at + length (now s) ≤ mostImage) × (scopes ≤ setScopes) ⌝ }
     ensures { λ r. ⌜ setsSeen r ≡ seenAt noSets (c .at + length (now (s .entry))) (readSets scopes (now (s .entry))) ⌝ }
 {
     let first = read_set(c, s, scopes);
@@ -161,7 +162,7 @@ fn starts_empty(s: &[u8]) -> bool
 
 // The sets of phases 0, 1 and 2. Those of a program before it is expanded are mostly empty, which is seen at once.
 pub fn read_sets(c: Cursor, s: &[u8], scopes: u32) -> SetsRead
-    requires { ⌜ (c .at + length (now s) ≤ 65536) × (scopes ≤ 256) ⌝ }
+    requires { ⌜ (c .at + length (now s) ≤ mostImage) × (scopes ≤ setScopes) ⌝ }
     ensures { λ r. ⌜ setsSeen r ≡ seenAt noSets (c .at + length (now (s .entry))) (readSets scopes (now (s .entry))) ⌝ }
 {
     if starts_empty(s) {
@@ -178,7 +179,7 @@ pub fn read_sets(c: Cursor, s: &[u8], scopes: u32) -> SetsRead
 
 // The place past three sets, for one who judges them and keeps nothing.
 pub fn skip_sets(c: Cursor, s: &[u8], scopes: u32) -> Place
-    requires { ⌜ (c .at + length (now s) ≤ 65536) × (scopes ≤ 256) ⌝ }
+    requires { ⌜ (c .at + length (now s) ≤ mostImage) × (scopes ≤ setScopes) ⌝ }
     ensures { λ r. ⌜ r ≡ placeAt (c .at + length (now (s .entry))) (readSets scopes (now (s .entry))) ⌝ }
 {
     if starts_empty(s) {
@@ -190,7 +191,7 @@ pub fn skip_sets(c: Cursor, s: &[u8], scopes: u32) -> Place
 
 // How many bytes a set takes: those of the count, and one for each member, or two from scope 128 on.
 pub fn set_len(set: ScopeSet) -> usize
-    ensures { λ r. ⌜ (r ≡ length (setBytes (scopesOf set))) × (r ≤ 387) ⌝ }
+    ensures { λ r. ⌜ (r ≡ length (setBytes (scopesOf set))) × (r ≤ longestSet) ⌝ }
 {
     let count = set.count();
     let long = set.count_long();
@@ -230,7 +231,7 @@ pub fn put_set(out: &mut [u8], at: usize, set: ScopeSet) -> usize
 // How many bytes three sets take.
 pub fn sets_len(at0: ScopeSet, at1: ScopeSet, at2: ScopeSet) -> usize
     ensures { λ r. ⌜ r ≡ length (setsBytes (threeSets at0 at1 at2)) ⌝ }
-    ensures { λ r. ⌜ r ≤ 1161 ⌝ }
+    ensures { λ r. ⌜ r ≤ longestSets ⌝ }
 {
     set_len(at0) + set_len(at1) + set_len(at2)
 }

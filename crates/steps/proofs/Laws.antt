@@ -24,7 +24,7 @@ use Rattle.table.specs.Sizes.{unitSize}
 
 -- ---- the code's charge
 
-on-test : {A : Type 0} (c : Bool) (x y : A) (P : A → Type 0) → (c ≡ true → P x) → (c ≡ false → P y) → P (if c then x else y)
+pub on-test : {A : Type 0} (c : Bool) (x y : A) (P : A → Type 0) → (c ≡ true → P x) → (c ≡ false → P y) → P (if c then x else y)
 on-test true x y P f g = f refl
 on-test false x y P f g = g refl
 

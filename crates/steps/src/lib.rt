@@ -1,5 +1,6 @@
 // Document 01, 'Expanding', its first paragraph: the state that expand, parse and evaluate hand on, what is charged, and when an entry
 // starts.
+use numbers::Cursor;
 use refusals::Refusal;
 ghost use mathlib.Core.Path.{_≡_};
 ghost use Rattle.steps.specs.States.{raisedTo, chargeOf, enterOf};
@@ -43,8 +44,8 @@ impl State {
     // Entries in progress.
     pub const MOST_ENTRIES: u32 = 128;
 
-    // Nesting of what is made.
-    pub const MOST_NESTING: u32 = 64;
+    // Nesting of what is made: that of what is read.
+    pub const MOST_NESTING: u32 = Cursor::MOST_NESTING;
 
     // The same with another first free word.
     pub fn raised(self, top: u32) -> State

@@ -8,7 +8,7 @@ use native.Mathlib.Nat.{mod-eq-of-lt, eq-or-lt-of-le}
 use native.Mathlib.Omega.{arith}
 use lib.ListN.{length, getD, set, length-set}
 use lib.Seq.{sets, length-sets, getD-set-same, getD-set-other}
-use Rattle.model.specs.Limits.{mostBindings}
+use Rattle.model.specs.Limits as m
 use Rattle.model.specs.Choice.{if_then_else_}
 use Rattle.model.specs.Scopes.{Scopes}
 use Rattle.model.specs.Resolving.{Bind, bindBefore, insert}
@@ -17,12 +17,12 @@ use Rattle.scopes.proofs.Stores.{stores-before, stores-after, stores-at}
 use Rattle.scopes.proofs.Words.{words-same}
 use Rattle.store.specs.declared.bindings.Binding.{Binding}
 use Rattle.store.specs.Words.{bindAt, bindsFrom, bindsOf, bindOf, Put, Placed, Shifted}
-use Rattle.store.specs.Sizes.{bindingSize, storeSize}
+use Rattle.store.specs.Sizes.{bindingSize, mostBindings}
 
 -- the store has room for as many bindings as the model allows
-pub store-is : storeSize ≡ mostBindings * bindingSize
-unfolding mostBindings
-store-is = refl
+pub bindings-are : mostBindings ≡ m.mostBindings
+unfolding m.mostBindings
+bindings-are = refl
 
 -- ---- one binding
 
@@ -55,6 +55,15 @@ same-bind l m i j h =
     ∙ ap (λ (n : ℕ). getD m n 0) (let e : j * bindingSize + (2 + k) ≡ j * bindingSize + 2 + k = omega arith in e)))
 
 -- ---- runs
+
+pub from-length : (l : List ℕ) (i n : ℕ) → length (bindsFrom l i n) ≡ n
+unfolding bindsFrom
+from-length l i zero = refl
+from-length l i (suc n) = ap suc (from-length l (suc i) n)
+
+pub binds-length : (l : List ℕ) (n : ℕ) → length (bindsOf l n) ≡ n
+unfolding bindsOf
+binds-length l n = from-length l 0 n
 
 -- two runs of the same bindings
 same-run : (l m : List ℕ) (i j n : ℕ) → ((k : ℕ) → k < n → bindAt l (i + k) ≡ bindAt m (j + k)) → bindsFrom l i n ≡ bindsFrom m j n

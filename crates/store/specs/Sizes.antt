@@ -6,6 +6,9 @@ use Rattle.scopes.specs.Sets.{setWords}
 abbrev pub bindingSize : ℕ
 bindingSize = 2 + setWords
 
--- 512 bindings: the model's mostBindings
+-- of a job: the model's mostBindings
+abbrev pub mostBindings : ℕ
+mostBindings = 512
+
 abbrev pub storeSize : ℕ
-storeSize = 512 * bindingSize
+storeSize = mostBindings * bindingSize

@@ -3,4 +3,3 @@ pub mod Working
 pub mod Rows
 pub mod Reaching
 pub mod Whole
-pub mod Paying

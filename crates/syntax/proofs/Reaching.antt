@@ -16,17 +16,14 @@ use Rattle.table.specs.declared.Cell.{Cell}
 use Rattle.table.proofs.Laws.{same-refl, same-trans}
 use Rattle.things.specs.Rep.{Rep, RepP, is-none, setsOf}
 use Rattle.things.proofs.Frame.{below, carryP}
-use Rattle.things.proofs.ByTag.{atom-at, list-at, stx-tag, ConsAt, cons-at, cons-some}
+use Rattle.things.proofs.ByTag.{atom-at, list-at, stx-tag, ConsAt, cons-at, cons-some, same-object, nil-at}
 use Rattle.syntax.specs.Reaching.{Reached, ReachedP, Copying, CopiedBy, Puttable, Put}
 use Rattle.syntax.specs.Rows.{Laid, laid-none, laid-one, CopiedEach, Row, Chained}
 use Rattle.syntax.proofs.Sizes.{nesting-pos, size-atom, size-list, nesting-list, sizes-cons, nestings-cons}
 use Rattle.syntax.proofs.Rows.{laid-grows, laid-room, laid-flat, laid-stays}
-use Rattle.table.specs.Sizes.{cellSize, nodeSize}
+use Rattle.table.specs.Sizes.{cellSize, nodeSize, mostBudget}
 
 -- ---- what stands at an object's index
-
-same-object : {x y : Stx} → stx x ≡ stx y → x ≡ y
-same-object e = cc
 
 record ListAt (l : List ℕ) (top : ℕ) (o : Node) (c : m.Sets) (x : Stx) : Type 0 where
   parts : Stxs
@@ -97,7 +94,7 @@ module _ {lv : ℕ} {l : List ℕ} {top i : ℕ} (r : Reached lv l top i) where
         pub parts-row : Row l1 top end
         parts-row =
             let p = list-is (r .object .shown) e d h in
-            let few : sizes (p .parts) ≤ 4096 = omega (arith, r .object .charged, p .size) in
+            let few : sizes (p .parts) ≤ mostBudget = omega (arith, r .object .charged, p .size) in
             record {
               by = w;
               thing = p .parts;
@@ -137,17 +134,12 @@ module _ {l : List ℕ} {i : ℕ} {o : Node} {c : Sets} (e : o ≡ getNode l i) 
         last = omega (arith, s .place, s .grows);
         means = λ x u few.
             let p = list-is u e d h in
-            let less : sizes (p .parts) ≤ 4096 = omega (arith, p .size) in
+            let less : sizes (p .parts) ≤ mostBudget = omega (arith, p .size) in
             let n = k .means w (p .parts) (m .means (p .parts) (p .shown) less) less in
             record { shown = rw (p .is) (s .is-list (p .parts) refl (n .shown)); room = omega (arith, s .grows, n .room, p .size) };
       }
 
 -- ---- a chain
-
-none-is : {l : List ℕ} {top c : ℕ} (ps : Stxs) → RepP l top c (fromStxs ps) → c ≡ 0 → ps ≡ nil
-unfolding fromStxs
-none-is nil r h = refl
-none-is (cons x ps) r h = absurd (cons-some r h)
 
 no-part : {l : List ℕ} {top c : ℕ} → RepP l top c tnil → c ≡ 0
 no-part is-none = refl
@@ -173,7 +165,7 @@ pub record Passing (w : Copying) (l l′ : List ℕ) (top c end part : ℕ) : Ty
   pub long : length l′ ≡ length l
   pub kept : Same top l l′
   pub grows : top ≤ end
-  pub means : (ps : Stxs) → RepP l top c (fromStxs ps) → sizes ps ≤ 4096 → Passed w l′ top ps end part
+  pub means : (ps : Stxs) → RepP l top c (fromStxs ps) → sizes ps ≤ mostBudget → Passed w l′ top ps end part
 
 pub none-passed : {w : Copying} {l : List ℕ} {top c : ℕ} → Passing w l l top c top c
 none-passed {w} {l} {top} = record { long = refl; kept = same-refl top l; grows = omega arith; means = λ ps r few. record { rest = ps; shown = r; laid = laid-none } }
@@ -183,7 +175,7 @@ all-passed d h =
     record {
       kept = d .kept;
       grows = d .grows;
-      means = λ ps r few. let k = d .means ps r few in rw (none-is (k .rest) (k .shown) h) at (k .laid);
+      means = λ ps r few. let k = d .means ps r few in rw (nil-at (k .rest) (k .shown) h) at (k .laid);
     }
 
 module _ {lv : ℕ} {w : Copying} {l l1 : List ℕ} {top c end part : ℕ} (r : ReachedP lv l top c) (d : Passing w l l1 top c end part) (h : ¬ (part ≡ 0)) where
@@ -231,7 +223,7 @@ module _ {lv : ℕ} {w : Copying} {l l1 : List ℕ} {top c end part : ℕ} (r : 
               let k = d .means ps u few in
               let p = part-is (k .rest) (k .shown) h e in
               let z : sizes (k .rest) ≡ size (p .first) + sizes (p .others) = ap sizes (p .is) ∙ sizes-cons (p .first) (p .others) in
-              let less : size (p .first) ≤ 4096 = omega (arith, laid-room (k .laid), laid-grows (k .laid)) in
+              let less : size (p .first) ≤ mostBudget = omega (arith, laid-room (k .laid), laid-grows (k .laid)) in
               let a = m .means (p .first) (p .cell .shown) less in
               record {
                 rest = p .others;

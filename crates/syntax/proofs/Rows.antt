@@ -19,7 +19,7 @@ use Rattle.things.proofs.Frame.{up, stays}
 use Rattle.syntax.specs.Reaching.{Copying, changing, stripping, copyOf, copiesOf}
 use Rattle.syntax.specs.Rows.{Laid, laid-none, laid-one, Sized, Row, Chained}
 use Rattle.syntax.proofs.Sizes.{sizes-nil, sizes-cons, nestings-cons, size-onSets, size-strip, weight-strip}
-use Rattle.table.specs.Sizes.{cellSize, nodeSize, partSize}
+use Rattle.table.specs.Sizes.{cellSize, nodeSize, partSize, mostBudget}
 
 -- ---- what is copied, by the first part
 
@@ -93,9 +93,9 @@ last-of {w} {l} {from} (laid-one {b = b} {at = at} {end = end} {x = x} d p q r) 
     record { begin = b; thing = x; before = d; span = q; high = omega (arith, laid-grows d, size-some x); shown = rw e r }
 
 -- what was copied there has the size that is found
-last-size : {w : Copying} {l : List ℕ} {from end n : ℕ} {ps rest : Stxs} → Sized l (end - nodeSize) n → (z : LastOf w l from ps end rest) → sizes ps ≤ 4096 → n ≡ size (z .thing)
+last-size : {w : Copying} {l : List ℕ} {from end n : ℕ} {ps rest : Stxs} → Sized l (end - nodeSize) n → (z : LastOf w l from ps end rest) → sizes ps ≤ mostBudget → n ≡ size (z .thing)
 last-size {w} {end = end} {rest = rest} s z few =
-    let h : size (z .thing) ≤ 4096 = omega (arith, laid-room (z .before), laid-grows (z .before), sizes-cons (z .thing) rest) in
+    let h : size (z .thing) ≤ mostBudget = omega (arith, laid-room (z .before), laid-grows (z .before), sizes-cons (z .thing) rest) in
     s .means w end (z .thing) (z .shown) h
 
 all-linked : {w : Copying} {l : List ℕ} {from end : ℕ} {ps rest : Stxs} → Laid w l from ps end rest → end ≡ from → rest ≡ ps
@@ -114,7 +114,7 @@ pub record Tying (l l′ : List ℕ) (from end at top last : ℕ) : Type 0 where
   pub long : length l′ ≡ length l
   pub kept : Same end l l′
   pub grows : end ≤ top
-  pub means : (w : Copying) (ps : Stxs) → Laid w l from ps end nil → sizes ps ≤ 4096 → Tied w l′ from ps at top last
+  pub means : (w : Copying) (ps : Stxs) → Laid w l from ps end nil → sizes ps ≤ mostBudget → Tied w l′ from ps at top last
 
 pub none-tied : {l : List ℕ} {from end : ℕ} → Tying l l from end 0 end end
 none-tied {l} {from} {end} =

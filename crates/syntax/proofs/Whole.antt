@@ -3,6 +3,7 @@ use mathlib.Core.Path.{_≡_, refl, sym, ap, _∙_}
 use mathlib.Core.List.{List}
 use Prim.Native.Nat.{ℕ, _≤_, min}
 use native.Mathlib.Omega.{arith}
+use Rattle.table.specs.Sizes.{mostSize, mostBudget}
 use Rattle.model.specs.Objects.{Stx, size, addScope, flipScope, pruneScopes}
 use Rattle.model.specs.Trees.{Trees, stx, strip}
 use Rattle.laws.proofs.Sizes.{size-some}
@@ -31,13 +32,13 @@ module _ {l : List ℕ} {top i : ℕ} (r : Copyable l top i) where
 
 -- ---- whatever the index stands for has the size that was charged
 
-chain-weight : {l : List ℕ} {top top′ c : ℕ} {ts ts′ : Trees} → RepP l top c ts → RepP l top′ c ts′ → min 4097 (weights ts) ≡ min 4097 (weights ts′)
+chain-weight : {l : List ℕ} {top top′ c : ℕ} {ts ts′ : Trees} → RepP l top c ts → RepP l top′ c ts′ → min mostSize (weights ts) ≡ min mostSize (weights ts′)
 chain-weight is-none is-none = refl
 chain-weight is-none (is-part a b q u v) = absurd (omega arith)
 chain-weight (is-part a b q u v) is-none = absurd (omega arith)
 chain-weight (is-part a b q u v) (is-part a′ b′ q′ u′ v′) = ap (λ (x : Cell). x .weight) (sym q ∙ q′)
 
-same-size : {l : List ℕ} {top top′ i : ℕ} {x y : Stx} → Rep l top i (stx x) → Rep l top′ i (stx y) → min 4097 (size x) ≡ min 4097 (size y)
+same-size : {l : List ℕ} {top top′ i : ℕ} {x y : Stx} → Rep l top i (stx x) → Rep l top′ i (stx y) → min mostSize (size x) ≡ min mostSize (size y)
 unfolding size
 same-size (is-atom a q s) (is-atom a′ q′ s′) = refl
 same-size (is-atom {a = v} a q s) (is-list a′ q′ s′ r′) = absurd (omega (arith, ap (λ (n : Node). n .tag) (sym q ∙ q′), tag-low v))
@@ -55,7 +56,7 @@ module _ {l l1 : List ℕ} {top i at top1 : ℕ} (r : Copyable l top i) where
         kept = m .kept;
         grows = m .grows;
         means = λ x u.
-            let few : size x ≤ 4096 = omega (arith, same-size (r .shown) u, r .charged) in
+            let few : size x ≤ mostBudget = omega (arith, same-size (r .shown) u, r .charged) in
             let k = m .means x u few in
             record { shown = k .shown; room = omega (arith, k .room) };
       }

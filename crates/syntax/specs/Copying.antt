@@ -6,13 +6,13 @@ use Rattle.model.specs.Objects.{Stx, size}
 use Rattle.model.specs.Trees.{Tree, stx}
 use Rattle.table.specs.Words.{Same}
 use Rattle.things.specs.Rep.{Rep}
-use Rattle.table.specs.Sizes.{cellSize, partSize, tableSize}
+use Rattle.table.specs.Sizes.{cellSize, partSize, tableSize, mostBudget}
 
 -- An object that was charged for, and room for its copy: a node, and the cell that its whole wants, for each unit of its size.
 pub record Copyable (l : List ℕ) (top i : ℕ) : Type 0 where
   pub thing : Stx
   pub shown : Rep l top i (stx thing)
-  pub charged : size thing ≤ 4096
+  pub charged : size thing ≤ mostBudget
   pub room : top + partSize * size thing ≤ length l + cellSize
   pub small : length l ≤ tableSize
   pub low : 1 ≤ top

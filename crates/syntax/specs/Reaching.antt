@@ -13,7 +13,7 @@ use Rattle.table.specs.declared.Sets.{Sets}
 use Rattle.things.specs.Rep.{Rep, RepP, setsOf}
 use Rattle.things.specs.Making.{Roomy}
 use Rattle.syntax.specs.Copying.{Copyable}
-use Rattle.table.specs.Sizes.{cellSize, nodeSize, partSize, tableSize}
+use Rattle.table.specs.Sizes.{cellSize, nodeSize, partSize, tableSize, mostBudget}
 
 -- ---- what is asked
 
@@ -25,7 +25,7 @@ pub record Reached (levels : ℕ) (l : List ℕ) (top i : ℕ) : Type 0 where
 pub record ReachedP (levels : ℕ) (l : List ℕ) (top c : ℕ) : Type 0 where
   pub thing : Stxs
   pub shown : RepP l top c (fromStxs thing)
-  pub charged : sizes thing ≤ 4096
+  pub charged : sizes thing ≤ mostBudget
   pub room : top + partSize * sizes thing ≤ length l
   pub small : length l ≤ tableSize
   pub low : 1 ≤ top
@@ -53,7 +53,7 @@ pub record CopiedBy (w : Copying) (l l′ : List ℕ) (top i at top′ : ℕ) : 
   pub kept : Same top l l′
   pub grows : top ≤ top′
   pub last : at + nodeSize ≡ top′
-  pub means : (x : Stx) → Rep l top i (stx x) → size x ≤ 4096 → CopyBy w l′ top at top′ x
+  pub means : (x : Stx) → Rep l top i (stx x) → size x ≤ mostBudget → CopyBy w l′ top at top′ x
 
 -- ---- the node of a copy, where the parts are copied already
 

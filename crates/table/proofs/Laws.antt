@@ -7,28 +7,29 @@ use native.Mathlib.Omega.{arith}
 use lib.Dec.{lit<}
 use lib.ListN.{length, getD}
 use lib.Seq.{sets, length-sets}
-use Rattle.model.specs.Limits.{wordsPerUnit, mostBudget}
+use Rattle.model.specs.Limits as m
 use Rattle.scopes.proofs.Stores.{stores-before, stores-at, stores-first}
 use Rattle.scopes.specs.Sets.{scopesOf, wordsFrom}
 use Rattle.scopes.specs.declared.ScopeSet.{ScopeSet}
-use Rattle.table.specs.Sizes.{setSize, placeOf1, placeOf2, nodeSize, cellSize, unitSize, tableSize}
+use Rattle.table.specs.Sizes.{setSize, placeOf1, placeOf2, nodeSize, cellSize, entrySize, unitSize, mostBudget, tableSize}
 use Rattle.table.specs.Tags.{functionTag}
-use Rattle.table.specs.Words.{join, getWord, putWord, halves, getSet, putSet, setsOf, getNode, putNode, nodeWords, getSets, putSets, putObject, getBody, putFunction, functionWords, getCell, putCell, cellWords, Same}
+use Rattle.table.specs.Words.{join, getWord, putWord, halves, getSet, putSet, setsOf, getNode, putNode, nodeWords, getSets, putSets, putObject, getBody, putFunction, functionWords, getCell, putCell, cellWords, getEntry, putEntry, entryWords, Same}
 use Rattle.table.specs.declared.Node.{Node}
 use Rattle.table.specs.declared.Sets.{Sets}
 use Rattle.table.specs.declared.Object.{Object}
 use Rattle.table.specs.declared.Body.{Body}
 use Rattle.table.specs.declared.Cell.{Cell}
+use Rattle.table.specs.declared.Entry.{Entry}
 
 -- ---- the sizes are the model's
 
-pub unit-is : unitSize ≡ wordsPerUnit
-unfolding wordsPerUnit
+pub unit-is : unitSize ≡ m.wordsPerUnit
+unfolding m.wordsPerUnit
 unit-is = refl
 
-pub table-is : tableSize ≡ wordsPerUnit * mostBudget
-unfolding wordsPerUnit mostBudget
-table-is = refl
+pub budget-is : mostBudget ≡ m.mostBudget
+unfolding m.mostBudget
+budget-is = refl
 
 -- ---- agreement
 
@@ -176,10 +177,6 @@ unfolding getSets
 getSets-same n l l′ i s h =
     rw (getSet-same n l l′ (i + 2) s (omega arith), getSet-same n l l′ (i + placeOf1) s (omega arith), getSet-same n l l′ (i + placeOf2) s (omega arith))
 
-pub length-putObject : (l : List ℕ) (i : ℕ) (o : Object) → length (putObject l i o) ≡ length l
-unfolding putObject
-length-putObject l i o = length-putSets (putNode l i (o .node)) i (o .sets) ∙ length-putNode l i (o .node)
-
 pub putObject-below : (l : List ℕ) (i : ℕ) (o : Object) → Same i l (putObject l i o)
 unfolding putObject
 putObject-below l i o =
@@ -197,10 +194,6 @@ unfolding putObject
 sets-putObject l i o h = get-putSets (putNode l i (o .node)) i (o .sets) (omega (arith, length-putNode l i (o .node)))
 
 -- ---- functions
-
-pub length-putFunction : (l : List ℕ) (i n : ℕ) (b : Body) → length (putFunction l i n b) ≡ length l
-unfolding putFunction
-length-putFunction l i n b = length-sets l i (functionWords n b)
 
 pub putFunction-below : (l : List ℕ) (i n : ℕ) (b : Body) → Same i l (putFunction l i n b)
 unfolding putFunction
@@ -227,10 +220,6 @@ getBody-same n l l′ i s h = rw (s (i + 2) (omega arith), s (i + 3) (omega arit
 
 -- ---- cells
 
-pub length-putCell : (l : List ℕ) (i : ℕ) (c : Cell) → length (putCell l i c) ≡ length l
-unfolding putCell
-length-putCell l i c = length-sets l i (cellWords c)
-
 pub putCell-below : (l : List ℕ) (i : ℕ) (c : Cell) → Same i l (putCell l i c)
 unfolding putCell
 putCell-below l i c = run-below (cellWords c) l i
@@ -245,3 +234,21 @@ get-putCell l i c h =
 pub getCell-same : (n : ℕ) (l l′ : List ℕ) (i : ℕ) → Same n l l′ → i + cellSize ≤ n → getCell l′ i ≡ getCell l i
 unfolding getCell Same
 getCell-same n l l′ i s h = rw (s i (omega arith), s (i + 1) (omega arith), s (i + 2) (omega arith), s (i + 3) (omega arith), s (i + 4) (omega arith))
+
+-- ---- entries of the meanings
+
+pub putEntry-below : (l : List ℕ) (i : ℕ) (e : Entry) → Same i l (putEntry l i e)
+unfolding putEntry
+putEntry-below l i e = run-below (entryWords e) l i
+
+pub get-putEntry : (l : List ℕ) (i : ℕ) (e : Entry) → i + entrySize ≤ length l → getEntry (putEntry l i e) i ≡ e
+unfolding putEntry entryWords getEntry
+get-putEntry l i e h =
+    let fits : i + 4 ≤ length l = omega arith in
+    let first : getD (sets l i (entryWords e)) i 0 ≡ e .at = stores-first (e .at) (e .next ∷ e .name .0 ∷ e .kind ∷ []) l i fits in
+    let at : (k : ℕ) → k < 4 → getD (sets l i (entryWords e)) (i + k) 0 ≡ getD (entryWords e) k 0 = λ k lt. stores-at (entryWords e) l i k fits lt in
+    λ j. record { at = first j; next = at 1 (lit< tt) j; name = record { 0 = at 2 (lit< tt) j }; kind = at 3 (lit< tt) j }
+
+pub getEntry-same : (n : ℕ) (l l′ : List ℕ) (i : ℕ) → Same n l l′ → i + entrySize ≤ n → getEntry l′ i ≡ getEntry l i
+unfolding getEntry Same
+getEntry-same n l l′ i s h = rw (s i (omega arith), s (i + 1) (omega arith), s (i + 2) (omega arith), s (i + 3) (omega arith))

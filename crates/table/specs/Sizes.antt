@@ -22,6 +22,10 @@ nodeSize = 2 + 3 * setSize
 abbrev pub cellSize : ℕ
 cellSize = 5
 
+-- an entry of the meanings, with the room of a cell: what the name means, next entry, name, kind of meaning
+abbrev pub entrySize : ℕ
+entrySize = cellSize
+
 -- a part of a list: its node, and the cell that holds it
 abbrev pub partSize : ℕ
 partSize = nodeSize + cellSize
@@ -47,9 +51,17 @@ tripleSize = nodeSize + 3 * cellSize
 abbrev pub unitSize : ℕ
 unitSize = 40
 
+-- units: the model's mostBudget
+abbrev pub mostBudget : ℕ
+mostBudget = 4096
+
 -- the longest table that is lent to the work: that of the largest budget
 abbrev pub tableSize : ℕ
-tableSize = unitSize * 4096
+tableSize = unitSize * mostBudget
+
+-- sizes are kept up to this: a charge of so much is over any budget
+abbrev pub mostSize : ℕ
+mostSize = mostBudget + 1
 
 -- what a unit leaves over where it paid for a node, and for a cell
 abbrev pub nodeSpare : ℕ

@@ -1,4 +1,4 @@
--- How nodes, sets, bodies and cells lie in the words of the table.
+-- How nodes, sets, bodies, cells and entries lie in the words of the table.
 use mathlib.Core.Path.{_≡_}
 use mathlib.Core.List.{List, [], _∷_}
 use Prim.Native.Nat.{ℕ, _+_, _*_, _/_, _%_, _<_}
@@ -14,6 +14,7 @@ use Rattle.table.specs.declared.Sets.{Sets}
 use Rattle.table.specs.declared.Object.{Object}
 use Rattle.table.specs.declared.Body.{Body}
 use Rattle.table.specs.declared.Cell.{Cell}
+use Rattle.table.specs.declared.Entry.{Entry}
 
 -- ---- a word of 64 bits: its low half, then its high half
 
@@ -95,6 +96,18 @@ cellWords c = c .head ∷ c .tail ∷ c .weight ∷ c .size ∷ c .nesting ∷ [
 unfoldable pub putCell : List ℕ → ℕ → Cell → List ℕ
 unfolding cellWords
 putCell l i c = sets l i (cellWords c)
+
+-- ---- an entry of the meanings
+
+unfoldable pub getEntry : List ℕ → ℕ → Entry
+getEntry l i = record { at = getD l i 0; next = getD l (i + 1) 0; name = record { 0 = getD l (i + 2) 0 }; kind = getD l (i + 3) 0 }
+
+unfoldable pub entryWords : Entry → List ℕ
+entryWords e = e .at ∷ e .next ∷ e .name .0 ∷ e .kind ∷ []
+
+unfoldable pub putEntry : List ℕ → ℕ → Entry → List ℕ
+unfolding entryWords
+putEntry l i e = sets l i (entryWords e)
 
 -- ---- the two tables agree below n
 

@@ -6,11 +6,14 @@ ghost use mathlib.Core.Path.{_≡_};
 ghost use Prim.Native.Nat.{ℕ, _+_, _*_, _≤_};
 ghost use lib.ListN.{length};
 ghost use Rattle.model.specs.Jobs.{cleared};
-ghost use Rattle.table.specs.Words.{join, getWord, putWord, getSet, putSet, getNode, putNode, getSets, putSets, putObject, getBody, putFunction, getCell, putCell};
-ghost use Rattle.table.specs.Sizes.{setSize, cellSize, nodeSize, unitSize};
+ghost use Rattle.table.specs.Words.{join, getWord, putWord, getSet, putSet, getNode, putNode, getSets, putSets, putObject, getBody, putFunction, getCell, putCell, getEntry, putEntry};
+ghost use Rattle.table.specs.Sizes.{setSize, cellSize, entrySize, nodeSize, unitSize};
 
 // What a unit of budget pays for.
 pub const WORDS_PER_UNIT: usize = 40;
+
+// Units of a budget.
+pub const MOST_BUDGET: u32 = 4096;
 
 // What lies at an index, without what follows it: an atom's or name's number, or the chain of parts.
 pub struct Node {
@@ -60,6 +63,8 @@ pub struct Sets {
 }
 
 impl Sets {
+    pub const LAST_PHASE: u32 = 2;
+
     // Of the table, for one set: each word of 64 bits is two.
     const WORDS: usize = 2 * ScopeSet::WORDS;
 
@@ -97,6 +102,19 @@ pub struct Cell {
 
 impl Cell {
     pub const WORDS: u32 = 5;
+}
+
+// An entry of the meanings: where what its name means lies, the entry after it (0 for none), the name, and which kind of meaning it has.
+pub struct Entry {
+    pub at: u32,
+    pub next: u32,
+    pub name: Name,
+    pub kind: u32,
+}
+
+impl Entry {
+    // The room of a cell: the last word is not used.
+    pub const WORDS: u32 = Cell::WORDS;
 }
 
 fn wide(x: u32) -> u64
@@ -251,6 +269,31 @@ pub fn put_cell(table: &mut [u32], at: u32, cell: Cell)
     table[i + 2] = cell.weight;
     table[i + 3] = cell.size;
     table[i + 4] = cell.nesting;
+}
+
+pub fn get_entry(table: &[u32], at: u32) -> Entry
+    requires { ⌜ at + entrySize ≤ length (now table) ⌝ }
+    ensures { λ r. ⌜ r ≡ getEntry (now (table .entry)) at ⌝ }
+{
+    let i = at as usize;
+    let name = Name(table[i + 2]);
+    Entry {
+        at: table[i],
+        next: table[i + 1],
+        name,
+        kind: table[i + 3],
+    }
+}
+
+pub fn put_entry(table: &mut [u32], at: u32, entry: Entry)
+    requires { ⌜ at + entrySize ≤ length (now table) ⌝ }
+    ensures { λ _. ⌜ now (table .exit) ≡ putEntry (now (table .entry)) at entry ⌝ }
+{
+    let i = at as usize;
+    table[i] = entry.at;
+    table[i + 1] = entry.next;
+    table[i + 2] = entry.name.0;
+    table[i + 3] = entry.kind;
 }
 
 // What a job leaves of the table that it was lent: zero in the words that its budget was good for.

@@ -6,12 +6,8 @@ use native.Mathlib.Omega.{arith}
 use native.Mathlib.Numerals.{add-one}
 use lib.ListN.{length, drop, getD, set, length-set, length-append, length-drop, drop-of-length-le}
 use lib.Seq.{sets, length-sets, drop-cons}
+use Rattle.numbers.proofs.Writing.{sets-append}
 use Rattle.text.specs.Placing.{Placed}
-
--- one run of stores behind another is one run
-sets-append : (xs ys l : List ℕ) (i : ℕ) → sets (sets l i xs) (i + length xs) ys ≡ sets l i (xs ++ ys)
-sets-append [] ys l i = let e : i + 0 ≡ i = omega arith in rw e
-sets-append (x ∷ xs) ys l i = let e : i + suc (length xs) ≡ suc i + length xs = omega arith in rw e (sets-append xs ys (set l i x) (suc i))
 
 pub placed-then : {out out₁ out₂ xs ys : List ℕ} {at p q : ℕ} → Placed out at xs out₁ p → Placed out₁ p ys out₂ q → Placed out at (xs ++ ys) out₂ q
 placed-then {out} {out₁} {out₂} {xs} {ys} {at} {p} {q} a b =

@@ -4,7 +4,7 @@ use mathlib.Core.List.{List}
 use Prim.Native.Nat.{ℕ, _+_, _-_, _≤_, _<_, min}
 use native.Mathlib.Omega.{arith}
 use Rattle.model.specs.Objects as m
-use Rattle.model.specs.Objects.{Atom, tagOf, contentOf, Stxs, atom, list}
+use Rattle.model.specs.Objects.{Atom, tagOf, contentOf, Stx, Stxs, nil, cons, atom, list}
 use Rattle.model.specs.Trees.{Tree, Trees, var, app, fun, datum, lst, stx, tnil, tcons, fromStxs, tsize, tnesting, tnestings}
 use Rattle.table.specs.Tags.{listTag, variableTag, applicationTag, functionTag, listValueTag, atomValueTag}
 use Rattle.table.specs.Words.{getNode, getSets, getBody, getCell}
@@ -14,7 +14,7 @@ use Rattle.table.specs.declared.Cell.{Cell}
 use Rattle.things.specs.Rep.{Rep, RepP, is-var, is-app, is-fun, is-lst, is-datum, is-atom, is-list, is-none, is-part, setsOf}
 use Rattle.things.specs.Weights.{tsizes, weights}
 use Rattle.things.proofs.Frame.{below, belowP, up, upP, deep}
-use Rattle.table.specs.Sizes.{cellSize, nodeSize}
+use Rattle.table.specs.Sizes.{cellSize, nodeSize, mostSize}
 
 pub tag-low : (a : Atom) → tagOf a < listTag
 unfolding tagOf
@@ -63,7 +63,7 @@ pub record FunAt (l : List ℕ) (top i : ℕ) (o : Node) (y : Body) (t : Tree) :
   pub body : Tree
   pub is : t ≡ fun (o .content) body
   pub shown : Rep l top (y .at) body
-  pub size : y .size ≡ min 4097 (tsize body)
+  pub size : y .size ≡ min mostSize (tsize body)
   pub nesting : y .nesting ≡ tnesting body
   pub low : y .at + nodeSize ≤ i
   pub flat : tnesting body ≤ i
@@ -172,8 +172,8 @@ pub record ConsAt (l : List ℕ) (top c : ℕ) (x : Cell) (t : Tree) (ts : Trees
   pub low : (x .head + 1 < c) × (x .tail < c)
   pub shown : Rep l top (x .head) t
   pub shown-others : RepP l top (x .tail) ts
-  pub weight : x .weight ≡ min 4097 (weights (tcons t ts))
-  pub size : x .size ≡ min 4097 (tsizes (tcons t ts))
+  pub weight : x .weight ≡ min mostSize (weights (tcons t ts))
+  pub size : x .size ≡ min mostSize (tsizes (tcons t ts))
   pub nesting : x .nesting ≡ tnestings (tcons t ts)
 
 pub cons-at : {l : List ℕ} {top c : ℕ} {t : Tree} {ts : Trees} {x : Cell} → RepP l top c (tcons t ts) → x ≡ getCell l c → ConsAt l top c x t ts
@@ -207,3 +207,13 @@ none-at (is-part a b e x y) h = absurd (omega arith)
 
 pub cons-some : {l : List ℕ} {top c : ℕ} {t : Tree} {ts : Trees} → RepP l top c (tcons t ts) → ¬ (c ≡ 0)
 cons-some (is-part a b e x y) h = omega arith
+
+-- ---- syntax objects
+
+pub same-object : {x y : Stx} → stx x ≡ stx y → x ≡ y
+same-object e = cc
+
+pub nil-at : {l : List ℕ} {top c : ℕ} (ps : Stxs) → RepP l top c (fromStxs ps) → c ≡ 0 → ps ≡ nil
+unfolding fromStxs
+nil-at nil r h = refl
+nil-at (cons x ps) r h = absurd (cons-some r h)

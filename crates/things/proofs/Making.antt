@@ -22,7 +22,7 @@ use Rattle.things.specs.Making.{Roomy, Stored, StoredObject, Closable, C
 use Rattle.things.specs.declared.Extent.{Extent}
 use Rattle.things.proofs.Weighing.{size-cons, weight-cons, nest-cons}
 use Rattle.things.proofs.Frame.{stays, staysP}
-use Rattle.table.specs.Sizes.{cellSize, nodeSize}
+use Rattle.table.specs.Sizes.{cellSize, nodeSize, mostSize}
 
 -- ---- nodes and objects
 
@@ -96,7 +96,7 @@ module _ {l : List ℕ} {top b : ℕ} (r : Closable l top b) where
         means = λ t u.
             let q = p .means top t u in
             let fits : top + nodeSize ≤ top + nodeSize = omega arith in
-            let g : getBody l1 top ≡ record { at = b; size = min 4097 (tsize t); nesting = tnesting t } =
+            let g : getBody l1 top ≡ record { at = b; size = min mostSize (tsize t); nesting = tnesting t } =
             rw e (body-putFunction l top n y (r .room .fits)) ∙ (λ j. record { at = b; size = (q .size) j; nesting = (q .nesting) j }) in
             let nd : getNode l1 top ≡ record { tag = functionTag; content = n } = rw e (node-putFunction l top n y (r .room .fits)) in
             is-fun fits nd g (stays u sm);
@@ -117,20 +117,20 @@ module _ {l : List ℕ} {top i c : ℕ} (r : Linkable l top i c) where
   pub link-add : top + cellSize < 2 ^ 32
   link-add = omega (arith, r .room .fits, r .room .small)
 
-  pub link-size : {a : Extent} → Measured l i a → a .size ≤ 4097
+  pub link-size : {a : Extent} → Measured l i a → a .size ≤ mostSize
   link-size p = omega (arith, p .means top (r .thing) (r .shown) .size)
 
-  pub link-sizeP : {b : Extent} → MeasuredP l c b → b .size ≤ 4097
+  pub link-sizeP : {b : Extent} → MeasuredP l c b → b .size ≤ mostSize
   link-sizeP q = omega (arith, q .means top (r .others) (r .shown-others) .size)
 
-  pub link-weight : {a : Extent} → Measured l i a → a .weight ≤ 4097
+  pub link-weight : {a : Extent} → Measured l i a → a .weight ≤ mostSize
   link-weight p = omega (arith, p .means top (r .thing) (r .shown) .weight)
 
-  pub link-weightP : {b : Extent} → MeasuredP l c b → b .weight ≤ 4097
+  pub link-weightP : {b : Extent} → MeasuredP l c b → b .weight ≤ mostSize
   link-weightP q = omega (arith, q .means top (r .others) (r .shown-others) .weight)
 
   module _ {a b : Extent} (p : Measured l i a) (q : MeasuredP l c b) where
-    pub linked : {w n k : ℕ} {l1 : List ℕ} → w ≡ min 4097 (a .weight + b .weight) → n ≡ min 4097 (a .size + b .size) → k ≡ max (a .nesting) (b .nesting)
+    pub linked : {w n k : ℕ} {l1 : List ℕ} → w ≡ min mostSize (a .weight + b .weight) → n ≡ min mostSize (a .size + b .size) → k ≡ max (a .nesting) (b .nesting)
         → l1 ≡ putCell l top (record { head = i; tail = c; weight = w; size = n; nesting = k }) → Linked l l1 top i c top (top + cellSize)
     linked {w} {n} {k} {l1} zw zn zk e =
         let x : Cell = record { head = i; tail = c; weight = w; size = n; nesting = k } in
@@ -141,12 +141,12 @@ module _ {l : List ℕ} {top i c : ℕ} (r : Linkable l top i c) where
           means = λ t ts u v.
               let d = p .means top t u in
               let f = q .means top ts v in
-              let ew : w ≡ min 4097 (weights (tcons t ts)) = omega (arith, weight-cons t ts, zw, d .weight, f .weight) in
-              let en : n ≡ min 4097 (tsizes (tcons t ts)) = omega (arith, size-cons t ts, zn, d .size, f .size) in
+              let ew : w ≡ min mostSize (weights (tcons t ts)) = omega (arith, weight-cons t ts, zw, d .weight, f .weight) in
+              let en : n ≡ min mostSize (tsizes (tcons t ts)) = omega (arith, size-cons t ts, zn, d .size, f .size) in
               let ek : k ≡ tnestings (tcons t ts) = omega (arith, nest-cons t ts, zk, d .nesting, f .nesting) in
               let pos : 0 < top = omega (arith, r .room .low) in
               let fits : top + cellSize ≤ top + cellSize = omega arith in
-              let g : getCell l1 top ≡ record { head = i; tail = c; weight = min 4097 (weights (tcons t ts)); size = min 4097 (tsizes (tcons t ts)); nesting = tnestings (tcons t ts) } =
+              let g : getCell l1 top ≡ record { head = i; tail = c; weight = min mostSize (weights (tcons t ts)); size = min mostSize (tsizes (tcons t ts)); nesting = tnestings (tcons t ts) } =
               rw e (get-putCell l top x (r .room .fits)) ∙ (λ j. record { head = i; tail = c; weight = ew j; size = en j; nesting = ek j }) in
               is-part pos fits g (stays u sm) (staysP v sm);
         }

@@ -7,7 +7,7 @@ use Rattle.model.specs.Trees.{Tree, Trees, tsize, tnesting, tnestings}
 use Rattle.things.specs.Weights.{tsizes, weight, weights}
 use Rattle.things.specs.Rep.{Rep, RepP}
 use Rattle.things.specs.declared.Extent.{Extent}
-use Rattle.table.specs.Sizes.{tableSize}
+use Rattle.table.specs.Sizes.{tableSize, mostSize}
 
 -- a tree, or a chain, that is all in the table
 pub record Seen (l : List ℕ) (i : ℕ) : Type 0 where
@@ -25,13 +25,13 @@ pub record SeenP (l : List ℕ) (c : ℕ) : Type 0 where
   pub small : length l ≤ tableSize
 
 pub record Extends (m : Extent) (t : Tree) : Type 0 where
-  pub size : m .size ≡ min 4097 (tsize t)
-  pub weight : m .weight ≡ min 4097 (weight t)
+  pub size : m .size ≡ min mostSize (tsize t)
+  pub weight : m .weight ≡ min mostSize (weight t)
   pub nesting : m .nesting ≡ tnesting t
 
 pub record ExtendsP (m : Extent) (ts : Trees) : Type 0 where
-  pub size : m .size ≡ min 4097 (tsizes ts)
-  pub weight : m .weight ≡ min 4097 (weights ts)
+  pub size : m .size ≡ min mostSize (tsizes ts)
+  pub weight : m .weight ≡ min mostSize (weights ts)
   pub nesting : m .nesting ≡ tnestings ts
 
 pub record Measured (l : List ℕ) (i : ℕ) (m : Extent) : Type 0 where
@@ -42,7 +42,7 @@ pub record MeasuredP (l : List ℕ) (c : ℕ) (m : Extent) : Type 0 where
 
 -- of an application or list value, by its chain
 pub record ExtendsL (m : Extent) (ts : Trees) : Type 0 where
-  pub size : m .size ≡ min 4097 (1 + tsizes ts)
+  pub size : m .size ≡ min mostSize (1 + tsizes ts)
   pub weight : m .weight ≡ 0
   pub nesting : m .nesting ≡ 1 + tnestings ts
 

@@ -10,7 +10,7 @@ use Rattle.table.specs.Tags.{listTag, variableTag, applicationTag, functionTag,
 use Rattle.table.specs.Words.{getNode, getSets, getBody, getCell}
 use Rattle.table.specs.declared.Sets.{Sets}
 use Rattle.things.specs.Weights.{tsizes, weights}
-use Rattle.table.specs.Sizes.{cellSize, nodeSize}
+use Rattle.table.specs.Sizes.{cellSize, nodeSize, mostSize}
 
 -- the sets that an object's words are
 abbrev pub setsOf : Sets → m.Sets
@@ -23,7 +23,7 @@ mutual
     is-var : {top i n : ℕ} → i + nodeSize ≤ top → getNode l i ≡ record { tag = variableTag; content = n } → Rep l top i (var n)
     is-app : {top i c : ℕ} {h : Tree} {ts : Trees} → i + nodeSize ≤ top → getNode l i ≡ record { tag = applicationTag; content = c } → RepP l i c (tcons h ts) → Rep l top i (app h ts)
     is-fun : {top i n b : ℕ} {t : Tree} → i + nodeSize ≤ top → getNode l i ≡ record { tag = functionTag; content = n }
-        → getBody l i ≡ record { at = b; size = min 4097 (tsize t); nesting = tnesting t }
+        → getBody l i ≡ record { at = b; size = min mostSize (tsize t); nesting = tnesting t }
         → Rep l i b t → Rep l top i (fun n t)
     is-datum : {top i : ℕ} {a : Atom} → i + nodeSize ≤ top → getNode l i ≡ record { tag = atomValueTag + tagOf a; content = contentOf a } → Rep l top i (datum a)
     is-lst : {top i c : ℕ} {ts : Trees} → i + nodeSize ≤ top → getNode l i ≡ record { tag = listValueTag; content = c } → RepP l i c ts → Rep l top i (lst ts)
@@ -35,5 +35,5 @@ mutual
   pub data RepP (l : List ℕ) : ℕ → ℕ → Trees → Type 0 where
     is-none : {top : ℕ} → RepP l top 0 tnil
     is-part : {top c h r : ℕ} {t : Tree} {ts : Trees} → 0 < c → c + cellSize ≤ top
-        → getCell l c ≡ record { head = h; tail = r; weight = min 4097 (weights (tcons t ts)); size = min 4097 (tsizes (tcons t ts)); nesting = tnestings (tcons t ts) }
+        → getCell l c ≡ record { head = h; tail = r; weight = min mostSize (weights (tcons t ts)); size = min mostSize (tsizes (tcons t ts)); nesting = tnestings (tcons t ts) }
         → Rep l c h t → RepP l c r ts → RepP l top c (tcons t ts)

@@ -11,7 +11,7 @@ ghost use lib.ListN.{length};
 ghost use Rattle.things.specs.Turning.{Turnable, Turned};
 ghost use Rattle.things.specs.Making.{Roomy, Stored, StoredObject, Linkable, Linked, Closable, Closed};
 ghost use Rattle.things.specs.Measuring.{Seen, SeenP, Measured, MeasuredP, MeasuredL};
-ghost use Rattle.table.specs.Sizes.{nodeSize};
+ghost use Rattle.table.specs.Sizes.{nodeSize, mostSize};
 
 // A tree's size, its weight as a syntax object (0 where it is none), and its nesting. Size and weight are MOST for all that is larger: a
 // charge of so much is over any budget.
@@ -22,7 +22,7 @@ pub struct Extent {
 }
 
 impl Extent {
-    pub const MOST: u32 = 4097;
+    pub const MOST: u32 = table::MOST_BUDGET + 1;
 }
 
 // What was made: where it lies, and the first free word after it.
@@ -32,8 +32,8 @@ pub struct Made {
 }
 
 fn sum(a: u32, b: u32) -> u32
-    requires { ⌜ (a ≤ 4097) × (b ≤ 4097) ⌝ }
-    ensures { λ r. ⌜ r ≡ min 4097 (a + b) ⌝ }
+    requires { ⌜ (a ≤ mostSize) × (b ≤ mostSize) ⌝ }
+    ensures { λ r. ⌜ r ≡ min mostSize (a + b) ⌝ }
 {
     let n = a + b;
     if n < Extent::MOST { n } else { Extent::MOST }

@@ -2,7 +2,7 @@
 use Prim.Native.Nat.{ℕ, zero, suc, _+_, _≤_, _<_}
 use mathlib.Core.Path.{_≡_, refl, sym, ap, ap₂, _∙_}
 use mathlib.Core.List.{List, [], _∷_}
-use mathlib.Core.Bool.{Bool, true, false, _&&_, _||_}
+use mathlib.Core.Bool.{Bool, true, false, _&&_, _||_, or-false}
 use native.Mathlib.Omega.{arith}
 use native.Mathlib.Numerals.{add-one}
 use lib.ListN.{length, getD, drop, drop-of-length-le}
@@ -163,10 +163,6 @@ module _ (w : List ℕ) where
       pub core-syntax : {q r : Bool} → q ≡ sameBytes w (113 ∷ 117 ∷ 111 ∷ 116 ∷ 101 ∷ []) → q ≡ false
           → r ≡ sameBytes w (115 ∷ 121 ∷ 110 ∷ 116 ∷ 97 ∷ 120 ∷ []) → r ≡ among w coreWords
       unfolding among coreWords
-      core-syntax {r = r} h e k = simp (sym hl ∙ el, sym hs ∙ es, sym h ∙ e, or-none) k
-        where
-          or-none : (x : Bool) → (x || false) ≡ x
-          or-none true = refl
-          or-none false = refl
+      core-syntax {r = r} h e k = simp (sym hl ∙ el, sym hs ∙ es, sym h ∙ e, or-false) k
 
 pub ruleset core-laws = (core-lambda, core-let, core-quote, core-syntax)

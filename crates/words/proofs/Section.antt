@@ -4,18 +4,19 @@ use mathlib.Core.Path.{_≡_, refl, sym, ap, _∙_, subst}
 use mathlib.Core.List.{List, [], _∷_, _++_}
 use mathlib.Core.Bool.{Bool, true, false, not, _&&_, _||_}
 use native.Mathlib.Omega.{arith}
-use native.Mathlib.Nat.{le-refl, not-suc-le-zero}
+use native.Mathlib.Nat.{not-suc-le-zero}
 use native.Mathlib.Numerals.{add-one}
 use lib.ListN.{length, take, drop, length-drop}
-use lib.Seq.{drop-drop, take-all}
+use lib.Seq.{drop-drop}
 use lib.Dec.{eqb, leb}
 use mir.Syntax.{w64}
 use mir.Val.{Fits}
 use borrow.Author.Tests.{le-leb, lt-leb, leb-true, eq-eqb, ne-eqb}
-use Rattle.model.specs.Limits.{mostWordLength}
+use Rattle.model.specs.Limits.{mostNames, coreNames, mostWordLength}
 use Rattle.model.specs.Refusals as m
 use Rattle.model.specs.Refusals.{layout, overLimit}
 use Rattle.model.specs.Reading.{Read, Reader, got, fault, next, need, byte, bytes, num, goodWord, sameBytes, among, coreWords, readWords}
+use Rattle.laws.proofs.Members.{swap-or}
 use Rattle.refusals.specs.declared.Refusal.{Refusal}
 use Rattle.refusals.specs.declared.Refusal.the-variants.{Layout, OverLimit}
 use Rattle.refusals.specs.Refusing.{refusalOf}
@@ -26,9 +27,16 @@ use Rattle.numbers.specs.declared.Number.the-variants as number
 use Rattle.numbers.specs.declared.Place.{Place}
 use Rattle.numbers.specs.declared.Place.the-variants as place
 use Rattle.numbers.specs.Answers.{answerAt, numberAt, placed, placeAt, kept}
+use Rattle.numbers.specs.Limits.{mostImage}
 use Rattle.numbers.proofs.Tails.{Tail, tail-give, tail-next, tail-need, num-tail}
+use Rattle.numbers.proofs.Reading.{part-from}
 use Rattle.numbers.proofs.Answering.{number-shape, Took, took, refused, stops, gives, refuses}
-use Rattle.words.specs.Section.{wordLength, mayStand, Passed, no-word, one-word, seenAfter, Old, Stands, Midway, WordsRead}
+use Rattle.words.specs.Section.{mostWords, wordLength, mayStand, Passed, no-word, one-word, seenAfter, Old, Stands, Midway, WordsRead}
+
+-- there are as many words as the model allows
+pub words-are : mostWords ≡ mostNames - coreNames
+unfolding mostNames coreNames
+words-are = refl
 
 -- ---- a word's length
 
@@ -96,14 +104,11 @@ first-passed {n = n} {u = u} some e (one-word {k = k} {n = n′} {ws = vs} {u = 
 part : (from to : ℕ) (s : List ℕ) (n : ℕ) → to ≡ from + n → take (to - from) (drop from s) ≡ take n (drop from s)
 part from to s n e = let d : to - from ≡ n = omega arith in ap (λ (k : ℕ). take k (drop from s)) d
 
-to-end : (at : ℕ) (s : List ℕ) → take (length s - at) (drop at s) ≡ drop at s
-to-end at s = take-all (length s - at) (drop at s) (rw length-drop (le-refl (length s - at)))
-
 -- a word's length, read at a place
 module _ (s : List ℕ) (at : ℕ) (inside : at ≤ length s) {r : Number}
     (h : r ≡ numberAt (at + length (take (length s - at) (drop at s))) (wordLength (take (length s - at) (drop at s)))) where
   answered : r ≡ numberAt (at + length (drop at s)) (wordLength (drop at s))
-  answered = subst (λ (l : List ℕ). r ≡ numberAt (at + length l) (wordLength l)) (to-end at s) h
+  answered = subst (λ (l : List ℕ). r ≡ numberAt (at + length l) (wordLength l)) (part-from at s) h
 
   not-there : {f : Refusal} → r ≡ number.Fault f → wordLength (drop at s) ≡ fault (refusalOf f)
   not-there e = refused number-shape (at + length (drop at s)) (wordLength (drop at s)) answered e
@@ -120,7 +125,7 @@ module _ (s : List ℕ) (at : ℕ) (inside : at ≤ length s) {r : Number}
     within : past .at ≤ length s
     within = omega (arith, T .within, length-drop at s)
 
-    pub end-fits : length s ≤ 65536 → Fits w64 (past .at + n)
+    pub end-fits : length s ≤ mostImage → Fits w64 (past .at + n)
     end-fits small = omega (arith, within, length-most (drop at s) there)
 
 -- ---- whether a word is one of those passed
@@ -185,17 +190,11 @@ pub ruleset old = (seeking-start, old-none, old-fault, old-short, old-here, old-
 -- ---- whether a word may stand
 
 module _ (w : List ℕ) where
-  or-move : (x y z : Bool) → (x || (y || z)) ≡ ((y || x) || z)
-  or-move true true z = refl
-  or-move true false z = refl
-  or-move false true z = refl
-  or-move false false z = refl
-
   -- the words seen are those passed and those from before
   among-seen : (ws seen : List (List ℕ)) → among w (seenAfter ws seen) ≡ (among w ws || among w seen)
   unfolding seenAfter among
   among-seen [] seen = refl
-  among-seen (v ∷ ws) seen = among-seen ws (v ∷ seen) ∙ or-move (among w ws) (sameBytes w v) (among w seen)
+  among-seen (v ∷ ws) seen = among-seen ws (v ∷ seen) ∙ swap-or (among w ws) (sameBytes w v) (among w seen)
 
   module _ (s : List ℕ) (k : ℕ) {g : Bool} (hg : g ≡ goodWord w) where
     pub stand-bad : g ≡ false → Stands s k w false
@@ -338,7 +337,7 @@ module _ {s : List ℕ} {start at done left here passed ahead : ℕ} (g : Readin
 
         judged : (ws : List (List ℕ)) → Passed passed ws (drop start s) (drop here s) → b ≡ mayStand (take n (drop (past .at) s)) (seenAfter ws coreWords)
         judged ws p =
-            hb .means ws (drop here s) (subst (λ (l : List ℕ). Passed passed ws l (drop here s)) (sym (to-end start s)) p)
+            hb .means ws (drop here s) (subst (λ (l : List ℕ). Passed passed ws l (drop here s)) (sym (part-from start s)) p)
             ∙ ap (λ (w : List ℕ). mayStand w (seenAfter ws coreWords)) (part (past .at) to s n ends)
 
         pub section-bad : b ≡ false → WordsRead s start at done left (place.Fault Layout)

@@ -10,6 +10,11 @@ use Rattle.model.specs.Refusals.{layout, overLimit}
 use Rattle.model.specs.Reading.{Reader, _>>=_, _>>_, give, need, got, num, goodWord, among, coreWords, readWords}
 use Rattle.numbers.specs.declared.Place.{Place}
 use Rattle.numbers.specs.Answers.{placeAt}
+use Rattle.numbers.specs.Limits.{mostImage}
+
+-- in an image: the model's mostNames, without the core names
+abbrev pub mostWords : ℕ
+mostWords = 1020
 
 -- a word's length, which is judged before its bytes
 unfoldable pub wordLength : Reader ℕ
@@ -46,10 +51,10 @@ pub record Stands (s : List ℕ) (k : ℕ) (w : List ℕ) (r : Bool) : Type 0 wh
 
 -- a place of the image s behind `done` words of the section that begins at `start`, with `left` to come
 pub record Midway (s : List ℕ) (start at done left : ℕ) : Type 0 where
-  pub small : length s ≤ 65536
+  pub small : length s ≤ mostImage
   pub begins : start ≤ length s
   pub within : at ≤ length s
-  pub most : done + left ≤ 1020
+  pub most : done + left ≤ mostWords
 
 pub record WordsRead (s : List ℕ) (start at done left : ℕ) (r : Place) : Type 0 where
   pub means : (ws : List (List ℕ)) → Passed done ws (drop start s) (drop at s) → r ≡ placeAt (length s) (readWords left (seenAfter ws coreWords) (drop at s))

@@ -6,6 +6,7 @@ use refusals::Refusal;
 ghost use mathlib.Core.Path.{_≡_};
 ghost use Prim.Native.Nat.{ℕ, _+_, _≤_};
 ghost use lib.ListN.{length};
+ghost use Rattle.numbers.specs.Limits.{mostImage};
 ghost use Rattle.model.specs.Reading.{wordByte, firstByte, allWordBytes, goodWord, sameBytes, among, coreWords};
 ghost use Rattle.numbers.specs.Answers.{numberAt};
 ghost use Rattle.words.specs.Section.{wordLength, Old, Stands, Midway, WordsRead};
@@ -116,7 +117,7 @@ pub fn is_core(w: &[u8]) -> bool
 
 // A word's length at a cursor, where `s` is the image from there on.
 fn word_length(c: Cursor, s: &[u8]) -> Number
-    requires { ⌜ c .at + length (now s) ≤ 65536 ⌝ }
+    requires { ⌜ c .at + length (now s) ≤ mostImage ⌝ }
     ensures { λ r. ⌜ r ≡ numberAt (c .at + length (now (s .entry))) (wordLength (now (s .entry))) ⌝ }
 {
     match c.number(s) {
@@ -135,7 +136,7 @@ fn word_length(c: Cursor, s: &[u8]) -> Number
 
 // Whether w is one of the first k words of the section: they are looked up where they lie, so nothing has to be stored.
 fn is_old(section: &[u8], k: u32, w: &[u8]) -> bool
-    requires { ⌜ length (now section) ≤ 65536 ⌝ }
+    requires { ⌜ length (now section) ≤ mostImage ⌝ }
     ensures { λ r. ⌜ Old (now (section .entry)) k (now (w .entry)) r ⌝ }
 {
     let mut at = 0;
@@ -162,7 +163,7 @@ fn is_old(section: &[u8], k: u32, w: &[u8]) -> bool
 
 // Whether w may stand behind the first `done` words of the section.
 fn may_stand(section: &[u8], done: u32, w: &[u8]) -> bool
-    requires { ⌜ length (now section) ≤ 65536 ⌝ }
+    requires { ⌜ length (now section) ≤ mostImage ⌝ }
     ensures { λ r. ⌜ Stands (now (section .entry)) done (now (w .entry)) r ⌝ }
 {
     if good_word(w) {

@@ -5,6 +5,8 @@ use mathlib.Core.List.{List, []}
 use Prim.Native.Nat.{ℕ, suc, _+_, _*_, _≤_, _<_, _^_, min}
 use native.Mathlib.Omega.{arith}
 use lib.ListN.{length}
+use Rattle.numbers.specs.Limits.{mostImage}
+use Rattle.sets.specs.Writing.{longestSets}
 use Rattle.model.specs.Objects.{list}
 use Rattle.model.specs.Trees.{Tree, Trees, app, lst, stx, tnil, tcons, tcount, fromStxs}
 use Rattle.model.specs.Writing.{numBytes, groupsOf, setsBytes, stxBytes, treeBytes}
@@ -20,7 +22,7 @@ use Rattle.things.specs.Measuring.{Seen, SeenP}
 use Rattle.things.proofs.ByTag.{tag-low, tag-is, content-is, app-at, fun-at, lst-at, list-at, PartAt, part-at, none-at}
 use Rattle.things.proofs.Measuring.{node-inside, stx-seen, app-seen, lst-seen}
 use Rattle.writer.specs.Bytes.{leading, prefix, number, numberStx, front, parts, partsStx, written, writtenAll}
-use Rattle.writer.specs.Counting.{PartsAre, NumberIs, LengthIs, Countable, CountableP, Counts, CountsP, CountsObject}
+use Rattle.writer.specs.Counting.{PartsAre, NumberIs, LengthIs, Countable, CountableP, Counts, CountsP, CountsObject, longestPrefix, longestFront}
 use Rattle.writer.proofs.Bytes.{written-stx, written-tree, count-from, prefix-atom, prefix-list, prefix-datum, leading-yes, leading-no, front-long, written-long, all-none, all-long, parts-list, parts-app, parts-lst, parts-fun}
 use Rattle.table.specs.Sizes.{cellSize}
 
@@ -137,10 +139,10 @@ module _ {l : List ℕ} {i : ℕ} {o : Node} (e : o ≡ getNode l i) where
   object-prefix lead h (is-atom {s = s} {a = x} a q y) = rw y (prefix-atom lead s x)
   object-prefix lead h (is-list {s = s} {ps = ps} a q y r) = rw y (prefix-list lead s ps)
 
-  pub led-prefix : {lead : Bool} {n : ℕ} → o .tag ≤ listTag → lead ≡ true → n ≡ length (setsBytes (setsOf (getSets l i))) → n ≤ 1161 → LengthIs (prefix lead) 1163 l i (n + 2)
+  pub led-prefix : {lead : Bool} {n : ℕ} → o .tag ≤ listTag → lead ≡ true → n ≡ length (setsBytes (setsOf (getSets l i))) → n ≤ longestSets → LengthIs (prefix lead) longestPrefix l i (n + 2)
   led-prefix {lead} h b q s = record { means = λ top t r. omega (arith, object-prefix lead h r, leading-yes b); short = omega arith }
 
-  pub bare-prefix : {lead : Bool} {n : ℕ} → o .tag ≤ listTag → lead ≡ false → n ≡ length (setsBytes (setsOf (getSets l i))) → n ≤ 1161 → LengthIs (prefix lead) 1163 l i (n + 1)
+  pub bare-prefix : {lead : Bool} {n : ℕ} → o .tag ≤ listTag → lead ≡ false → n ≡ length (setsBytes (setsOf (getSets l i))) → n ≤ longestSets → LengthIs (prefix lead) longestPrefix l i (n + 1)
   bare-prefix {lead} h b q s = record { means = λ top t r. omega (arith, object-prefix lead h r, leading-no b); short = omega arith }
 
   tree-prefix : (lead : Bool) {top : ℕ} {t : Tree} → listTag < o .tag → o .tag < atomValueTag → Rep l top i t → 1 ≡ length (prefix lead t)
@@ -153,7 +155,7 @@ module _ {l : List ℕ} {i : ℕ} {o : Node} (e : o ≡ getNode l i) where
   tree-prefix lead h k (is-atom {a = x} a q y) = absurd (omega (arith, tag-is e q, tag-low x))
   tree-prefix lead h k (is-list a q y r) = absurd (omega (arith, tag-is e q))
 
-  pub one-prefix : (lead : Bool) → listTag < o .tag → o .tag < atomValueTag → LengthIs (prefix lead) 1163 l i 1
+  pub one-prefix : (lead : Bool) → listTag < o .tag → o .tag < atomValueTag → LengthIs (prefix lead) longestPrefix l i 1
   one-prefix lead h k = record { means = λ top t r. tree-prefix lead h k r; short = omega arith }
 
   datum-prefix : (lead : Bool) {top : ℕ} {t : Tree} → atomValueTag ≤ o .tag → Rep l top i t → 2 ≡ length (prefix lead t)
@@ -165,23 +167,23 @@ module _ {l : List ℕ} {i : ℕ} {o : Node} (e : o ≡ getNode l i) where
   datum-prefix lead h (is-atom {a = x} a q y) = absurd (omega (arith, tag-is e q, tag-low x))
   datum-prefix lead h (is-list a q y r) = absurd (omega (arith, tag-is e q))
 
-  pub two-prefix : (lead : Bool) → atomValueTag ≤ o .tag → LengthIs (prefix lead) 1163 l i 2
+  pub two-prefix : (lead : Bool) → atomValueTag ≤ o .tag → LengthIs (prefix lead) longestPrefix l i 2
   two-prefix lead h = record { means = λ top t r. datum-prefix lead h r; short = omega arith }
 
 -- ---- prefix and number
 
-module _ {l : List ℕ} {i : ℕ} (lead : Bool) {a b : ℕ} (k : ℕ) (p : LengthIs (prefix lead) 1163 l i a) (f : b ≡ length (numBytes k)) where
+module _ {l : List ℕ} {i : ℕ} (lead : Bool) {a b : ℕ} (k : ℕ) (p : LengthIs (prefix lead) longestPrefix l i a) (f : b ≡ length (numBytes k)) where
   pub front-fits : a + b < 2 ^ 64
   front-fits = omega (arith, p .short, num-short k)
 
-  pub front-counted : NumberIs l i k → LengthIs (front lead) 1168 l i (a + b)
+  pub front-counted : NumberIs l i k → LengthIs (front lead) longestFront l i (a + b)
   front-counted q =
       record {
         means = λ top t r. omega (arith, p .means top t r, front-long lead t, f, ap (λ (n : ℕ). length (numBytes n)) (q .means top t r));
         short = omega (arith, p .short, num-short k);
       }
 
-pub front-short : {l : List ℕ} {i : ℕ} (lead : Bool) {a : ℕ} → LengthIs (front lead) 1168 l i a → a ≤ 65536
+pub front-short : {l : List ℕ} {i : ℕ} (lead : Bool) {a : ℕ} → LengthIs (front lead) longestFront l i a → a ≤ mostImage
 front-short lead p = omega (arith, p .short)
 
 -- ---- a thing
@@ -212,7 +214,7 @@ module _ {l : List ℕ} {i n m cap : ℕ} (k : ℕ) {o : Node} (e : o ≡ getNod
       let p = fun-at (s .seen .shown) e h f in
       record { seen = record { top = s .seen .top; thing = p .body; shown = p .shown; inside = s .seen .inside; small = s .seen .small }; so-far = omega arith; most = s .most }
 
-  module _ (lead : Bool) (f : LengthIs (front lead) 1168 l i k) where
+  module _ (lead : Bool) (f : LengthIs (front lead) longestFront l i k) where
     -- the parts are counted behind the front
     behind : {top r : ℕ} {t : Tree} (ps : List ℕ) → Rep l top i t → parts t ≡ ps → r ≡ min (cap + 1) (m + length ps) → r ≡ min (cap + 1) (n + length (written lead t))
     behind {top} {r} {t} ps x y w = omega (arith, z, f .means top t x, written-long lead t, ap length y)

@@ -4,10 +4,11 @@ use table::Node;
 ghost use mathlib.Core.Path.{_≡_};
 ghost use mathlib.Core.Bool.{false};
 ghost use Prim.Native.Nat.{_+_, _≤_, min};
+ghost use Rattle.numbers.specs.Limits.{mostImage};
 ghost use Rattle.model.specs.Writing.{stxBytes, treeBytes};
 ghost use Rattle.things.specs.Measuring.{Seen, SeenP};
 ghost use Rattle.writer.specs.Bytes.{prefix, front, written, writtenAll};
-ghost use Rattle.writer.specs.Counting.{PartsAre, NumberIs, LengthIs, Countable, CountableP, Counts, CountsP, CountsObject};
+ghost use Rattle.writer.specs.Counting.{PartsAre, NumberIs, LengthIs, Countable, CountableP, Counts, CountsP, CountsObject, longestPrefix, longestFront};
 ghost use Rattle.writer.specs.Putting.{Fitting, FittingP, FittingPrefix, FittingObject, Puts, PutsP, PutsObject};
 
 // Tags of trees in an image. A variable, application and function have 0, 1 and 2.
@@ -56,7 +57,7 @@ fn number_of(table: &[u32], i: u32) -> u32
 // Of the bytes before that number: tags, and an object's sets. Where `lead` is set, a syntax value's tag comes before its object.
 fn prefix_len(table: &[u32], i: u32, lead: bool) -> usize
     requires { ⌜ Seen (now table) i ⌝ }
-    ensures { λ r. ⌜ LengthIs (prefix lead) 1163 (now (table .entry)) i r ⌝ }
+    ensures { λ r. ⌜ LengthIs (prefix lead) longestPrefix (now (table .entry)) i r ⌝ }
 {
     let node = table::get_node(table, i);
     let tag = node.tag;
@@ -76,7 +77,7 @@ fn prefix_len(table: &[u32], i: u32, lead: bool) -> usize
 
 fn front_len(table: &[u32], i: u32, lead: bool) -> usize
     requires { ⌜ Seen (now table) i ⌝ }
-    ensures { λ r. ⌜ LengthIs (front lead) 1168 (now (table .entry)) i r ⌝ }
+    ensures { λ r. ⌜ LengthIs (front lead) longestFront (now (table .entry)) i r ⌝ }
 {
     prefix_len(table, i, lead) + numbers::number_len(number_of(table, i))
 }
@@ -84,7 +85,7 @@ fn front_len(table: &[u32], i: u32, lead: bool) -> usize
 // ---- written length: n bytes come before; more than the cap is cap + 1
 
 fn more(n: usize, k: usize, cap: usize) -> usize
-    requires { ⌜ (n ≤ cap + 1) × (k ≤ 65536) × (cap ≤ 65536) ⌝ }
+    requires { ⌜ (n ≤ cap + 1) × (k ≤ mostImage) × (cap ≤ mostImage) ⌝ }
     ensures { λ r. ⌜ r ≡ min (cap + 1) (n + k) ⌝ }
 {
     let m = n + k;

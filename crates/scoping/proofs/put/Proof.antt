@@ -3,6 +3,9 @@ use borrow.Author.Needs.{needs}
 use Rattle.scoping.proofs.put.Statement.{statement}
 use Rattle.scoping.proofs.put.Tie as tie
 
+cast-if1 : tie.Need-cast-if1
+cast-if1 c = search (laws, needs)
+
 returns : tie.Need-returns
 returns c = search (laws, needs)
 
@@ -25,6 +28,7 @@ pub put-spec : {M : Type 1} → statement M
 put-spec =
     tie.close
     (tie.spec
+    cast-if1
     returns
     cast-count
     insert-requires

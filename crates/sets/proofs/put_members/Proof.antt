@@ -1,4 +1,4 @@
-use Rattle.scopes.specs.Sets.{scopesOf}
+use Rattle.scopes.specs.Sets.{scopesOf, setScopes}
 use Prim.Native.Nat.{_-_}
 use Rattle.sets.proofs.Writing.{Putting, set-writing}
 use borrow.Author.Needs.{needs}
@@ -9,7 +9,7 @@ abbrev Inv-loop : tie.InvT-loop
 Inv-loop out₀ at set count here₀ left₀ k₀ out here left k = Putting out₀ at (scopesOf set) out here left k
 
 abbrev μ-loop : tie.MeasureT-loop
-μ-loop out₀ at set count here₀ left₀ k₀ out here left k = 256 - k
+μ-loop out₀ at set count here₀ left₀ k₀ out here left k = setScopes - k
 
 loop-holds : tie.Need-loop-holds Inv-loop μ-loop
 loop-holds c = search (set-writing, needs)

@@ -1,4 +1,4 @@
--- Two numbers of at most five bytes, and a set of at most 387.
+-- Two numbers and a set.
 use Rattle.bindings.proofs.Lengths.{storing-laws}
 use borrow.Author.Needs.{needs}
 use Rattle.bindings.proofs.storing.binding_len.Statement.{statement}
