@@ -5,11 +5,11 @@ use Prim.Native.Nat.{ℕ, _+_, _≤_, _<_}
 use native.Mathlib.Omega.{arith}
 use Rattle.model.specs.Expanding as m
 use Rattle.model.specs.Expanding.{Env}
-use Rattle.table.specs.Words.{getCell, Same}
-use Rattle.table.proofs.Laws.{same-under, getCell-same}
+use Rattle.table.specs.Words.{Same}
+use Rattle.table.proofs.Laws.{same-under, getEntry-same}
 use Rattle.things.proofs.Frame.{stays, carry, up}
 use Rattle.environment.specs.Meanings.{Meant, meant-variable, meant-macro, RepE, is-core, is-entry}
-use Rattle.table.specs.Sizes.{cellSize}
+use Rattle.table.specs.Sizes.{entrySize}
 
 pub carryM : {l l′ : List ℕ} {n k kind i : ℕ} {x : m.Meaning} → Meant l n kind i x → Same n l l′ → n ≤ k → Meant l′ k kind i x
 carryM (meant-variable r) e h = meant-variable (carry r e h)
@@ -25,12 +25,12 @@ staysM (meant-macro r) e = meant-macro (stays r e)
 
 pub upE : {l : List ℕ} {n k e : ℕ} {env : Env} → RepE l n e env → n ≤ k → RepE l k e env
 upE is-core h = is-core
-upE {k = k} {e = e} (is-entry a b q w r) h = let z : e + cellSize ≤ k = omega arith in is-entry a z q w r
+upE {k = k} {e = e} (is-entry a b q w r) h = let z : e + entrySize ≤ k = omega arith in is-entry a z q w r
 
 pub staysE : {l l′ : List ℕ} {n e : ℕ} {env : Env} → RepE l n e env → Same n l l′ → RepE l′ n e env
 staysE is-core s = is-core
 staysE {l} {l′} {n} {e} (is-entry a b q w r) s =
-    is-entry a b (getCell-same n l l′ e s b ∙ q) (staysM w (same-under e n l l′ (omega arith) s)) (staysE r (same-under e n l l′ (omega arith) s))
+    is-entry a b (getEntry-same n l l′ e s b ∙ q) (staysM w (same-under e n l l′ (omega arith) s)) (staysE r (same-under e n l l′ (omega arith) s))
 
 pub carryE : {l l′ : List ℕ} {n k e : ℕ} {env : Env} → RepE l n e env → Same n l l′ → n ≤ k → RepE l′ k e env
 carryE r s h = upE (staysE r s) h

@@ -19,9 +19,9 @@ use Rattle.model.specs.Parsing as p
 use Rattle.model.specs.Parsing.{formOf}
 use Rattle.model.specs.Expanding as m
 use Rattle.model.specs.Expanding.{core, variable, macro, unknown, Env, coreOnly, coreMeaning, headMeaning}
-use Rattle.table.specs.Words.{getCell, putCell, Same}
-use Rattle.table.specs.declared.Cell.{Cell}
-use Rattle.table.proofs.Laws.{putCell-below, get-putCell}
+use Rattle.table.specs.Words.{getEntry, putEntry, Same}
+use Rattle.table.specs.declared.Entry.{Entry}
+use Rattle.table.proofs.Laws.{putEntry-below, get-putEntry}
 use Rattle.scopes.specs.declared.Name.{Name}
 use Rattle.store.specs.Words.{bindsOf}
 use Rattle.things.specs.Rep.{Rep}
@@ -34,50 +34,50 @@ use Rattle.forms.specs.declared.Form.{Form}
 use Rattle.forms.specs.declared.Form.the-variants as form
 use Rattle.forms.specs.declared.Naming.{Naming}
 use Rattle.forms.specs.declared.Naming.the-variants.{Named, Unclear, Unnamed}
-use Rattle.forms.proofs.Names.{on-named, on-unclear, on-unnamed}
-use Rattle.environment.specs.Meanings.{Meant, meant-variable, meant-macro, RepE, is-core, is-entry, Known, Extended, MeaningAs, as-lambda, as-let-syntax, as-quote, as-syntax, as-variable, as-macro, as-unknown, as-unclear, CoreMeans, Means, meaningFound, MeansAt}
+use Rattle.forms.proofs.Names.{some-is, on-named, on-unclear, on-unnamed}
+use Rattle.environment.specs.Meanings.{Meant, meant-variable, meant-macro, RepE, is-core, is-entry, Known, Extended, VariableAt, MacroAt, meaningAs, MeaningIs, CoreMeans, Means, meaningFound, MeansAt}
 use Rattle.environment.specs.declared.Meaning.{Meaning}
 use Rattle.environment.specs.declared.Meaning.the-variants as meant
 use Rattle.environment.proofs.Frame.{upM, upE, carryM, staysE}
-use Rattle.table.specs.Sizes.{cellSize}
+use Rattle.table.specs.Sizes.{entrySize}
 
 -- ---- one entry more
 
-pub extended : {l l1 : List ℕ} {top n kind i next : ℕ} → Roomy l top cellSize → l1 ≡ putCell l top (record { head = i; tail = next; weight = n; size = kind; nesting = 0 })
-    → Extended l l1 top n kind i next top (top + cellSize)
+pub extended : {l l1 : List ℕ} {top n kind i next : ℕ} → Roomy l top entrySize → l1 ≡ putEntry l top (record { at = i; next = next; name = record { 0 = n }; kind = kind })
+    → Extended l l1 top n kind i next top (top + entrySize)
 extended {l} {l1} {top} {n} {kind} {i} {next} r e =
-    let x : Cell = record { head = i; tail = next; weight = n; size = kind; nesting = 0 } in
-    let sm : Same top l l1 = rw e (putCell-below l top x) in
-    let g : getCell l1 top ≡ x = rw e (get-putCell l top x (r .fits)) in
+    let x : Entry = record { at = i; next = next; name = record { 0 = n }; kind = kind } in
+    let sm : Same top l l1 = rw e (putEntry-below l top x) in
+    let g : getEntry l1 top ≡ x = rw e (get-putEntry l top x (r .fits)) in
     let pos : 0 < top = omega (arith, r .low) in
-    let fits : top + cellSize ≤ top + cellSize = omega arith in
+    let fits : top + entrySize ≤ top + entrySize = omega arith in
     record { kept = sm; grows = refl; means = λ w env a b. is-entry pos fits g (carryM a sm (omega arith)) (staysE b sm) }
 
 -- ---- a name's meaning
 
 module _ (n : ℕ) (f : Form) (h : formed f ≡ formOf n) where
-  core-by : (r : Meaning) → ((l : List ℕ) (top : ℕ) → MeaningAs l top (some (coreMeaning (formed f))) r) → CoreMeans n r
+  core-by : (r : Meaning) → ((l : List ℕ) (top : ℕ) → MeaningIs l top (some (coreMeaning (formed f))) r) → CoreMeans n r
   core-by r g = record { means = λ l top. rw (sym h) (g l top) }
 
   pub core-lambda : f ≡ form.Lambda → CoreMeans n meant.Lambda
-  unfolding coreMeaning
-  core-lambda e = core-by meant.Lambda (λ l top. rw e as-lambda)
+  unfolding coreMeaning meaningAs
+  core-lambda e = core-by meant.Lambda (λ l top. rw e (record { told = refl }))
 
   pub core-let-syntax : f ≡ form.LetSyntax → CoreMeans n meant.LetSyntax
-  unfolding coreMeaning
-  core-let-syntax e = core-by meant.LetSyntax (λ l top. rw e as-let-syntax)
+  unfolding coreMeaning meaningAs
+  core-let-syntax e = core-by meant.LetSyntax (λ l top. rw e (record { told = refl }))
 
   pub core-quote : f ≡ form.Quote → CoreMeans n meant.Quote
-  unfolding coreMeaning
-  core-quote e = core-by meant.Quote (λ l top. rw e as-quote)
+  unfolding coreMeaning meaningAs
+  core-quote e = core-by meant.Quote (λ l top. rw e (record { told = refl }))
 
   pub core-syntax : f ≡ form.Syntax → CoreMeans n meant.Syntax
-  unfolding coreMeaning
-  core-syntax e = core-by meant.Syntax (λ l top. rw e as-syntax)
+  unfolding coreMeaning meaningAs
+  core-syntax e = core-by meant.Syntax (λ l top. rw e (record { told = refl }))
 
   pub core-other : f ≡ form.Other → CoreMeans n meant.Unknown
-  unfolding coreMeaning
-  core-other e = core-by meant.Unknown (λ l top. rw e as-unknown)
+  unfolding coreMeaning meaningAs
+  core-other e = core-by meant.Unknown (λ l top. rw e (record { told = refl }))
 
 none-at : {l : List ℕ} {top e : ℕ} {env : Env} → RepE l top e env → e ≡ 0 → env ≡ coreOnly
 none-at is-core h = refl
@@ -88,26 +88,26 @@ unfolding m.meaning
 means-core {l} h k = record { means = λ top env w. rw (none-at w h) (k .means l top) }
 
 -- what an entry says
-record EntryAt (l : List ℕ) (top e : ℕ) (x : Cell) (env : Env) : Type 0 where
+record EntryAt (l : List ℕ) (top e : ℕ) (x : Entry) (env : Env) : Type 0 where
   meant : m.Meaning
   others : Env
-  is : env ≡ m.extend (x .weight) meant others
-  inside : e + cellSize ≤ top
-  low : x .tail < e
-  shown : Meant l top (x .size) (x .head) meant
-  shown-others : RepE l top (x .tail) others
+  is : env ≡ m.extend (x .name .0) meant others
+  inside : e + entrySize ≤ top
+  low : x .next < e
+  shown : Meant l top (x .kind) (x .at) meant
+  shown-others : RepE l top (x .next) others
 
 tail-low : {l : List ℕ} {e r : ℕ} {env : Env} → RepE l e r env → 0 < e → r < e
 tail-low is-core h = h
 tail-low (is-entry a b q w y) h = omega arith
 
-entry-at : {l : List ℕ} {top e : ℕ} {x : Cell} {env : Env} → RepE l top e env → ¬ (e ≡ 0) → x ≡ getCell l e → EntryAt l top e x env
+entry-at : {l : List ℕ} {top e : ℕ} {x : Entry} {env : Env} → RepE l top e env → ¬ (e ≡ 0) → x ≡ getEntry l e → EntryAt l top e x env
 entry-at is-core h k = absurd (h refl)
 entry-at {l} {top} {e} {x} (is-entry {n = n} {kind = kind} {i = i} {r = r} {w = w} {env = env} a b q y z) h k =
-    let eh : x .head ≡ i = ap (λ (y : Cell). y .head) (k ∙ q) in
-    let et : x .tail ≡ r = ap (λ (y : Cell). y .tail) (k ∙ q) in
-    let en : x .weight ≡ n = ap (λ (y : Cell). y .weight) (k ∙ q) in
-    let ek : x .size ≡ kind = ap (λ (y : Cell). y .size) (k ∙ q) in
+    let eh : x .at ≡ i = ap (λ (y : Entry). y .at) (k ∙ q) in
+    let et : x .next ≡ r = ap (λ (y : Entry). y .next) (k ∙ q) in
+    let en : x .name .0 ≡ n = ap (λ (y : Entry). y .name .0) (k ∙ q) in
+    let ek : x .kind ≡ kind = ap (λ (y : Entry). y .kind) (k ∙ q) in
     let y2 : Meant l top kind i w = upM y (omega arith) in
     let z2 : RepE l top r env = upE z (omega arith) in
     record {
@@ -120,7 +120,7 @@ entry-at {l} {top} {e} {x} (is-entry {n = n} {kind = kind} {i = i} {r = r} {w = 
       shown-others = rw et z2;
     }
 
-pub entry-inside : {l : List ℕ} {e : ℕ} → Known l e → ¬ (e ≡ 0) → e + cellSize ≤ length l
+pub entry-inside : {l : List ℕ} {e : ℕ} → Known l e → ¬ (e ≡ 0) → e + entrySize ≤ length l
 entry-inside r h = omega (arith, entry-at (r .shown) h refl .inside, r .inside)
 
 here : (k n : ℕ) (w : m.Meaning) (env : Env) → k ≡ n → m.meaning n (m.extend k w env) ≡ w
@@ -131,40 +131,42 @@ further : (k n : ℕ) (w : m.Meaning) (env : Env) → ¬ (k ≡ n) → m.meaning
 unfolding m.meaning
 further k n w env z = rw (ne-eqb n k (λ y. z (sym y))) refl
 
-as-meant-variable : {l : List ℕ} {top kind i : ℕ} {w : m.Meaning} → Meant l top kind i w → kind ≡ 0 → MeaningAs l top (some w) (meant.Variable i)
-as-meant-variable (meant-variable {i = i} r) z = as-variable i r
+as-meant-variable : {l : List ℕ} {top kind i : ℕ} {w : m.Meaning} → Meant l top kind i w → kind ≡ 0 → MeaningIs l top (some w) (meant.Variable i)
+unfolding meaningAs
+as-meant-variable (meant-variable {i = i} {x = x} {c = c} r) z = record { told = record { sets = c; symb = x; is = refl; shown = r } }
 as-meant-variable (meant-macro r) z = absurd (omega arith)
 
-as-meant-macro : {l : List ℕ} {top kind i : ℕ} {w : m.Meaning} → Meant l top kind i w → ¬ (kind ≡ 0) → MeaningAs l top (some w) (meant.Macro i)
+as-meant-macro : {l : List ℕ} {top kind i : ℕ} {w : m.Meaning} → Meant l top kind i w → ¬ (kind ≡ 0) → MeaningIs l top (some w) (meant.Macro i)
+unfolding meaningAs
 as-meant-macro (meant-variable r) z = absurd (z refl)
-as-meant-macro (meant-macro {i = i} r) z = as-macro i r
+as-meant-macro (meant-macro {i = i} {v = v} r) z = record { told = record { value = v; is = refl; shown = r } }
 
-module _ {l : List ℕ} {e : ℕ} {x : Cell} (h : ¬ (e ≡ 0)) (k : x ≡ getCell l e) where
-  pub others-known : Known l e → Known l (x .tail)
+module _ {l : List ℕ} {e : ℕ} {x : Entry} (h : ¬ (e ≡ 0)) (k : x ≡ getEntry l e) where
+  pub others-known : Known l e → Known l (x .next)
   others-known r = let q = entry-at (r .shown) h k in record { top = r .top; thing = q .others; shown = q .shown-others; inside = r .inside; small = r .small }
 
-  pub others-less : {T : ℕ} → Known l e → e ≡ T → x .tail < T
+  pub others-less : {T : ℕ} → Known l e → e ≡ T → x .next < T
   others-less r z = omega (arith, entry-at (r .shown) h k .low)
 
-  pub means-variable : {n : ℕ} → x .weight ≡ n → x .size ≡ 0 → Means l e n (meant.Variable (x .head))
-  means-variable {n} z y = record { means = λ top env w. let q = entry-at w h k in rw (q .is, here (x .weight) n (q .meant) (q .others) z) (as-meant-variable (q .shown) y) }
+  pub means-variable : {n : ℕ} → x .name .0 ≡ n → x .kind ≡ 0 → Means l e n (meant.Variable (x .at))
+  means-variable {n} z y = record { means = λ top env w. let q = entry-at w h k in rw (q .is, here (x .name .0) n (q .meant) (q .others) z) (as-meant-variable (q .shown) y) }
 
-  pub means-macro : {n : ℕ} → x .weight ≡ n → ¬ (x .size ≡ 0) → Means l e n (meant.Macro (x .head))
-  means-macro {n} z y = record { means = λ top env w. let q = entry-at w h k in rw (q .is, here (x .weight) n (q .meant) (q .others) z) (as-meant-macro (q .shown) y) }
+  pub means-macro : {n : ℕ} → x .name .0 ≡ n → ¬ (x .kind ≡ 0) → Means l e n (meant.Macro (x .at))
+  means-macro {n} z y = record { means = λ top env w. let q = entry-at w h k in rw (q .is, here (x .name .0) n (q .meant) (q .others) z) (as-meant-macro (q .shown) y) }
 
-  pub means-further : {n : ℕ} {r : Meaning} → ¬ (x .weight ≡ n) → Means l (x .tail) n r → Means l e n r
-  means-further {n} z g = record { means = λ top env w. let q = entry-at w h k in rw (q .is, further (x .weight) n (q .meant) (q .others) z) (g .means top (q .others) (q .shown-others)) }
+  pub means-further : {n : ℕ} {r : Meaning} → ¬ (x .name .0 ≡ n) → Means l (x .next) n r → Means l e n r
+  means-further {n} z g = record { means = λ top env w. let q = entry-at w h k in rw (q .is, further (x .name .0) n (q .meant) (q .others) z) (g .means top (q .others) (q .shown-others)) }
 
 -- ---- the meaning of an object
 
 module _ {ph n : ℕ} {l st : List ℕ} {i : ℕ} {v : Naming} (p : Names ph st n l i v) where
   pub at-unclear : {e : ℕ} → v ≡ Unclear → MeansAt ph st n l i e meant.Unclear
-  unfolding meaningFound
-  at-unclear z = record { means = λ top x env w y. rw (on-unclear p w z) as-unclear }
+  unfolding meaningFound meaningAs
+  at-unclear z = record { means = λ top x env w y. rw (on-unclear p w z) (record { told = refl }) }
 
   pub at-unnamed : {e : ℕ} → v ≡ Unnamed → MeansAt ph st n l i e meant.Unknown
-  unfolding meaningFound
-  at-unnamed z = record { means = λ top x env w y. rw (on-unnamed p w z) as-unknown }
+  unfolding meaningFound meaningAs
+  at-unnamed z = record { means = λ top x env w y. rw (on-unnamed p w z) (record { told = refl }) }
 
   pub at-named : {e : ℕ} {k : Name} {r : Meaning} → v ≡ Named k → Means l e (k .0) r → MeansAt ph st n l i e r
   unfolding meaningFound
@@ -174,78 +176,41 @@ pub ruleset laws = (room-add, room-fits, extended, core-lambda, core-let-syntax,
 
 -- ---- what a caller knows
 
-abbrev flatOf : Meaning → Option (Option m.Meaning)
-flatOf meant.Lambda = some (some (core p.lambda))
-flatOf meant.LetSyntax = some (some (core p.letSyntax))
-flatOf meant.Quote = some (some (core p.quote))
-flatOf meant.Syntax = some (some (core p.syntax))
-flatOf (meant.Variable i) = none
-flatOf (meant.Macro i) = none
-flatOf meant.Unknown = some (some unknown)
-flatOf meant.Unclear = some none
+told-as : {l : List ℕ} {top : ℕ} {q : Option m.Meaning} {r s : Meaning} → MeaningIs l top q r → r ≡ s → meaningAs l top s q
+told-as a e = rw e at (a .told)
 
-flat : {l : List ℕ} {top : ℕ} {q z : Option m.Meaning} {r : Meaning} → MeaningAs l top q r → flatOf r ≡ some z → q ≡ z
-flat as-lambda e = cc
-flat as-let-syntax e = cc
-flat as-quote e = cc
-flat as-syntax e = cc
-flat (as-variable i r) e = let z : _≡_ {A = ℕ} 0 1 = cc in absurd (omega arith)
-flat (as-macro i r) e = let z : _≡_ {A = ℕ} 0 1 = cc in absurd (omega arith)
-flat as-unknown e = cc
-flat as-unclear e = cc
+module _ {l : List ℕ} {top : ℕ} {q : Option m.Meaning} {r : Meaning} (a : MeaningIs l top q r) where
+  pub on-variable : {i : ℕ} → r ≡ meant.Variable i → VariableAt l top i q
+  unfolding meaningAs
+  on-variable e = told-as a e
 
-pub record VariableAt (l : List ℕ) (top i : ℕ) (q : Option m.Meaning) : Type 0 where
-  pub sets : Sets
-  pub symb : ℕ
-  pub is : q ≡ some (variable sets symb)
-  pub shown : Rep l top i (stx (atom sets (symbol symb)))
+  pub on-macro : {i : ℕ} → r ≡ meant.Macro i → MacroAt l top i q
+  unfolding meaningAs
+  on-macro e = told-as a e
 
-pub record MacroAt (l : List ℕ) (top i : ℕ) (q : Option m.Meaning) : Type 0 where
-  pub value : Tree
-  pub is : q ≡ some (macro value)
-  pub shown : Rep l top i value
-
-pub on-variable : {l : List ℕ} {top i : ℕ} {q : Option m.Meaning} {r : Meaning} → MeaningAs l top q r → r ≡ meant.Variable i → VariableAt l top i q
-on-variable as-lambda e = let z : _≡_ {A = ℕ} 0 1 = cc in absurd (omega arith)
-on-variable as-let-syntax e = let z : _≡_ {A = ℕ} 0 1 = cc in absurd (omega arith)
-on-variable as-quote e = let z : _≡_ {A = ℕ} 0 1 = cc in absurd (omega arith)
-on-variable as-syntax e = let z : _≡_ {A = ℕ} 0 1 = cc in absurd (omega arith)
-on-variable {i = i} (as-variable j {c = c} {x = x} s) e = let z : j ≡ i = cc in record { sets = c; symb = x; is = refl; shown = rw z at s }
-on-variable (as-macro j s) e = let z : _≡_ {A = ℕ} 0 1 = cc in absurd (omega arith)
-on-variable as-unknown e = let z : _≡_ {A = ℕ} 0 1 = cc in absurd (omega arith)
-on-variable as-unclear e = let z : _≡_ {A = ℕ} 0 1 = cc in absurd (omega arith)
-
-pub on-macro : {l : List ℕ} {top i : ℕ} {q : Option m.Meaning} {r : Meaning} → MeaningAs l top q r → r ≡ meant.Macro i → MacroAt l top i q
-on-macro as-lambda e = let z : _≡_ {A = ℕ} 0 1 = cc in absurd (omega arith)
-on-macro as-let-syntax e = let z : _≡_ {A = ℕ} 0 1 = cc in absurd (omega arith)
-on-macro as-quote e = let z : _≡_ {A = ℕ} 0 1 = cc in absurd (omega arith)
-on-macro as-syntax e = let z : _≡_ {A = ℕ} 0 1 = cc in absurd (omega arith)
-on-macro (as-variable j s) e = let z : _≡_ {A = ℕ} 0 1 = cc in absurd (omega arith)
-on-macro {i = i} (as-macro j {v = v} s) e = let z : j ≡ i = cc in record { value = v; is = refl; shown = rw z at s }
-on-macro as-unknown e = let z : _≡_ {A = ℕ} 0 1 = cc in absurd (omega arith)
-on-macro as-unclear e = let z : _≡_ {A = ℕ} 0 1 = cc in absurd (omega arith)
-
-module _ {l : List ℕ} {top : ℕ} {q : Option m.Meaning} {r : Meaning} (a : MeaningAs l top q r) where
   pub on-lambda : r ≡ meant.Lambda → q ≡ some (core p.lambda)
-  on-lambda e = flat a (ap flatOf e)
+  unfolding meaningAs
+  on-lambda e = told-as a e
 
   pub on-let-syntax : r ≡ meant.LetSyntax → q ≡ some (core p.letSyntax)
-  on-let-syntax e = flat a (ap flatOf e)
+  unfolding meaningAs
+  on-let-syntax e = told-as a e
 
   pub on-quote : r ≡ meant.Quote → q ≡ some (core p.quote)
-  on-quote e = flat a (ap flatOf e)
+  unfolding meaningAs
+  on-quote e = told-as a e
 
   pub on-syntax : r ≡ meant.Syntax → q ≡ some (core p.syntax)
-  on-syntax e = flat a (ap flatOf e)
+  unfolding meaningAs
+  on-syntax e = told-as a e
 
   pub on-unknown : r ≡ meant.Unknown → q ≡ some unknown
-  on-unknown e = flat a (ap flatOf e)
+  unfolding meaningAs
+  on-unknown e = told-as a e
 
   pub on-meaning-unclear : r ≡ meant.Unclear → q ≡ none
-  on-meaning-unclear e = flat a (ap flatOf e)
-
-some-is : {A : Type 0} {a b : A} → some a ≡ some b → a ≡ b
-some-is e = cc
+  unfolding meaningAs
+  on-meaning-unclear e = told-as a e
 
 by-found : (ph : ℕ) (env : Env) (y : State) (c : Sets) (x : ℕ) (f : Found) {w : m.Meaning} → resolve x (setAt ph c) (y .binds) ≡ f → meaningFound (some f) env ≡ some w
     → headMeaning ph env (atom c (symbol x)) y ≡ ok w y

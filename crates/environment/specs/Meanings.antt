@@ -11,13 +11,13 @@ use Rattle.model.specs.Resolving.{Bind, Found, several}
 use Rattle.model.specs.Parsing.{lambda, letSyntax, quote, syntax, formOf}
 use Rattle.model.specs.Expanding as m
 use Rattle.model.specs.Expanding.{core, variable, macro, unknown, Env, coreOnly, coreMeaning}
-use Rattle.table.specs.Words.{getCell, Same}
+use Rattle.table.specs.Words.{getEntry, Same}
 use Rattle.store.specs.Words.{bindsOf}
 use Rattle.things.specs.Rep.{Rep}
 use Rattle.forms.specs.Names.{nameFound}
 use Rattle.environment.specs.declared.Meaning.{Meaning}
 use Rattle.environment.specs.declared.Meaning.the-variants.{Lambda, LetSyntax, Quote, Syntax, Variable, Macro, Unknown, Unclear}
-use Rattle.table.specs.Sizes.{cellSize, tableSize}
+use Rattle.table.specs.Sizes.{entrySize, tableSize}
 
 -- what an entry of that kind says of its name
 pub data Meant (l : List ℕ) (top : ℕ) : ℕ → ℕ → m.Meaning → Type 0 where
@@ -27,8 +27,8 @@ pub data Meant (l : List ℕ) (top : ℕ) : ℕ → ℕ → m.Meaning → Type 0
 -- index e stands for the meanings, all of them below top
 pub data RepE (l : List ℕ) : ℕ → ℕ → Env → Type 0 where
   is-core : {top : ℕ} → RepE l top 0 coreOnly
-  is-entry : {top e n kind i r : ℕ} {w : m.Meaning} {env : Env} → 0 < e → e + cellSize ≤ top
-      → getCell l e ≡ record { head = i; tail = r; weight = n; size = kind; nesting = 0 }
+  is-entry : {top e n kind i r : ℕ} {w : m.Meaning} {env : Env} → 0 < e → e + entrySize ≤ top
+      → getEntry l e ≡ record { at = i; next = r; name = record { 0 = n }; kind = kind }
       → Meant l e kind i w → RepE l e r env → RepE l top e (m.extend n w env)
 
 pub record Known (l : List ℕ) (e : ℕ) : Type 0 where
@@ -40,25 +40,41 @@ pub record Known (l : List ℕ) (e : ℕ) : Type 0 where
 
 pub record Extended (l l′ : List ℕ) (top n kind i next at top′ : ℕ) : Type 0 where
   pub kept : Same top l l′
-  pub grows : top′ ≡ top + cellSize
+  pub grows : top′ ≡ top + entrySize
   pub means : (w : m.Meaning) (env : Env) → Meant l top kind i w → RepE l top next env → RepE l′ top′ at (m.extend n w env)
 
--- a meaning of the rules, or none where the name is unclear
-pub data MeaningAs (l : List ℕ) (top : ℕ) : Option m.Meaning → Meaning → Type 0 where
-  as-lambda : MeaningAs l top (some (core lambda)) Lambda
-  as-let-syntax : MeaningAs l top (some (core letSyntax)) LetSyntax
-  as-quote : MeaningAs l top (some (core quote)) Quote
-  as-syntax : MeaningAs l top (some (core syntax)) Syntax
-  as-variable : (i : ℕ) {c : Sets} {x : ℕ} → Rep l top i (stx (atom c (symbol x))) → MeaningAs l top (some (variable c x)) (Variable i)
-  as-macro : (i : ℕ) {v : Tree} → Rep l top i v → MeaningAs l top (some (macro v)) (Macro i)
-  as-unknown : MeaningAs l top (some unknown) Unknown
-  as-unclear : MeaningAs l top none Unclear
+-- the binder at i is the variable's
+pub record VariableAt (l : List ℕ) (top i : ℕ) (q : Option m.Meaning) : Type 0 where
+  pub sets : Sets
+  pub symb : ℕ
+  pub is : q ≡ some (variable sets symb)
+  pub shown : Rep l top i (stx (atom sets (symbol symb)))
+
+-- the value at i is the macro's
+pub record MacroAt (l : List ℕ) (top i : ℕ) (q : Option m.Meaning) : Type 0 where
+  pub value : Tree
+  pub is : q ≡ some (macro value)
+  pub shown : Rep l top i value
+
+-- what each case says of the rules' meaning q, which is none where the name is unclear
+unfoldable pub meaningAs : List ℕ → ℕ → Meaning → Option m.Meaning → Type 0
+meaningAs l top Lambda q = q ≡ some (core lambda)
+meaningAs l top LetSyntax q = q ≡ some (core letSyntax)
+meaningAs l top Quote q = q ≡ some (core quote)
+meaningAs l top Syntax q = q ≡ some (core syntax)
+meaningAs l top (Variable i) q = VariableAt l top i q
+meaningAs l top (Macro i) q = MacroAt l top i q
+meaningAs l top Unknown q = q ≡ some unknown
+meaningAs l top Unclear q = q ≡ none
+
+pub record MeaningIs (l : List ℕ) (top : ℕ) (q : Option m.Meaning) (r : Meaning) : Type 0 where
+  pub told : meaningAs l top r q
 
 pub record CoreMeans (n : ℕ) (r : Meaning) : Type 0 where
-  pub means : (l : List ℕ) (top : ℕ) → MeaningAs l top (some (coreMeaning (formOf n))) r
+  pub means : (l : List ℕ) (top : ℕ) → MeaningIs l top (some (coreMeaning (formOf n))) r
 
 pub record Means (l : List ℕ) (e n : ℕ) (r : Meaning) : Type 0 where
-  pub means : (top : ℕ) (env : Env) → RepE l top e env → MeaningAs l top (some (m.meaning n env)) r
+  pub means : (top : ℕ) (env : Env) → RepE l top e env → MeaningIs l top (some (m.meaning n env)) r
 
 unfoldable pub meaningFound : Option Found → Env → Option m.Meaning
 meaningFound none env = some unknown
@@ -67,4 +83,4 @@ meaningFound (some several) env = none
 
 -- of the object at i
 pub record MeansAt (ph : ℕ) (st : List ℕ) (n : ℕ) (l : List ℕ) (i e : ℕ) (r : Meaning) : Type 0 where
-  pub means : (top : ℕ) (x : Stx) (env : Env) → Rep l top i (stx x) → RepE l top e env → MeaningAs l top (meaningFound (nameFound ph (bindsOf st n) x) env) r
+  pub means : (top : ℕ) (x : Stx) (env : Env) → Rep l top i (stx x) → RepE l top e env → MeaningIs l top (meaningFound (nameFound ph (bindsOf st n) x) env) r

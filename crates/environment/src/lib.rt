@@ -3,7 +3,7 @@
 use forms::Form;
 use forms::Naming;
 use scopes::Name;
-use table::Cell;
+use table::Entry;
 use things::Made;
 ghost use mathlib.Core.Path.{_≡_};
 ghost use Prim.Native.Nat.{ℕ, _*_, _≤_};
@@ -11,7 +11,7 @@ ghost use lib.ListN.{length};
 ghost use Rattle.things.specs.Measuring.{Seen};
 ghost use Rattle.things.specs.Making.{Roomy};
 ghost use Rattle.environment.specs.Meanings.{Known, CoreMeans, Means, MeansAt, Extended};
-ghost use Rattle.table.specs.Sizes.{cellSize};
+ghost use Rattle.table.specs.Sizes.{entrySize};
 ghost use Rattle.store.specs.Sizes.{bindingSize};
 
 pub enum Meaning {
@@ -36,26 +36,24 @@ impl Meaning {
     pub const MACRO: u32 = 1;
 }
 
-// One entry more. It lies as a cell: what the name means and the entry after it are head and tail, the name and the kind of its meaning
-// stand where a chain of things keeps its measures.
+// One entry more.
 pub fn extend(table: &mut [u32], top: u32, name: Name, kind: u32, at: u32, next: u32) -> Made
-    requires { ⌜ Roomy (now table) top cellSize ⌝ }
+    requires { ⌜ Roomy (now table) top entrySize ⌝ }
     ensures { λ r. ⌜ Extended (now (table .entry)) (now (table .exit)) top (name .0) kind at next (r .at) (r .top) ⌝ }
 {
-    table::put_cell(
+    table::put_entry(
         table,
         top,
-        Cell {
-            head: at,
-            tail: next,
-            weight: name.0,
-            size: kind,
-            nesting: 0,
+        Entry {
+            at,
+            next,
+            name,
+            kind,
         },
     );
     Made {
         at: top,
-        top: top + Cell::WORDS,
+        top: top + Entry::WORDS,
     }
 }
 
@@ -79,14 +77,14 @@ pub fn lookup(table: &[u32], e: u32, name: Name) -> Meaning
     if e == 0 {
         return core_meaning(name);
     }
-    let x = table::get_cell(table, e);
-    if x.weight == name.0 {
-        if x.size == Meaning::VARIABLE {
-            return Meaning::Variable(x.head);
+    let x = table::get_entry(table, e);
+    if x.name.0 == name.0 {
+        if x.kind == Meaning::VARIABLE {
+            return Meaning::Variable(x.at);
         }
-        return Meaning::Macro(x.head);
+        return Meaning::Macro(x.at);
     }
-    lookup(table, x.tail, name)
+    lookup(table, x.next, name)
 }
 
 // What the head of a list means: Unknown where it is no identifier.

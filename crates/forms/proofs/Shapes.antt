@@ -18,9 +18,10 @@ use Rattle.table.specs.declared.Cell.{Cell}
 use Rattle.things.specs.Rep.{Rep, RepP, is-atom, is-list}
 use Rattle.things.specs.Measuring.{Seen, SeenP}
 use Rattle.things.proofs.Frame.{below}
-use Rattle.things.proofs.ByTag.{tag-is, ConsAt, cons-at, cons-some, part-at}
+use Rattle.things.proofs.ByTag.{tag-is, ConsAt, cons-at, part-at}
+pub use Rattle.things.proofs.ByTag.{nil-at}
 use Rattle.things.proofs.Measuring.{cell-inside, node-inside}
-use Rattle.forms.specs.Shapes.{SingleAs, single, not-single, Single, DoubleAs, double, not-double, Double, TripleAs, triple, not-triple, Triple, isIdentifier, Identifies}
+use Rattle.forms.specs.Shapes.{OneAt, TwoAt, ThreeAt, oneAs, twoAs, threeAs, OneIs, TwoAre, ThreeAre, Single, Double, Triple, isIdentifier, Identifies}
 use Rattle.forms.specs.declared.One.{One}
 use Rattle.forms.specs.declared.One.the-variants as one
 use Rattle.forms.specs.declared.Two.{Two}
@@ -29,11 +30,6 @@ use Rattle.forms.specs.declared.Three.{Three}
 use Rattle.forms.specs.declared.Three.the-variants as three
 
 -- ---- chains of syntax objects
-
-pub nil-at : {l : List ℕ} {top c : ℕ} (ps : Stxs) → RepP l top c (fromStxs ps) → c ≡ 0 → ps ≡ nil
-unfolding fromStxs
-nil-at nil r h = refl
-nil-at (cons x ps) r h = absurd (cons-some r h)
 
 pub record FirstAt (l : List ℕ) (top c : ℕ) (x : Cell) (ps : Stxs) : Type 0 where
   pub first : Stx
@@ -60,25 +56,29 @@ cons-count {ps} {qs} n e k h = k (let z : count ps ≡ suc (count qs) = ap count
 
 module _ {l : List ℕ} {c : ℕ} where
   pub none-single : c ≡ 0 → Single l c one.Not
-  none-single h = record { means = λ top ps r. not-single (nil-count 0 (nil-at ps r h)) }
+  unfolding oneAs
+  none-single h = record { means = λ top ps r. record { told = nil-count 0 (nil-at ps r h) } }
 
   pub none-double : c ≡ 0 → Double l c two.Not
-  none-double h = record { means = λ top ps r. not-double (nil-count 1 (nil-at ps r h)) }
+  unfolding twoAs
+  none-double h = record { means = λ top ps r. record { told = nil-count 1 (nil-at ps r h) } }
 
   pub none-triple : c ≡ 0 → Triple l c three.Not
-  none-triple h = record { means = λ top ps r. not-triple (nil-count 2 (nil-at ps r h)) }
+  unfolding threeAs
+  none-triple h = record { means = λ top ps r. record { told = nil-count 2 (nil-at ps r h) } }
 
   module _ {x : Cell} (h : ¬ (c ≡ 0)) (e : x ≡ getCell l c) where
     pub tail-seen : SeenP l c → SeenP l (x .tail)
     tail-seen r = let p = part-at (r .shown) h e in record { top = r .top; thing = p .others; shown = p .cell .shown-others; inside = r .inside; small = r .small }
 
     pub is-single : x .tail ≡ 0 → Single l c (one.Is (x .head))
+    unfolding oneAs
     is-single z =
         record {
           means = λ top ps r.
               let p = first-at ps r h e in
               let n : p .others ≡ nil = nil-at (p .others) (p .cell .shown-others) z in
-              rw (p .is, n) (single (x .head) (p .cell .shown));
+              record { told = record { first = p .first; is = p .is ∙ ap (cons (p .first)) n; shown = p .cell .shown } };
         }
 
     some-count : (ps : Stxs) {top d : ℕ} → RepP l top d (fromStxs ps) → ¬ (d ≡ 0) → ¬ (count ps ≡ 0)
@@ -87,90 +87,78 @@ module _ {l : List ℕ} {c : ℕ} where
     some-count (cons y ps) r k z = omega arith
 
     pub more-single : ¬ (x .tail ≡ 0) → Single l c one.Not
-    more-single z = record { means = λ top ps r. let p = first-at ps r h e in not-single (cons-count 0 (p .is) (some-count (p .others) (p .cell .shown-others) z)) }
+    unfolding oneAs
+    more-single z = record { means = λ top ps r. let p = first-at ps r h e in record { told = cons-count 0 (p .is) (some-count (p .others) (p .cell .shown-others) z) } }
 
 -- ---- what a caller knows
 
-pub record OneAt (l : List ℕ) (top i : ℕ) (ps : Stxs) : Type 0 where
-  pub first : Stx
-  pub is : ps ≡ cons first nil
-  pub shown : Rep l top i (stx first)
+module _ {l : List ℕ} {top : ℕ} {ps : Stxs} where
+  pub on-one : {r : One} {i : ℕ} → OneIs l top ps r → r ≡ one.Is i → OneAt l top i ps
+  unfolding oneAs
+  on-one a e = rw e at (a .told)
 
-pub record TwoAt (l : List ℕ) (top i j : ℕ) (ps : Stxs) : Type 0 where
-  pub first : Stx
-  pub second : Stx
-  pub is : ps ≡ cons first (cons second nil)
-  pub shown : Rep l top i (stx first)
-  pub shown-second : Rep l top j (stx second)
+  pub on-not-one : {r : One} → OneIs l top ps r → r ≡ one.Not → ¬ (count ps ≡ 1)
+  unfolding oneAs
+  on-not-one a e = rw e at (a .told)
 
-pub record ThreeAt (l : List ℕ) (top i j k : ℕ) (ps : Stxs) : Type 0 where
-  pub first : Stx
-  pub second : Stx
-  pub third : Stx
-  pub is : ps ≡ cons first (cons second (cons third nil))
-  pub shown : Rep l top i (stx first)
-  pub shown-second : Rep l top j (stx second)
-  pub shown-third : Rep l top k (stx third)
+  pub on-two : {r : Two} {i j : ℕ} → TwoAre l top ps r → r ≡ two.Are i j → TwoAt l top i j ps
+  unfolding twoAs
+  on-two a e = rw e at (a .told)
 
-pub on-one : {l : List ℕ} {top : ℕ} {ps : Stxs} {r : One} {i : ℕ} → SingleAs l top ps r → r ≡ one.Is i → OneAt l top i ps
-on-one {r = r} {i = i} (single a {x} s) e = let z : a ≡ i = cc in record { first = x; is = refl; shown = rw z at s }
-on-one (not-single n) e = let z : _≡_ {A = ℕ} 0 1 = cc in absurd (omega arith)
+  pub on-not-two : {r : Two} → TwoAre l top ps r → r ≡ two.Not → ¬ (count ps ≡ 2)
+  unfolding twoAs
+  on-not-two a e = rw e at (a .told)
 
-pub on-not-one : {l : List ℕ} {top : ℕ} {ps : Stxs} {r : One} → SingleAs l top ps r → r ≡ one.Not → ¬ (count ps ≡ 1)
-on-not-one (single a s) e = let z : _≡_ {A = ℕ} 0 1 = cc in absurd (omega arith)
-on-not-one (not-single n) e = n
+  pub on-three : {r : Three} {i j k : ℕ} → ThreeAre l top ps r → r ≡ three.Are i j k → ThreeAt l top i j k ps
+  unfolding threeAs
+  on-three a e = rw e at (a .told)
 
-pub on-two : {l : List ℕ} {top : ℕ} {ps : Stxs} {r : Two} {i j : ℕ} → DoubleAs l top ps r → r ≡ two.Are i j → TwoAt l top i j ps
-on-two {r = r} {i = i} {j = j} (double a b {x} {y} s t) e =
-    let z : a ≡ i = cc in
-    let w : b ≡ j = cc in
-    record { first = x; second = y; is = refl; shown = rw z at s; shown-second = rw w at t }
-on-two (not-double n) e = let z : _≡_ {A = ℕ} 0 1 = cc in absurd (omega arith)
-
-pub on-not-two : {l : List ℕ} {top : ℕ} {ps : Stxs} {r : Two} → DoubleAs l top ps r → r ≡ two.Not → ¬ (count ps ≡ 2)
-on-not-two (double a b s t) e = let z : _≡_ {A = ℕ} 0 1 = cc in absurd (omega arith)
-on-not-two (not-double n) e = n
-
-pub on-three : {l : List ℕ} {top : ℕ} {ps : Stxs} {r : Three} {i j k : ℕ} → TripleAs l top ps r → r ≡ three.Are i j k → ThreeAt l top i j k ps
-on-three {r = r} {i = i} {j = j} {k = k} (triple a b d {x} {y} {z = v} s t u) e =
-    let z : a ≡ i = cc in
-    let w : b ≡ j = cc in
-    let q : d ≡ k = cc in
-    record { first = x; second = y; third = v; is = refl; shown = rw z at s; shown-second = rw w at t; shown-third = rw q at u }
-on-three (not-triple n) e = let z : _≡_ {A = ℕ} 0 1 = cc in absurd (omega arith)
-
-pub on-not-three : {l : List ℕ} {top : ℕ} {ps : Stxs} {r : Three} → TripleAs l top ps r → r ≡ three.Not → ¬ (count ps ≡ 3)
-on-not-three (triple a b d s t u) e = let z : _≡_ {A = ℕ} 0 1 = cc in absurd (omega arith)
-on-not-three (not-triple n) e = n
+  pub on-not-three : {r : Three} → ThreeAre l top ps r → r ≡ three.Not → ¬ (count ps ≡ 3)
+  unfolding threeAs
+  on-not-three a e = rw e at (a .told)
 
 module _ {l : List ℕ} {c : ℕ} {x : Cell} (h : ¬ (c ≡ 0)) (e : x ≡ getCell l c) where
   module _ {o : One} (k : Single l (x .tail) o) where
     pub is-double : {j : ℕ} → o ≡ one.Is j → Double l c (two.Are (x .head) j)
-    is-double {j} z =
+    unfolding twoAs
+    is-double z =
         record {
           means = λ top ps r.
               let p = first-at ps r h e in
               let q = on-one (k .means top (p .others) (p .cell .shown-others)) z in
-              rw (p .is, q .is) (double (x .head) j (p .cell .shown) (q .shown));
+              record { told = record { first = p .first; second = q .first; is = p .is ∙ ap (cons (p .first)) (q .is); shown = p .cell .shown; shown-second = q .shown } };
         }
 
     pub other-double : o ≡ one.Not → Double l c two.Not
+    unfolding twoAs
     other-double z =
-        record { means = λ top ps r. let p = first-at ps r h e in not-double (cons-count 1 (p .is) (on-not-one (k .means top (p .others) (p .cell .shown-others)) z)) }
+        record { means = λ top ps r. let p = first-at ps r h e in record { told = cons-count 1 (p .is) (on-not-one (k .means top (p .others) (p .cell .shown-others)) z) } }
 
   module _ {o : Two} (k : Double l (x .tail) o) where
     pub is-triple : {i j : ℕ} → o ≡ two.Are i j → Triple l c (three.Are (x .head) i j)
-    is-triple {i} {j} z =
+    unfolding threeAs
+    is-triple z =
         record {
           means = λ top ps r.
               let p = first-at ps r h e in
               let q = on-two (k .means top (p .others) (p .cell .shown-others)) z in
-              rw (p .is, q .is) (triple (x .head) i j (p .cell .shown) (q .shown) (q .shown-second));
+              record {
+                told = record {
+                  first = p .first;
+                  second = q .first;
+                  third = q .second;
+                  is = p .is ∙ ap (cons (p .first)) (q .is);
+                  shown = p .cell .shown;
+                  shown-second = q .shown;
+                  shown-third = q .shown-second;
+                };
+              };
         }
 
     pub other-triple : o ≡ two.Not → Triple l c three.Not
+    unfolding threeAs
     other-triple z =
-        record { means = λ top ps r. let p = first-at ps r h e in not-triple (cons-count 2 (p .is) (on-not-two (k .means top (p .others) (p .cell .shown-others)) z)) }
+        record { means = λ top ps r. let p = first-at ps r h e in record { told = cons-count 2 (p .is) (on-not-two (k .means top (p .others) (p .cell .shown-others)) z) } }
 
 -- ---- refusals
 
