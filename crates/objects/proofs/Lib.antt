@@ -1,3 +1,4 @@
+pub mod PointLaws
 pub mod Sizes
 pub mod Objects
 pub mod Kept

@@ -22,6 +22,9 @@ use Rattle.numbers.specs.Answers.{numberAt, placeAt}
 use Rattle.numbers.proofs.Tails.{num-tail, up-to-tail}
 use Rattle.numbers.proofs.Answering.{Took, took, refused, number-shape, goes, gives, stops, place-took, place-value, place-refused}
 use Rattle.sets.proofs.Reading.{sets-tail}
+use Rattle.objects.specs.Points.{pointAt, numberOf}
+use Rattle.objects.proofs.PointLaws.{number-is}
+use Rattle.objects.specs.declared.points.PointRead.{PointRead}
 use Rattle.objects.specs.Measuring.{readContentOf, readTop, measureParts, measureContent, measureStx, measureList}
 use Rattle.objects.proofs.Sizes.{content-tail, top-tail, object-tail, all-parts-tail, object-sized, all-parts-sized, sized-is}
 
@@ -36,9 +39,9 @@ module _ (end symbols t : ℕ) (s : List ℕ) where
   unfolding readContentOf
   content-number e h = rw e h
 
-  pub content-point : {r : Number} → t ≡ 2 → r ≡ numberAt end (numUpTo overLimit 1023 s) → r ≡ numberAt end (readContentOf symbols t s)
-  unfolding readContentOf lastPoint
-  content-point e h = rw e h
+  pub content-point : {r : Number} {x : PointRead} → t ≡ 2 → r ≡ numberOf x → x ≡ pointAt end (numUpTo overLimit lastPoint s) → r ≡ numberAt end (readContentOf symbols t s)
+  unfolding readContentOf
+  content-point e g h = rw e (g ∙ ap numberOf h ∙ number-is end (numUpTo overLimit lastPoint s))
 
   pub content-primitive : {r : Number} → t ≡ 3 → r ≡ numberAt end (numUpTo overLimit 6 s) → r ≡ numberAt end (readContentOf symbols t s)
   unfolding readContentOf lastPrimitive

@@ -1,1 +1,2 @@
 pub mod Measuring
+pub mod Points

@@ -1,4 +1,6 @@
 // Syntax objects of an image, checked and measured: nothing is stored.
+pub mod points;
+
 use numbers::Cursor;
 use numbers::Number;
 use numbers::Place;
@@ -21,7 +23,8 @@ pub fn read_content(c: Cursor, s: &[u8], symbols: u32, tag: u32) -> Number
         return c.number(s);
     }
     if tag == 2 {
-        return c.number_up_to(s, Refusal::OverLimit, 1023);
+        let point = points::read_point(c, s);
+        return point.number();
     }
     if tag == 3 {
         return c.number_up_to(s, Refusal::OverLimit, 6);

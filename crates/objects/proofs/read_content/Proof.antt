@@ -16,20 +16,23 @@ number-requires c κs = search (object-laws, answering, needs)
 returns-2 : tie.Need-returns-2
 returns-2 c = search (object-laws, answering, needs)
 
-number-up-to-requires : tie.Need-number-up-to-requires
-number-up-to-requires c κs = search (object-laws, answering, needs)
+read-point-requires : tie.Need-read-point-requires
+read-point-requires c κs = search (object-laws, answering, needs)
+
+number-requires-2 : tie.Need-number-requires-2
+number-requires-2 c κs = search (object-laws, answering, needs)
 
 returns-3 : tie.Need-returns-3
 returns-3 c = search (object-laws, answering, needs)
 
-number-up-to-requires-2 : tie.Need-number-up-to-requires-2
-number-up-to-requires-2 c κs = search (object-laws, answering, needs)
+number-up-to-requires : tie.Need-number-up-to-requires
+number-up-to-requires c κs = search (object-laws, answering, needs)
 
 returns-4 : tie.Need-returns-4
 returns-4 c = search (object-laws, answering, needs)
 
-number-up-to-requires-3 : tie.Need-number-up-to-requires-3
-number-up-to-requires-3 c κs = search (object-laws, answering, needs)
+number-up-to-requires-2 : tie.Need-number-up-to-requires-2
+number-up-to-requires-2 c κs = search (object-laws, answering, needs)
 
 returns-5 : tie.Need-returns-5
 returns-5 c = search (object-laws, answering, needs)
@@ -45,10 +48,11 @@ read-content-spec =
     returns
     number-requires
     returns-2
-    number-up-to-requires
+    read-point-requires
+    number-requires-2
     returns-3
-    number-up-to-requires-2
+    number-up-to-requires
     returns-4
-    number-up-to-requires-3
+    number-up-to-requires-2
     returns-5
     returns-6)
