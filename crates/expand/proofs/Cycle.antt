@@ -2,40 +2,32 @@
 use mathlib.Core.Path.{_≡_, refl, sym, ap, _∙_}
 use mathlib.Core.List.{List, []}
 use mathlib.Core.Bool.{Bool, true, false}
-use mathlib.Core.Option.{Option, none, some}
-use Prim.Native.Nat.{ℕ, zero, suc, _+_, _-_, _*_, _^_, _≤_, _<_}
+use Prim.Native.Nat.{ℕ, _+_, _-_, _*_, _^_, _≤_, _<_}
 use native.Mathlib.Omega.{arith}
 use borrow.Author.Tests.{le-leb, lt-leb}
 use lib.ListN.{length}
-use lib.Dec.{leb}
 use Rattle.model.specs.Limits.{lastPhase}
 use Rattle.model.specs.Refusals as ref
-use Rattle.model.specs.Scopes.{Scopes, add}
+use Rattle.model.specs.Scopes.{add}
 use Rattle.model.specs.Objects as ob
-use Rattle.model.specs.Objects.{symbol, tagOf, Sets, Stx, atom, list, Stxs, nil, cons, count, addScope}
-use Rattle.model.specs.Trees.{Tree, stx, Trees, tcons, fromStxs}
+use Rattle.model.specs.Objects.{symbol, tagOf, Sets, Stx, atom, list, Stxs, cons}
+use Rattle.model.specs.Trees.{Tree, stx, fromStxs}
 use Rattle.model.specs.Steps as ms
-use Rattle.model.specs.Steps.{ok, no, after, made, parts2, parts3, identifier, addTo}
-use Rattle.model.specs.Expanding as m
-use Rattle.model.specs.Expanding.{core, variable, macro, unknown, Env, coreOnly, Expander, expandAll, expandApplication, expandFunction, expandLambda, expandSyntax, expandBinding, expandLetSyntax, expandMacro, expandForm, expandEntry, expand, bindFresh}
+use Rattle.model.specs.Steps.{ok, after, parts2, parts3, identifier}
+use Rattle.model.specs.Expanding.{variable, Env, coreOnly, expandAll, expandApplication, expandLambda, expandLetSyntax, expandMacro, expandEntry, expand, bindFresh}
 use Rattle.refusals.specs.declared.Refusal.the-variants.{Ambiguous, NoRule, NoPhase}
 use Rattle.scopes.specs.Sets.{scopesOf, Declared}
-use Rattle.scopes.specs.declared.Name.{Name}
-use Rattle.scopes.specs.declared.Scope.{Scope}
 use Rattle.scopes.specs.declared.ScopeSet.{ScopeSet}
 use Rattle.store.specs.Words.{bindsOf}
 use Rattle.table.specs.Tags.{listTag}
-use Rattle.table.specs.Words.{getNode, getCell, Same}
+use Rattle.table.specs.Words.{getNode, getCell}
 use Rattle.table.specs.declared.Node.{Node}
 use Rattle.table.specs.declared.Cell.{Cell}
-use Rattle.table.proofs.Laws.{same-trans}
-use Rattle.things.specs.Rep.{Rep, RepP, is-none, is-atom, is-list}
+use Rattle.things.specs.Rep.{Rep, RepP, is-atom, is-list}
 use Rattle.things.specs.Measuring.{Seen, SeenP}
-use Rattle.things.specs.Making.{Roomy, Linkable, Linked}
-use Rattle.things.specs.declared.Made.{Made}
-use Rattle.things.proofs.Frame.{below, up, carry, carryP}
+use Rattle.things.proofs.Frame.{below, carry}
 use Rattle.things.proofs.ByTag.{tag-is, atom-at, list-at, stx-tag}
-use Rattle.steps.specs.States.{Store, stateOf, raisedTo, enterOf, end, Room}
+use Rattle.steps.specs.States.{Store, stateOf, enterOf}
 use Rattle.steps.specs.Agreement.{Later, Ended, ended, Gave, Agrees, gives, stops}
 use Rattle.steps.specs.declared.State.{State}
 use Rattle.steps.specs.declared.Stop.{Stop}
@@ -44,36 +36,38 @@ use Rattle.steps.specs.declared.Answer.{Answer}
 use Rattle.steps.specs.declared.Answer.the-variants.{Done, Refused}
 use Rattle.steps.specs.declared.Charged.{Charged}
 use Rattle.steps.specs.declared.Charged.the-variants as charged
-use Rattle.steps.proofs.Laws.{Went, enter-left, enter-went, entry-refused, entry-goes, then-ok, then-no, unless-ok, unless-no, later-refl, later-trans, room-later, on-done, on-refused, since}
-use Rattle.parse.specs.Shown.{Held, trees}
+use Rattle.steps.proofs.Laws.{Went, enter-left, enter-went, entry-refused, entry-goes, then-ok, then-no, unless-ok, unless-no, later-refl, room-later, on-done, on-refused, since}
+use Rattle.parse.specs.Shown.{Held}
 use Rattle.parse.specs.Parsing.{unpaid}
-use Rattle.forms.specs.Shapes.{Double, Triple, isIdentifier, Identifies}
+use Rattle.forms.specs.Shapes.{Double, Triple, Identifies}
 use Rattle.forms.specs.declared.Two.{Two}
 use Rattle.forms.specs.declared.Two.the-variants as two
 use Rattle.forms.specs.declared.Three.{Three}
 use Rattle.forms.specs.declared.Three.the-variants as three
 use Rattle.forms.proofs.Shapes.{nil-at, first-at, on-two, on-not-two, on-three, on-not-three, not-parts2, not-parts3, not-identifier, is-identifier}
-use Rattle.environment.specs.Meanings.{Meant, meant-variable, meant-macro, RepE, is-core, Known, Extended, MeansAt}
+use Rattle.environment.specs.Meanings.{meant-variable, RepE, is-core, Known, MeansAt}
 use Rattle.environment.specs.declared.Meaning.{Meaning}
 use Rattle.environment.specs.declared.Meaning.the-variants as meant
-use Rattle.environment.proofs.Frame.{carryE, carryM, upE}
+use Rattle.environment.proofs.Frame.{carryE}
 use Rattle.environment.proofs.Laws.{on-lambda, on-let-syntax, on-quote, on-syntax, on-variable, on-macro, on-unknown, on-meaning-unclear}
-use Rattle.scoping.specs.Changing.{ShownObject, objects, ReadyObject, changeRule, Changes}
-use Rattle.scoping.specs.Fresh.{ReadyBinder, ShownBinder, binders, boundOf, BindsFresh, Marked, ShownMark, marks, markRule, markingOf, MarksFresh}
+use Rattle.scoping.specs.Changing.{objects}
+use Rattle.scoping.specs.Fresh.{ReadyBinder, binders, boundOf, BindsFresh}
 use Rattle.scoping.specs.declared.Binder.{Binder}
 use Rattle.scoping.specs.declared.Bound.{Bound}
 use Rattle.scoping.specs.declared.Bound.the-variants as bounds
-use Rattle.scoping.specs.declared.Mark.{Mark}
-use Rattle.scoping.specs.declared.Marking.{Marking}
-use Rattle.scoping.specs.declared.Marking.the-variants as marking
 use Rattle.expand.specs.Making.{ReadyList, Lists, ReadyThree, ThreeLists}
-use Rattle.expand.specs.Leaves.{Within, ReadyName, nameRule, ExpandedName, ReadyTail, ExpandedQuote, ExpandedSyntax, ReadyValue, valueRule, Values, ReadyTranscribed, transcribeRule, Transcribes}
-use Rattle.expand.specs.Cycle.{entries, ShownParts, partsOf, Ready, ReadyParts, ReadyChain, ReadyForm, ReadyLet, ReadyFunction, ReadyAbstraction, ReadyScoped, ReadyInner, ReadyBinding, ReadyRhs, ReadyDefined, ReadyMacro, ReadyRewritten, scopedRule, abstractionRule, definedRule, rhsRule, rewrittenRule, Expanded, ExpandedEntry, ExpandedList, ExpandedApplication, ExpandedParts, ExpandedLambda, ExpandedFunction, ExpandedAbstraction, ExpandedScoped, ExpandedInner, ExpandedLetSyntax, ExpandedBinding, ExpandedRhs, ExpandedDefined, ExpandedMacro, ExpandedRewritten}
-use Rattle.expand.specs.declared.Context.{Context}
-use Rattle.expand.proofs.Agreeing.{Owed, beyond}
+use Rattle.expand.specs.Leaves.{Within, ReadyName, ExpandedName, ReadyTail, ExpandedQuote, ExpandedSyntax}
+use Rattle.expand.specs.InPlace.{ShownNext, nexts, onwardOf, ReadyScoped, scopedRule, Scoped, ReadyDefined, definedRule, Defined, ReadyMacro, rewrittenRule, Rewritten, rhsRule, bindingRule}
+use Rattle.expand.specs.Cycle.{entries, partsOf, Ready, ReadyParts, ReadyChain, ReadyForm, ReadyLet, ReadyFunction, ReadyAbstraction, ReadyOnward, ReadyBinding, ReadyRhs, furtherRule, abstractionRule, Expanded, ExpandedOnward, ExpandedEntry, ExpandedList, ExpandedApplication, ExpandedParts, ExpandedLambda, ExpandedFunction, ExpandedAbstraction, ExpandedLetSyntax, OnwardBinding, OnwardRhs, ExpandedMacro}
+use Rattle.expand.specs.declared.Surroundings.{Surroundings}
+use Rattle.expand.specs.declared.Next.{Next}
+use Rattle.expand.specs.declared.Onward.{Onward}
+use Rattle.expand.specs.declared.Onward.the-variants as onward
+use Rattle.expand.proofs.Agreeing.{beyond}
 use Rattle.expand.proofs.Leaves.{owes-none, owes-one, owes-two}
+use Rattle.expand.proofs.InPlace.{unitsOf, onward-less, onward-ready, onward-goes}
 use Rattle.expand.proofs.Rules.{expand-entry, entry-atom, entry-symbol, entry-empty, list-means, list-unclear, form-lambda, form-let-syntax, form-quote, form-syntax, form-variable, form-macro, form-unknown, function-split, binding-split, macro-split}
-use Rattle.table.specs.Sizes.{cellSize, twoCells, cellSpare, nodeSize, nodeSpare, tripleSpare, unitSize}
+use Rattle.table.specs.Sizes.{cellSize, twoCells, nodeSize, nodeSpare, tripleSpare}
 use Rattle.store.specs.Sizes.{bindingSize}
 
 stx-is : {a b : Stx} → stx a ≡ stx b → a ≡ b
@@ -81,7 +75,7 @@ stx-is e = cc
 
 -- ---- where an object is expanded
 
-pub within-later : {n v : ℕ} {l l1 st st1 : List ℕ} {s s1 : State} {at : Context} → Within l st s at → Later n v l l1 s s1 → s1 .bindings ≤ 512 → length l1 ≡ length l → length st1 ≡ length st → Within l1 st1 s1 at
+pub within-later : {n v : ℕ} {l l1 st st1 : List ℕ} {s s1 : State} {at : Surroundings} → Within l st s at → Later n v l l1 s s1 → s1 .bindings ≤ 512 → length l1 ≡ length l → length st1 ≡ length st → Within l1 st1 s1 at
 within-later r p few len len2 =
     record {
       meant = r .meant;
@@ -90,12 +84,8 @@ within-later r p few len len2 =
       held = record { few = few; wide = omega (arith, r .held .wide, len2) };
     }
 
--- what is prunable is no part of what an expansion asks for
-pruning : {l st : List ℕ} {s : State} {at : Context} (p : ScopeSet) → Within l st s at → Within l st s (record { phase = at .phase; meanings = at .meanings; prunable = p })
-pruning p r = record { meant = r .meant; known = r .known; room = r .room; held = r .held }
-
 -- the entry's unit is not needed for what follows
-within-paid : {l st : List ℕ} (s : State) {at : Context} → Within l st (unpaid s) at → Within l st s at
+within-paid : {l st : List ℕ} (s : State) {at : Surroundings} → Within l st (unpaid s) at → Within l st s at
 unfolding unpaid
 within-paid s r =
     record {
@@ -116,34 +106,38 @@ top-is w = ap (λ (y : State). y .top) (w .is)
 
 -- ---- expand
 
-module _ (left : ℕ) (s : State) {u : State} {x : Charged} (h : x ≡ enterOf left s) (e : x ≡ charged.Paid u) where
-  pub enter-one : 1 ≤ left
-  enter-one = enter-left left s h e
+abbrev inEntry : Surroundings → Surroundings
+inEntry at = record { left = at .left - 1; phase = at .phase; meanings = at .meanings; prunable = at .prunable }
+
+module _ (at : Surroundings) (s : State) {u : State} {x : Charged} (h : x ≡ enterOf (at .left) s) (e : x ≡ charged.Paid u) where
+  pub enter-one : 1 ≤ at .left
+  enter-one = enter-left (at .left) s h e
 
   pub enter-less : {T : ℕ} → s .units * 32 ≡ T → u .units * 32 + 20 < T
-  enter-less k = let q = enter-went left s h e in omega (arith, q .enough, ap (λ (y : State). y .units) (q .is))
+  enter-less k = let q = enter-went (at .left) s h e in omega (arith, q .enough, ap (λ (y : State). y .units) (q .is))
 
-  pub enter-ready : {l st : List ℕ} {i : ℕ} {at : Context} → Ready l st s i at → Ready l st (unpaid u) i at
-  enter-ready r = rw (unpaid-is (enter-went left s h e)) r
+  pub enter-ready : {l st : List ℕ} {i : ℕ} → Ready l st s i at → Ready l st (unpaid u) i (inEntry at)
+  enter-ready r =
+      rw (unpaid-is (enter-went (at .left) s h e)) (record { thing = r .thing; shown = r .shown; within = record { meant = r .within .meant; known = r .within .known; room = r .within .room; held = r .within .held } })
 
-  pub enter-goes : {at : Context} {st st1 l l1 : List ℕ} {i : ℕ} {r : Answer} → ExpandedEntry (left - 1) at st st1 l l1 u i r → Expanded left at st st1 l l1 s i r
-  enter-goes {at} {st} {st1} {l} {l1} {i} {r} f =
-      let w = enter-went left s h e in
+  pub enter-goes : {st st1 l l1 : List ℕ} {i : ℕ} {r : Answer} → ExpandedEntry (inEntry at) st st1 l l1 u i r → Expanded at st st1 l l1 s i r
+  enter-goes {st} {st1} {l} {l1} {i} {r} f =
+      let w = enter-went (at .left) s h e in
       record {
         means = λ y g q k.
             let a = f .means y g (rw (top-is w) q) (rw (top-is w) k) in
-            let d : Agrees objects 1 twoCells l l1 s (bindsOf st1) (expandEntry (entries (left - 1)) (left - 1) (at .phase) g (scopesOf (at .prunable)) y (stateOf u (bindsOf st))) (ended r) = rw (unpaid-is w) at a in
-            rw (entry-goes (expand-entry (at .phase) g (scopesOf (at .prunable)) y) left s (bindsOf st) h e) d;
+            let d : Agrees objects 1 twoCells l l1 s (bindsOf st1) (expandEntry (entries (at .left - 1)) (at .left - 1) (at .phase) g (scopesOf (at .prunable)) y (stateOf u (bindsOf st))) (ended r) = rw (unpaid-is w) at a in
+            rw (entry-goes (expand-entry (at .phase) g (scopesOf (at .prunable)) y) (at .left) s (bindsOf st) h e) d;
       }
 
-pub enter-stops : {left : ℕ} {at : Context} {st : List ℕ} {s : State} {x : Charged} {f : Stop} {l : List ℕ} {i : ℕ} → x ≡ enterOf left s → x ≡ charged.Refused f
-    → Expanded left at st st l l s i (Refused f)
-enter-stops {left} {at} {st} {s} {f = f} h e =
-    record { means = λ y g q k. stops f (entry-refused (expand-entry (at .phase) g (scopesOf (at .prunable)) y) left s (bindsOf st) h e) }
+pub enter-stops : {at : Surroundings} {st : List ℕ} {s : State} {x : Charged} {f : Stop} {l : List ℕ} {i : ℕ} → x ≡ enterOf (at .left) s → x ≡ charged.Refused f
+    → Expanded at st st l l s i (Refused f)
+enter-stops {at} {st} {s} {f = f} h e =
+    record { means = λ y g q k. stops f (entry-refused (expand-entry (at .phase) g (scopesOf (at .prunable)) y) (at .left) s (bindsOf st) h e) }
 
 -- ---- an entry by its tag
 
-pub node-inside : {l st : List ℕ} (s : State) {i : ℕ} {at : Context} → Ready l st (unpaid s) i at → i + nodeSize ≤ length l
+pub node-inside : {l st : List ℕ} (s : State) {i : ℕ} {at : Surroundings} → Ready l st (unpaid s) i at → i + nodeSize ≤ length l
 unfolding unpaid
 node-inside s r = omega (arith, below (r .shown), r .within .room .fits)
 
@@ -156,7 +150,7 @@ symbol-at (is-atom {a = ob.prim n} a q y) e h = absurd (omega (arith, tag-is e q
 symbol-at (is-atom {a = ob.rung n} a q y) e h = absurd (omega (arith, tag-is e q, h))
 symbol-at (is-list a q y r) e h = absurd (omega (arith, tag-is e q, h))
 
-module _ {st l : List ℕ} (s : State) {i : ℕ} {at : Context} {o : Node} (e : o ≡ getNode l i) where
+module _ {st l : List ℕ} (s : State) {i : ℕ} {at : Surroundings} {o : Node} (e : o ≡ getNode l i) where
   pub entry-list-ready : Ready l st (unpaid s) i at → o .tag ≡ listTag → ReadyChain l st (unpaid s) i (o .content) at
   entry-list-ready r h =
       let q = list-at (r .shown) e h in
@@ -167,29 +161,29 @@ module _ {st l : List ℕ} (s : State) {i : ℕ} {at : Context} {o : Node} (e : 
       let q = symbol-at (r .shown) e h in
       record { sets = q .0; symb = q .1 .0; shown = rw (q .1 .1) at (r .shown); within = r .within }
 
-  module _ {left : ℕ} {l1 : List ℕ} {r : Answer} where
-    pub entry-list : {st1 : List ℕ} → o .tag ≡ listTag → ExpandedList left at st st1 l l1 s i (o .content) r → ExpandedEntry left at st st1 l l1 s i r
+  module _ {l1 : List ℕ} {r : Answer} where
+    pub entry-list : {st1 : List ℕ} → o .tag ≡ listTag → ExpandedList at st st1 l l1 s i (o .content) r → ExpandedEntry at st st1 l l1 s i r
     entry-list h a =
         record { means = λ x g w k. let q = list-at w e h in rw (stx-is (q .is)) (a .means (q .sets) (q .parts) g (rw (q .is) at w) (q .shown) k) }
 
-  pub entry-name : {left : ℕ} {r : Answer} → o .tag ≡ 0 → ExpandedName at st l s i r → ExpandedEntry left at st st l l s i r
-  entry-name {left} h a =
+  pub entry-name : {r : Answer} → o .tag ≡ 0 → ExpandedName at st l s i r → ExpandedEntry at st st l l s i r
+  entry-name h a =
       record {
         means = λ x g w k.
             let q = symbol-at w e h in
             let w2 : Rep l (s .top) i (stx (atom (q .0) (symbol (q .1 .0)))) = rw (q .1 .1) at w in
-            rw (q .1 .1, entry-symbol (entries left) left (at .phase) g (scopesOf (at .prunable)) (stateOf s (bindsOf st)) (q .0) (q .1 .0)) (a .means (q .0) (q .1 .0) g w2 k);
+            rw (q .1 .1, entry-symbol (entries (at .left)) (at .left) (at .phase) g (scopesOf (at .prunable)) (stateOf s (bindsOf st)) (q .0) (q .1 .0)) (a .means (q .0) (q .1 .0) g w2 k);
       }
 
-  pub entry-other : {left : ℕ} → Ready l st (unpaid s) i at → ¬ (o .tag ≡ listTag) → ¬ (o .tag ≡ 0) → ExpandedEntry left at st st l l s i (Done (record { at = i; state = s }))
+  pub entry-other : Ready l st (unpaid s) i at → ¬ (o .tag ≡ listTag) → ¬ (o .tag ≡ 0) → ExpandedEntry at st st l l s i (Done (record { at = i; state = s }))
   unfolding unpaid
-  entry-other {left} r n5 n0 =
+  entry-other r n5 n0 =
       record {
         means = λ x g w k.
             let q = atom-at w e (omega (arith, stx-tag w e, n5)) in
-            let rule : expandEntry (entries left) left (at .phase) g (scopesOf (at .prunable)) x (stateOf s (bindsOf st)) ≡ ok x (stateOf s (bindsOf st)) =
-            ap (λ (v : Stx). expandEntry (entries left) left (at .phase) g (scopesOf (at .prunable)) v (stateOf s (bindsOf st))) (stx-is (q .is))
-            ∙ entry-atom (entries left) left (at .phase) g (scopesOf (at .prunable)) (stateOf s (bindsOf st)) (q .sets) (q .value) (λ t. n0 (q .tag ∙ t))
+            let rule : expandEntry (entries (at .left)) (at .left) (at .phase) g (scopesOf (at .prunable)) x (stateOf s (bindsOf st)) ≡ ok x (stateOf s (bindsOf st)) =
+            ap (λ (v : Stx). expandEntry (entries (at .left)) (at .left) (at .phase) g (scopesOf (at .prunable)) v (stateOf s (bindsOf st))) (stx-is (q .is))
+            ∙ entry-atom (entries (at .left)) (at .left) (at .phase) g (scopesOf (at .prunable)) (stateOf s (bindsOf st)) (q .sets) (q .value) (λ t. n0 (q .tag ∙ t))
             ∙ ap (λ (v : Stx). ok v (stateOf s (bindsOf st))) (sym (stx-is (q .is))) in
             gives _ (record {
               value = x;
@@ -201,15 +195,15 @@ module _ {st l : List ℕ} (s : State) {i : ℕ} {at : Context} {o : Node} (e : 
 
 -- ---- a list by its head's meaning
 
-same-form : (left ph : ℕ) (g : Env) (p : Scopes) (y : ms.State) {l l1 : List ℕ} {s : State} {b : Store} {x : Ended Out} (t : Tree) (k : Sets) {ps qs : Stxs} → ps ≡ qs
-    → Agrees objects 1 twoCells l l1 s b (expandMacro (entries left) left ph g p t (list k ps) y) x → Agrees objects 1 twoCells l l1 s b (expandMacro (entries left) left ph g p t (list k qs) y) x
-same-form left ph g p y t k e a = rw e at a
+same-form : (at : Surroundings) (g : Env) (y : ms.State) {l l1 : List ℕ} {s : State} {b : Store} {x : Ended Out} (t : Tree) (k : Sets) {ps qs : Stxs} → ps ≡ qs
+    → Agrees objects 1 twoCells l l1 s b (expandMacro (entries (at .left)) (at .left) (at .phase) g (scopesOf (at .prunable)) t (list k ps) y) x → Agrees objects 1 twoCells l l1 s b (expandMacro (entries (at .left)) (at .left) (at .phase) g (scopesOf (at .prunable)) t (list k qs) y) x
+same-form at g y t k e a = rw e at a
 
-pub list-empty : {left : ℕ} {at : Context} {st l : List ℕ} {s : State} {i c : ℕ} → c ≡ 0 → ExpandedList left at st st l l s i c (Refused (record { refusal = NoRule; units = s .units }))
-list-empty {left} {at} {st} {l} {s} h =
-    record { means = λ k ps g u w z. rw (nil-at ps w h) (stops _ (entry-empty (entries left) left (at .phase) g (scopesOf (at .prunable)) (stateOf s (bindsOf st)) k)) }
+pub list-empty : {at : Surroundings} {st l : List ℕ} {s : State} {i c : ℕ} → c ≡ 0 → ExpandedList at st st l l s i c (Refused (record { refusal = NoRule; units = s .units }))
+list-empty {at} {st} {l} {s} h =
+    record { means = λ k ps g u w z. rw (nil-at ps w h) (stops _ (entry-empty (entries (at .left)) (at .left) (at .phase) g (scopesOf (at .prunable)) (stateOf s (bindsOf st)) k)) }
 
-module _ {st l : List ℕ} (s : State) {i c : ℕ} {at : Context} where
+module _ {st l : List ℕ} (s : State) {i c : ℕ} {at : Surroundings} where
   pub list-inside : ReadyChain l st (unpaid s) i c at → ¬ (c ≡ 0) → c + cellSize ≤ length l
   unfolding unpaid
   list-inside r h = omega (arith, first-at (r .parts) (r .chain) h refl .cell .inside, r .within .room .fits)
@@ -221,6 +215,9 @@ module _ {st l : List ℕ} (s : State) {i c : ℕ} {at : Context} where
   pub list-held : ReadyChain l st (unpaid s) i c at → s .bindings * bindingSize ≤ length st
   unfolding unpaid
   list-held r = omega (arith, r .within .held .few, r .within .held .wide)
+
+  pub list-macro-held : ReadyChain l st (unpaid s) i c at → Held st s
+  list-macro-held r = within-paid s (r .within) .held
 
   module _ {x : Cell} (h : ¬ (c ≡ 0)) (e : x ≡ getCell l c) where
     pub list-head-seen : ReadyChain l st (unpaid s) i c at → Seen l (x .head)
@@ -244,110 +241,110 @@ module _ {st l : List ℕ} (s : State) {i c : ℕ} {at : Context} where
     list-let-ready r = let q = list-form-ready r in record { parts = q .others; shown = q .shown-others; within = r .within }
 
     module _ {w : Meaning} (p : MeansAt (at .phase) st (s .bindings) l (x .head) (at .meanings) w) where
-      pub list-macro-ready : {v : ℕ} → ReadyChain l st (unpaid s) i c at → w ≡ meant.Macro v → ReadyMacro l st s i v at
+      pub list-macro-ready : {v : ℕ} → ReadyChain l st (unpaid s) i c at → w ≡ meant.Macro v → ReadyMacro l s i v at
       unfolding unpaid
       list-macro-ready r z =
           let q = first-at (r .parts) (r .chain) h e in
           let g = on-macro (p .means (s .top) (q .first) (r .within .meant) (q .cell .shown) (r .within .known)) z in
-          record { value = g .value; thing = list (r .sets) (r .parts); shown = r .shown; shown-value = g .shown; within = within-paid s (r .within) }
+          let y = within-paid s (r .within) in
+          record { value = g .value; thing = list (r .sets) (r .parts); meant = y .meant; shown = r .shown; shown-value = g .shown; known = y .known; room = y .room; few = y .held .few }
 
-      module _ {left : ℕ} {st1 l1 : List ℕ} {r : Answer} where
-        pub list-lambda : w ≡ meant.Lambda → ExpandedLambda left at st st1 l l1 s i (x .head) (x .tail) r → ExpandedList left at st st1 l l1 s i c r
+      module _ {st1 l1 : List ℕ} {r : Answer} where
+        pub list-lambda : w ≡ meant.Lambda → ExpandedLambda at st st1 l l1 s i (x .head) (x .tail) r → ExpandedList at st st1 l l1 s i c r
         list-lambda z a =
             record {
               means = λ k ps g u v y.
                   let q = first-at ps v h e in
                   let m = on-lambda (p .means (s .top) (q .first) g (q .cell .shown) y) z in
-                  rw (q .is, list-means (entries left) left (at .phase) g (scopesOf (at .prunable)) (stateOf s (bindsOf st)) k (q .first) (q .others) m, form-lambda (entries left) left (at .phase) g (scopesOf (at .prunable)) (stateOf s (bindsOf st)) k (q .first) (q .others))
+                  rw (q .is, list-means (entries (at .left)) (at .left) (at .phase) g (scopesOf (at .prunable)) (stateOf s (bindsOf st)) k (q .first) (q .others) m, form-lambda (entries (at .left)) (at .left) (at .phase) g (scopesOf (at .prunable)) (stateOf s (bindsOf st)) k (q .first) (q .others))
                   (a .means k (q .first) (q .others) g (rw (q .is) at u) (q .cell .shown) (q .cell .shown-others) y);
             }
 
-        pub list-let-syntax : w ≡ meant.LetSyntax → ExpandedLetSyntax left at st st1 l l1 s (x .tail) r → ExpandedList left at st st1 l l1 s i c r
+        pub list-let-syntax : w ≡ meant.LetSyntax → ExpandedLetSyntax at st st1 l l1 s (x .tail) r → ExpandedList at st st1 l l1 s i c r
         list-let-syntax z a =
             record {
               means = λ k ps g u v y.
                   let q = first-at ps v h e in
                   let m = on-let-syntax (p .means (s .top) (q .first) g (q .cell .shown) y) z in
-                  rw (q .is, list-means (entries left) left (at .phase) g (scopesOf (at .prunable)) (stateOf s (bindsOf st)) k (q .first) (q .others) m, form-let-syntax (entries left) left (at .phase) g (scopesOf (at .prunable)) (stateOf s (bindsOf st)) k (q .first) (q .others))
+                  rw (q .is, list-means (entries (at .left)) (at .left) (at .phase) g (scopesOf (at .prunable)) (stateOf s (bindsOf st)) k (q .first) (q .others) m, form-let-syntax (entries (at .left)) (at .left) (at .phase) g (scopesOf (at .prunable)) (stateOf s (bindsOf st)) k (q .first) (q .others))
                   (a .means (q .others) g (q .cell .shown-others) y);
             }
 
-        pub list-variable : {j : ℕ} → w ≡ meant.Variable j → ExpandedApplication left at st st1 l l1 s i c r → ExpandedList left at st st1 l l1 s i c r
+        pub list-variable : {j : ℕ} → w ≡ meant.Variable j → ExpandedApplication at st st1 l l1 s i c r → ExpandedList at st st1 l l1 s i c r
         list-variable z a =
             record {
               means = λ k ps g u v y.
                   let q = first-at ps v h e in
                   let m = on-variable (p .means (s .top) (q .first) g (q .cell .shown) y) z in
                   let d = a .means k ps g u v y in
-                  rw (q .is, list-means (entries left) left (at .phase) g (scopesOf (at .prunable)) (stateOf s (bindsOf st)) k (q .first) (q .others) (m .is), form-variable (entries left) left (at .phase) g (scopesOf (at .prunable)) (stateOf s (bindsOf st)) k (q .first) (q .others) (m .sets) (m .symb))
+                  rw (q .is, list-means (entries (at .left)) (at .left) (at .phase) g (scopesOf (at .prunable)) (stateOf s (bindsOf st)) k (q .first) (q .others) (m .is), form-variable (entries (at .left)) (at .left) (at .phase) g (scopesOf (at .prunable)) (stateOf s (bindsOf st)) k (q .first) (q .others) (m .sets) (m .symb))
                   (rw (q .is) at d);
             }
 
-        pub list-unknown : w ≡ meant.Unknown → ExpandedApplication left at st st1 l l1 s i c r → ExpandedList left at st st1 l l1 s i c r
+        pub list-unknown : w ≡ meant.Unknown → ExpandedApplication at st st1 l l1 s i c r → ExpandedList at st st1 l l1 s i c r
         list-unknown z a =
             record {
               means = λ k ps g u v y.
                   let q = first-at ps v h e in
                   let m = on-unknown (p .means (s .top) (q .first) g (q .cell .shown) y) z in
                   let d = a .means k ps g u v y in
-                  rw (q .is, list-means (entries left) left (at .phase) g (scopesOf (at .prunable)) (stateOf s (bindsOf st)) k (q .first) (q .others) m, form-unknown (entries left) left (at .phase) g (scopesOf (at .prunable)) (stateOf s (bindsOf st)) k (q .first) (q .others))
+                  rw (q .is, list-means (entries (at .left)) (at .left) (at .phase) g (scopesOf (at .prunable)) (stateOf s (bindsOf st)) k (q .first) (q .others) m, form-unknown (entries (at .left)) (at .left) (at .phase) g (scopesOf (at .prunable)) (stateOf s (bindsOf st)) k (q .first) (q .others))
                   (rw (q .is) at d);
             }
 
-        pub list-macro : {j : ℕ} → w ≡ meant.Macro j → ExpandedMacro left at st st1 l l1 s i j r → ExpandedList left at st st1 l l1 s i c r
+        pub list-macro : {j : ℕ} → w ≡ meant.Macro j → ExpandedMacro at st st1 l l1 s i j r → ExpandedList at st st1 l l1 s i c r
         list-macro z a =
             record {
               means = λ k ps g u v y.
                   let q = first-at ps v h e in
                   let m = on-macro (p .means (s .top) (q .first) g (q .cell .shown) y) z in
                   let d = a .means (list k ps) (m .value) g u (m .shown) y in
-                  rw (q .is, list-means (entries left) left (at .phase) g (scopesOf (at .prunable)) (stateOf s (bindsOf st)) k (q .first) (q .others) (m .is), form-macro (entries left) left (at .phase) g (scopesOf (at .prunable)) (stateOf s (bindsOf st)) k (q .first) (q .others) (m .value))
-                  (same-form left (at .phase) g (scopesOf (at .prunable)) (stateOf s (bindsOf st)) (m .value) k (q .is) (beyond 1 twoCells 0 1 (later-refl l s) (owes-none s) (owes-one s) (omega arith) (omega arith) refl d));
+                  rw (q .is, list-means (entries (at .left)) (at .left) (at .phase) g (scopesOf (at .prunable)) (stateOf s (bindsOf st)) k (q .first) (q .others) (m .is), form-macro (entries (at .left)) (at .left) (at .phase) g (scopesOf (at .prunable)) (stateOf s (bindsOf st)) k (q .first) (q .others) (m .value))
+                  (same-form at g (stateOf s (bindsOf st)) (m .value) k (q .is) (beyond 1 twoCells 0 1 (later-refl l s) (owes-none s) (owes-one s) (omega arith) (omega arith) refl d));
             }
 
-      module _ {left : ℕ} where
-        pub list-quote : {r : Answer} → w ≡ meant.Quote → ExpandedQuote l s i (x .tail) r → ExpandedList left at st st l l s i c r
-        list-quote z a =
-            record {
-              means = λ k ps g u v y.
-                  let q = first-at ps v h e in
-                  let m = on-quote (p .means (s .top) (q .first) g (q .cell .shown) y) z in
-                  rw (q .is, list-means (entries left) left (at .phase) g (scopesOf (at .prunable)) (stateOf s (bindsOf st)) k (q .first) (q .others) m, form-quote (entries left) left (at .phase) g (scopesOf (at .prunable)) (stateOf s (bindsOf st)) k (q .first) (q .others))
-                  (a .means (bindsOf st) (list k (cons (q .first) (q .others))) (q .others) (rw (q .is) at u) (q .cell .shown-others));
-            }
+      pub list-quote : {r : Answer} → w ≡ meant.Quote → ExpandedQuote l s i (x .tail) r → ExpandedList at st st l l s i c r
+      list-quote z a =
+          record {
+            means = λ k ps g u v y.
+                let q = first-at ps v h e in
+                let m = on-quote (p .means (s .top) (q .first) g (q .cell .shown) y) z in
+                rw (q .is, list-means (entries (at .left)) (at .left) (at .phase) g (scopesOf (at .prunable)) (stateOf s (bindsOf st)) k (q .first) (q .others) m, form-quote (entries (at .left)) (at .left) (at .phase) g (scopesOf (at .prunable)) (stateOf s (bindsOf st)) k (q .first) (q .others))
+                (a .means (bindsOf st) (list k (cons (q .first) (q .others))) (q .others) (rw (q .is) at u) (q .cell .shown-others));
+          }
 
-        pub list-syntax : {l1 : List ℕ} {r : Answer} → w ≡ meant.Syntax → ExpandedSyntax (at .phase) (scopesOf (at .prunable)) l l1 s i (x .head) (x .tail) r → ExpandedList left at st st l l1 s i c r
-        list-syntax z a =
-            record {
-              means = λ k ps g u v y.
-                  let q = first-at ps v h e in
-                  let m = on-syntax (p .means (s .top) (q .first) g (q .cell .shown) y) z in
-                  rw (q .is, list-means (entries left) left (at .phase) g (scopesOf (at .prunable)) (stateOf s (bindsOf st)) k (q .first) (q .others) m, form-syntax (entries left) left (at .phase) g (scopesOf (at .prunable)) (stateOf s (bindsOf st)) k (q .first) (q .others))
-                  (a .means (bindsOf st) k (q .first) (q .others) (rw (q .is) at u) (q .cell .shown) (q .cell .shown-others));
-            }
+      pub list-syntax : {l1 : List ℕ} {r : Answer} → w ≡ meant.Syntax → ExpandedSyntax at l l1 s i (x .head) (x .tail) r → ExpandedList at st st l l1 s i c r
+      list-syntax z a =
+          record {
+            means = λ k ps g u v y.
+                let q = first-at ps v h e in
+                let m = on-syntax (p .means (s .top) (q .first) g (q .cell .shown) y) z in
+                rw (q .is, list-means (entries (at .left)) (at .left) (at .phase) g (scopesOf (at .prunable)) (stateOf s (bindsOf st)) k (q .first) (q .others) m, form-syntax (entries (at .left)) (at .left) (at .phase) g (scopesOf (at .prunable)) (stateOf s (bindsOf st)) k (q .first) (q .others))
+                (a .means (bindsOf st) k (q .first) (q .others) (rw (q .is) at u) (q .cell .shown) (q .cell .shown-others));
+          }
 
-        pub list-is-unclear : w ≡ meant.Unclear → ExpandedList left at st st l l s i c (Refused (record { refusal = Ambiguous; units = s .units }))
-        list-is-unclear z =
-            record {
-              means = λ k ps g u v y.
-                  let q = first-at ps v h e in
-                  rw (q .is) (stops _ (list-unclear (entries left) left (at .phase) g (scopesOf (at .prunable)) (stateOf s (bindsOf st)) k (q .first) (q .others) (on-meaning-unclear (p .means (s .top) (q .first) g (q .cell .shown) y) z)));
-            }
+      pub list-is-unclear : w ≡ meant.Unclear → ExpandedList at st st l l s i c (Refused (record { refusal = Ambiguous; units = s .units }))
+      list-is-unclear z =
+          record {
+            means = λ k ps g u v y.
+                let q = first-at ps v h e in
+                rw (q .is) (stops _ (list-unclear (entries (at .left)) (at .left) (at .phase) g (scopesOf (at .prunable)) (stateOf s (bindsOf st)) k (q .first) (q .others) (on-meaning-unclear (p .means (s .top) (q .first) g (q .cell .shown) y) z)));
+          }
 
 -- ---- application
 
-pub application-parts : {st l : List ℕ} (s : State) {i c : ℕ} {at : Context} → ReadyChain l st (unpaid s) i c at → ReadyParts l st s c at
+pub application-parts : {st l : List ℕ} (s : State) {i c : ℕ} {at : Surroundings} → ReadyChain l st (unpaid s) i c at → ReadyParts l st s c at
 unfolding unpaid
 application-parts s r = record { parts = r .parts; shown = r .chain; within = within-paid s (r .within) }
 
-module _ {left : ℕ} {at : Context} {st st1 l l1 : List ℕ} (s : State) {c : ℕ} {a : Answer} (v : ExpandedParts left at st st1 l l1 s c a) where
-  pub application-refused : {i : ℕ} {f : Stop} → a ≡ Refused f → ExpandedApplication left at st st1 l l1 s i c (Refused f)
+module _ {at : Surroundings} {st st1 l l1 : List ℕ} (s : State) {c : ℕ} {a : Answer} (v : ExpandedParts at st st1 l l1 s c a) where
+  pub application-refused : {i : ℕ} {f : Stop} → a ≡ Refused f → ExpandedApplication at st st1 l l1 s i c (Refused f)
   unfolding expandApplication
   application-refused e = record { means = λ k ps g u w y. stops _ (then-no _ (on-refused (v .means ps g w y) (ap ended e))) }
 
   module _ {o : Out} (e : a ≡ Done o) where
     parts-gave : (ps : Stxs) (g : Env) → RepP l (s .top) c (fromStxs ps) → RepE l (s .top) (at .meanings) g
-        → Gave partsOf 0 0 l l1 s (bindsOf st1) (expandAll (entries left (at .phase) g (scopesOf (at .prunable))) ps (stateOf s (bindsOf st))) o
+        → Gave partsOf 0 0 l l1 s (bindsOf st1) (expandAll (entries (at .left) (at .phase) g (scopesOf (at .prunable))) ps (stateOf s (bindsOf st))) o
     parts-gave ps g w y = on-done (v .means ps g w y) (ap ended e)
 
     pub application-list : {i : ℕ} → ReadyChain l st (unpaid s) i c at → length l1 ≡ length l → ReadyList l1 (o .state) i (o .at)
@@ -365,7 +362,7 @@ module _ {left : ℕ} {at : Context} {st st1 l l1 : List ℕ} (s : State) {c : �
           few = g .shown .few;
         }
 
-    pub application-made : {i : ℕ} {l2 : List ℕ} {q : Answer} → Lists l1 l2 (o .state) i (o .at) q → ExpandedApplication left at st st1 l l2 s i c q
+    pub application-made : {i : ℕ} {l2 : List ℕ} {q : Answer} → Lists l1 l2 (o .state) i (o .at) q → ExpandedApplication at st st1 l l2 s i c q
     unfolding expandApplication
     application-made d =
         record {
@@ -374,91 +371,46 @@ module _ {left : ℕ} {at : Context} {st st1 l l1 : List ℕ} (s : State) {c : �
               beyond 1 twoCells 1 1 (t .later) (owes-one (o .state)) (owes-one s) (omega arith) (omega arith) (then-ok _ (t .is)) (d .means (bindsOf st1) k ps (t .value) (carry u (t .later .kept) (t .later .grows)) (t .shown .rep));
         }
 
--- ---- scoped
+-- ---- what is expanded next
 
-pub scoped-add-ready : {l st : List ℕ} {s : State} {kind thing body : ℕ} {at : Context} → ReadyScoped l st s kind thing body at → ReadyObject l s body
-scoped-add-ready r = record { thing = r .object; shown = r .shown-body; room = r .within .room; few = r .within .held .few }
+module _ {l st : List ℕ} {x : Onward} (r : ReadyOnward l st x) {o : Next} (e : x ≡ onward.Done o) where
+  pub in-place-declared : Declared (o .scope)
+  in-place-declared = r .next o e .shown .declared
 
-module _ {l l1 : List ℕ} {s : State} {body : ℕ} {h : Stx → Stx} {a : Answer} (v : Changes h l l1 s body a) {o : Out} (e : a ≡ Done o) where
-  added : (b : Store) (y : Stx) → Rep l (s .top) body (stx y) → Gave objects 1 nodeSpare l l1 s b (changeRule h y (stateOf s b)) o
-  added b y u = on-done (v .means b y u) (ap ended e)
+  pub in-place-ready : {left ph : ℕ} {p : ScopeSet} → Ready l st (o .state) (o .at) (record { left = left; phase = ph; meanings = o .meanings; prunable = p })
+  in-place-ready =
+      let q = r .next o e in
+      record { thing = q .further .object; shown = q .shown .rep; within = record { meant = q .further .meant; known = q .shown .known; room = q .room; held = q .held } }
 
-  pub scoped-inner-ready : {st : List ℕ} {kind thing : ℕ} {at : Context} → ReadyScoped l st s kind thing body at → length l1 ≡ length l → ReadyInner l1 st (o .state) kind thing (o .at) at
-  scoped-inner-ready r len =
-      let g = added (λ n. []) (r .object) (r .shown-body) in
-      record {
-        scoped = record {
-          meaning = r .meaning;
-          object = g .value;
-          shown = carryM (r .shown) (g .later .kept) (g .later .grows);
-          shown-body = g .shown .rep;
-          within = within-later (r .within) (g .later) (g .shown .few) len refl;
-        };
-        cell = omega (arith, g .later .fits, r .within .room .fits, len);
-      }
+pub in-place-less : {x : Onward} {o : Next} {T : ℕ} → x ≡ onward.Done o → unitsOf x * 32 + 1 ≡ T → o .state .units * 32 < T
+in-place-less e z = omega (arith, ap unitsOf e)
 
-  pub scoped-less : {st : List ℕ} {kind thing : ℕ} {at : Context} {T : ℕ} → ReadyScoped l st s kind thing body at → s .units * 32 + 15 ≡ T → o .state .units * 32 + 14 < T
-  scoped-less r z = let g = added (λ n. []) (r .object) (r .shown-body) in omega (arith, g .later .spent)
+pub in-place-refused : {at : Surroundings} {st l : List ℕ} {x : Onward} {f : Stop} → x ≡ onward.Refused f → ExpandedOnward at st st l l x (Refused f)
+in-place-refused {f = f} e = record {
+  means = λ o k h w. let z : _≡_ {A = ℕ} 0 1 = cc in absurd (omega arith);
+  refused = λ g h. let z : f ≡ g = cc in rw z refl;
+}
 
-module _ (at : Context) (d : Scope) {st l l1 : List ℕ} {s : State} {body : ℕ} {a : Answer} (v : Changes (addScope (d .0) (at .phase)) l l1 s body a) where
-  pub scoped-refused : {left n kind thing : ℕ} {f : Stop} → a ≡ Refused f → ExpandedScoped left at st st l l1 s n (d .0) kind thing body (Refused f)
-  unfolding scopedRule addTo changeRule
-  scoped-refused e = record { means = λ w y g p u k. stops _ (then-no _ (on-refused (v .means (bindsOf st) y u) (ap ended e))) }
-
-  pub scoped-inner : {left n kind thing : ℕ} {st1 l2 : List ℕ} {o : Out} {q : Answer} → a ≡ Done o → ExpandedInner left at st st1 l1 l2 (o .state) n (d .0) kind thing (o .at) q → ExpandedScoped left at st st1 l l2 s n (d .0) kind thing body q
-  unfolding scopedRule addTo changeRule
-  scoped-inner {o = o} e f =
-      record {
-        means = λ w y g p u k.
-            let t = added v e (bindsOf st) y u in
-            beyond 2 nodeSpare 1 0 (t .later) (owes-one (o .state)) (owes-none s) (omega arith) (omega arith) (then-ok _ (t .is))
-            (f .means w (t .value) g (carryM p (t .later .kept) (t .later .grows)) (t .shown .rep) (carryE k (t .later .kept) (t .later .grows)));
-      }
-
--- ---- inner
-
-pub inner-less : (s : State) {t : State} {n T : ℕ} → t ≡ raisedTo n s → s .units * 32 + 14 ≡ T → t .units * 32 < T
-inner-less s e z = omega (arith, ap (λ (y : State). y .units) e)
-
-pub inner-roomy : {l st : List ℕ} {s : State} {kind thing body : ℕ} {at : Context} → ReadyInner l st s kind thing body at → Roomy l (s .top) cellSize
-inner-roomy r = record { fits = omega (arith, r .cell); small = r .scoped .within .room .small; low = r .scoped .within .room .low }
-
-module _ {l l1 : List ℕ} {s : State} {n : Name} {kind thing : ℕ} {at : Context} {k : Made} (x : Extended l l1 (s .top) (n .0) kind thing (at .meanings) (k .at) (k .top)) {t : State} (e : t ≡ raisedTo (k .top) s) {p : ScopeSet} where
-  pub inner-expand-ready : {st : List ℕ} {body : ℕ} → ReadyInner l st s kind thing body at → length l1 ≡ length l → Ready l1 st t body (record { phase = at .phase; meanings = k .at; prunable = p })
-  inner-expand-ready r len =
-      rw e (record {
-        thing = r .scoped .object;
-        shown = carry (r .scoped .shown-body) (x .kept) (omega (arith, x .grows));
-        within = record {
-          meant = m.extend (n .0) (r .scoped .meaning) (r .scoped .within .meant);
-          known = x .means (r .scoped .meaning) (r .scoped .within .meant) (r .scoped .shown) (r .scoped .within .known);
-          room = record { fits = omega (arith, x .grows, r .cell, len); small = omega (arith, r .scoped .within .room .small, len); low = omega (arith, r .scoped .within .room .low, x .grows) };
-          held = record { few = r .scoped .within .held .few; wide = r .scoped .within .held .wide };
-        };
-      })
-
-  pub inner-expanded : {left : ℕ} {d : Scope} {st st1 l2 : List ℕ} {body : ℕ} {q : Answer} → scopesOf p ≡ add (d .0) (scopesOf (at .prunable)) → Expanded left (record { phase = at .phase; meanings = k .at; prunable = p }) st st1 l1 l2 t body q
-      → ExpandedInner left at st st1 l l2 s (n .0) (d .0) kind thing body q
-  unfolding unpaid
-  inner-expanded {left} {d} {st} {st1} {l2} {body} {q} f a =
-      let a2 : Expanded left (record { phase = at .phase; meanings = k .at; prunable = p }) st st1 l1 l2 (raisedTo (k .top) s) body q = rw e at a in
-      let on : Later 1 cellSpare l l1 (unpaid s) (raisedTo (k .top) s) = record { kept = x .kept; grows = omega (arith, x .grows); fits = omega (arith, x .grows); spent = omega arith } in
-      record {
-        means = λ w y g z u v.
-            let b = a2 .means y (m.extend (n .0) w g) (carry u (x .kept) (omega (arith, x .grows))) (x .means w g z v) in
-            since 2 unitSize on (omega arith) (omega arith)
-            (ap (λ (c : Scopes). expand left (at .phase) (m.extend (n .0) w g) c y (stateOf s (bindsOf st))) (sym f)) b;
-      }
+pub in-place-expanded : {at : Surroundings} {st st1 l l1 : List ℕ} {x : Onward} {o : Next} {p : ScopeSet} {r : Answer} → x ≡ onward.Done o → scopesOf p ≡ add (o .scope .0) (scopesOf (at .prunable))
+    → Expanded (record { left = at .left; phase = at .phase; meanings = o .meanings; prunable = p }) st st1 l l1 (o .state) (o .at) r → ExpandedOnward at st st1 l l1 x r
+in-place-expanded {at} {st} {st1} {l} {l1} {x} {o} {p} {r} e wider a = record {
+  means = λ n k h w.
+      let same : o ≡ n = cc in
+      let v : ShownNext l o k = rw same w in
+      let pruned : scopesOf p ≡ add (k .scope) (scopesOf (at .prunable)) = wider ∙ ap (λ (c : ℕ). add c (scopesOf (at .prunable))) (v .scope) in
+      rw same at (rw pruned at (a .means (k .object) (k .meant) (v .rep) (v .known)));
+  refused = λ g h. let z : _≡_ {A = ℕ} 0 1 = cc in absurd (omega arith);
+}
 
 -- ---- lambda
 
-module _ {st l : List ℕ} (s : State) {i head tail : ℕ} {at : Context} where
+module _ {st l : List ℕ} (s : State) {i head tail : ℕ} {at : Surroundings} where
   pub lambda-seen : ReadyForm l st (unpaid s) i head tail at → SeenP l tail
   unfolding unpaid
   lambda-seen r = record { top = s .top; thing = fromStxs (r .others); shown = r .shown-others; inside = omega (arith, r .within .room .fits); small = r .within .room .small }
 
   module _ {d : Two} (h : Double l tail d) where
-    pub lambda-shape : {left : ℕ} → d ≡ two.Not → ExpandedLambda left at st st l l s i head tail (Refused (record { refusal = NoRule; units = s .units }))
+    pub lambda-shape : d ≡ two.Not → ExpandedLambda at st st l l s i head tail (Refused (record { refusal = NoRule; units = s .units }))
     unfolding expandLambda
     lambda-shape e = record { means = λ k y ps g u v w z. stops _ (not-parts2 ps _ (stateOf s (bindsOf st)) (on-not-two (h .means (s .top) ps w) e)) }
 
@@ -470,7 +422,7 @@ module _ {st l : List ℕ} (s : State) {i head tail : ℕ} {at : Context} where
           record { top = s .top; thing = stx (q .first); shown = q .shown; inside = omega (arith, r .within .room .fits); small = r .within .room .small }
 
       module _ {z : Bool} (f : Identifies l a z) where
-        pub lambda-no-id : {left : ℕ} → z ≡ false → ExpandedLambda left at st st l l s i head tail (Refused (record { refusal = NoRule; units = s .units }))
+        pub lambda-no-id : z ≡ false → ExpandedLambda at st st l l s i head tail (Refused (record { refusal = NoRule; units = s .units }))
         unfolding expandLambda parts2
         lambda-no-id t =
             record {
@@ -498,7 +450,7 @@ module _ {st l : List ℕ} (s : State) {i head tail : ℕ} {at : Context} where
                 within = r .within;
               }
 
-          pub lambda-function : {left : ℕ} {st1 l1 : List ℕ} {r : Answer} → ExpandedFunction left at st st1 l l1 s i head a b r → ExpandedLambda left at st st1 l l1 s i head tail r
+          pub lambda-function : {st1 l1 : List ℕ} {r : Answer} → ExpandedFunction at st st1 l l1 s i head a b r → ExpandedLambda at st st1 l l1 s i head tail r
           unfolding expandLambda parts2 identifier
           lambda-function p =
               record {
@@ -510,15 +462,15 @@ module _ {st l : List ℕ} (s : State) {i head tail : ℕ} {at : Context} where
 
 -- ---- function
 
-module _ {st l : List ℕ} (s : State) {i head id body : ℕ} {at : Context} (r : ReadyFunction l st (unpaid s) i head id body at) where
+module _ {st l : List ℕ} (s : State) {i head id body : ℕ} {at : Surroundings} (r : ReadyFunction l st (unpaid s) i head id body at) where
   pub function-binder-ready : ReadyBinder l st s id
   unfolding unpaid
   function-binder-ready = let w = within-paid s (r .within) in record { sets = r .binder; symb = r .symb; shown = r .shown-id; room = w .room; held = w .held }
 
   module _ {st1 l1 : List ℕ} {z : Bound} (v : BindsFresh (at .phase) st st1 l l1 s id z) where
-    pub function-refused : {left : ℕ} {f : Stop} → z ≡ bounds.Refused f → ExpandedFunction left at st st1 l l1 s i head id body (Refused f)
-    function-refused {left} e =
-        record { means = λ k qs h c x y g u w a b t. stops _ (function-split (entries left) left (at .phase) g (scopesOf (at .prunable)) (stateOf s (bindsOf st)) k h c x y ∙ then-no _ (on-refused (v .means c x a) (ap boundOf e))) }
+    pub function-refused : {f : Stop} → z ≡ bounds.Refused f → ExpandedFunction at st st1 l l1 s i head id body (Refused f)
+    function-refused e =
+        record { means = λ k qs h c x y g u w a b t. stops _ (function-split (entries (at .left)) (at .left) (at .phase) g (scopesOf (at .prunable)) (stateOf s (bindsOf st)) k h c x y ∙ then-no _ (on-refused (v .means c x a) (ap boundOf e))) }
 
     module _ {o : Binder} (e : z ≡ bounds.Done o) where
       bound-to : (c : Sets) (x : ℕ) → Rep l (s .top) id (stx (atom c (symbol x))) → Gave (binders x) 1 nodeSpare l l1 s (bindsOf st1) (bindFresh (at .phase) c x (stateOf s (bindsOf st))) o
@@ -553,73 +505,101 @@ module _ {st l : List ℕ} (s : State) {i head id body : ℕ} {at : Context} (r 
             free = omega (arith, g .later .fits, r .within .room .fits, len);
           }
 
-      pub function-abstraction : {left : ℕ} {st2 l2 : List ℕ} {q : Answer} → ExpandedAbstraction left at st1 st2 l1 l2 (o .state) i head (o .name .0) (o .scope .0) (o .at) body q → ExpandedFunction left at st st2 l l2 s i head id body q
-      function-abstraction {left} {st2} {l2} {q} f =
+      pub function-abstraction : {st2 l2 : List ℕ} {q : Answer} → ExpandedAbstraction at st1 st2 l1 l2 o i head body q → ExpandedFunction at st st2 l l2 s i head id body q
+      function-abstraction {st2} {l2} {q} f =
           record {
             means = λ k qs h c x y g u w a b t.
                 let j = bound-to c x a in
                 let d = f .means k qs h (j .value .sets) x y g (carry u (j .later .kept) (j .later .grows)) (carry w (j .later .kept) (j .later .grows)) (j .shown .rep) (carry b (j .later .kept) (j .later .grows)) (carryE t (j .later .kept) (j .later .grows)) in
-                let named : abstractionRule (entries left) (at .phase) g (scopesOf (at .prunable)) k h (j .value .name) (j .value .scope) (j .value .sets) x y (stateOf (o .state) (bindsOf st1))
-                ≡ abstractionRule (entries left) (at .phase) g (scopesOf (at .prunable)) k h (o .name .0) (o .scope .0) (j .value .sets) x y (stateOf (o .state) (bindsOf st1)) =
-                λ n. abstractionRule (entries left) (at .phase) g (scopesOf (at .prunable)) k h ((sym (j .shown .name)) n) ((sym (j .shown .scope)) n) (j .value .sets) x y (stateOf (o .state) (bindsOf st1)) in
+                let named : abstractionRule (entries (at .left)) (at .phase) g (scopesOf (at .prunable)) k h (j .value .name) (j .value .scope) (j .value .sets) x y (stateOf (o .state) (bindsOf st1))
+                ≡ abstractionRule (entries (at .left)) (at .phase) g (scopesOf (at .prunable)) k h (o .name .0) (o .scope .0) (j .value .sets) x y (stateOf (o .state) (bindsOf st1)) =
+                λ n. abstractionRule (entries (at .left)) (at .phase) g (scopesOf (at .prunable)) k h ((sym (j .shown .name)) n) ((sym (j .shown .scope)) n) (j .value .sets) x y (stateOf (o .state) (bindsOf st1)) in
                 beyond 1 twoCells 2 1 (j .later) (owes-two (o .state)) (owes-one s) (omega arith) (omega arith)
-                (function-split (entries left) left (at .phase) g (scopesOf (at .prunable)) (stateOf s (bindsOf st)) k h c x y ∙ then-ok _ (j .is) ∙ named) d;
+                (function-split (entries (at .left)) (at .left) (at .phase) g (scopesOf (at .prunable)) (stateOf s (bindsOf st)) k h c x y ∙ then-ok _ (j .is) ∙ named) d;
           }
 
 -- ---- abstraction
 
-pub abstraction-scoped-ready : {l st : List ℕ} {s : State} {i head id body : ℕ} {at : Context} → ReadyAbstraction l st s i head id body at → ReadyScoped l st s 0 id body at
+pub abstraction-scoped-ready : {l st : List ℕ} {s : State} {i head id body : ℕ} {at : Surroundings} → ReadyAbstraction l st s i head id body at → ReadyScoped l s 0 id body at
 abstraction-scoped-ready r =
-    record { meaning = variable (r .function .binder) (r .function .symb); object = r .function .thing; shown = meant-variable (r .function .shown-id); shown-body = r .function .shown-body; within = r .function .within }
+    let f = r .function in
+    record {
+      meaning = variable (f .binder) (f .symb);
+      object = f .thing;
+      meant = f .within .meant;
+      shown = meant-variable (f .shown-id);
+      shown-body = f .shown-body;
+      known = f .within .known;
+      room = f .within .room;
+      few = f .within .held .few;
+    }
 
-module _ {left : ℕ} {at : Context} {st st1 l l1 : List ℕ} {s : State} {n d id body : ℕ} {a : Answer} (v : ExpandedScoped left at st st1 l l1 s n d 0 id body a) where
-  pub abstraction-refused : {i head : ℕ} {f : Stop} → a ≡ Refused f → ExpandedAbstraction left at st st1 l l1 s i head n d id body (Refused f)
-  unfolding abstractionRule
-  abstraction-refused e = record { means = λ k qs h c x y g u w p b t. stops _ (then-no _ (on-refused (v .means (variable c x) y g (meant-variable p) b t) (ap ended e))) }
+module _ {at : Surroundings} {l l1 : List ℕ} {b : Binder} {body : ℕ} {x : Onward} (v : Scoped at l l1 (b .state) b 0 (b .at) body x) where
+  module _ {st : List ℕ} {i head : ℕ} (r : ReadyAbstraction l st (b .state) i head (b .at) body at) where
+    inside : Agrees nexts 1 cellSize l l1 (b .state) (bindsOf st) (scopedRule (at .phase) (r .function .within .meant) (b .name .0) (b .scope .0) (variable (r .function .binder) (r .function .symb)) (r .function .thing) (stateOf (b .state) (bindsOf st))) (onwardOf x)
+    inside = let f = r .function in v .means (bindsOf st) (variable (f .binder) (f .symb)) (f .thing) (f .within .meant) (meant-variable (f .shown-id)) (f .shown-body) (f .within .known)
 
-  module _ {o : Out} (e : a ≡ Done o) where
-    scoped-to : (c : Sets) (x : ℕ) (y : Stx) (g : Env) → Rep l (s .top) id (stx (atom c (symbol x))) → Rep l (s .top) body (stx y) → RepE l (s .top) (at .meanings) g
-        → Gave objects 2 nodeSpare l l1 s (bindsOf st1) (scopedRule (entries left) (at .phase) g (scopesOf (at .prunable)) n d (variable c x) y (stateOf s (bindsOf st))) o
-    scoped-to c x y g p b t = on-done (v .means (variable c x) y g (meant-variable p) b t) (ap ended e)
+    pub abstraction-next-ready : length l1 ≡ length l → ReadyOnward l1 st x
+    abstraction-next-ready len = onward-ready inside (r .function .within .room) (r .function .within .held) len refl
 
-    pub abstraction-three-ready : {i head : ℕ} → ReadyAbstraction l st s i head id body at → length l1 ≡ length l → ReadyThree l1 (o .state) i head id (o .at)
-    abstraction-three-ready r len =
-        let f = r .function in
-        let g = scoped-to (f .binder) (f .symb) (f .thing) (f .within .meant) (f .shown-id) (f .shown-body) (f .within .known) in
-        record {
-          sets = f .sets;
-          old = f .old;
-          first = f .first;
-          second = atom (f .binder) (symbol (f .symb));
-          third = g .value;
-          shown = carry (f .shown) (g .later .kept) (g .later .grows);
-          shown-first = carry (f .shown-first) (g .later .kept) (g .later .grows);
-          shown-second = carry (f .shown-id) (g .later .kept) (g .later .grows);
-          shown-third = g .shown .rep;
-          room = room-later (f .within .room) (g .later) len;
-          free = omega (arith, g .later .fits, r .free, len);
-          few = g .shown .few;
-        }
+    pub abstraction-less : {T : ℕ} → b .state .units * 32 + 16 ≡ T → unitsOf x * 32 + 1 < T
+    abstraction-less z = omega (arith, onward-less x inside)
 
-    pub abstraction-made : {i head : ℕ} {l2 : List ℕ} {q : Answer} → ThreeLists l1 l2 (o .state) i head id (o .at) q → ExpandedAbstraction left at st st1 l l2 s i head n d id body q
+  module _ {st st1 l2 : List ℕ} {a : Answer} (w : ExpandedOnward at st st1 l1 l2 x a) where
+    abstraction-goes : (c : Sets) (n : ℕ) (y : Stx) (g : Env) → Rep l (b .state .top) (b .at) (stx (atom c (symbol n))) → Rep l (b .state .top) body (stx y) → RepE l (b .state .top) (at .meanings) g
+        → Agrees objects 2 nodeSpare l l2 (b .state) (bindsOf st1)
+        (after (scopedRule (at .phase) g (b .name .0) (b .scope .0) (variable c n) y (stateOf (b .state) (bindsOf st))) (furtherRule (entries (at .left)) (at .phase) (scopesOf (at .prunable)))) (ended a)
+    abstraction-goes c n y g p q t = onward-goes x (v .means (bindsOf st) (variable c n) y g (meant-variable p) q t) w
+
+    pub abstraction-refused : {i head : ℕ} {f : Stop} → a ≡ Refused f → ExpandedAbstraction at st st1 l l2 b i head body (Refused f)
     unfolding abstractionRule
-    abstraction-made f =
-        record {
-          means = λ k qs h c x y g u w p b t.
-              let j = scoped-to c x y g p b t in
-              beyond 2 (nodeSpare + tripleSpare) 2 2 (j .later) (owes-two (o .state)) (owes-two s) (omega arith) (omega arith) (then-ok _ (j .is))
-              (f .means (bindsOf st1) k qs h (atom c (symbol x)) (j .value) (carry u (j .later .kept) (j .later .grows)) (carry w (j .later .kept) (j .later .grows)) (carry p (j .later .kept) (j .later .grows)) (j .shown .rep));
-        }
+    abstraction-refused e = record { means = λ k qs h c n y g u w2 p q t. stops _ (then-no _ (on-refused (abstraction-goes c n y g p q t) (ap ended e))) }
+
+    module _ {o : Out} (e : a ≡ Done o) where
+      scoped-to : (c : Sets) (n : ℕ) (y : Stx) (g : Env) → Rep l (b .state .top) (b .at) (stx (atom c (symbol n))) → Rep l (b .state .top) body (stx y) → RepE l (b .state .top) (at .meanings) g
+          → Gave objects 2 nodeSpare l l2 (b .state) (bindsOf st1)
+          (after (scopedRule (at .phase) g (b .name .0) (b .scope .0) (variable c n) y (stateOf (b .state) (bindsOf st))) (furtherRule (entries (at .left)) (at .phase) (scopesOf (at .prunable)))) o
+      scoped-to c n y g p q t = on-done (abstraction-goes c n y g p q t) (ap ended e)
+
+      pub abstraction-three-ready : {i head : ℕ} → ReadyAbstraction l st (b .state) i head (b .at) body at → length l1 ≡ length l → length l2 ≡ length l1 → ReadyThree l2 (o .state) i head (b .at) (o .at)
+      abstraction-three-ready r len1 len2 =
+          let len = len2 ∙ len1 in
+          let f = r .function in
+          let g = scoped-to (f .binder) (f .symb) (f .thing) (f .within .meant) (f .shown-id) (f .shown-body) (f .within .known) in
+          record {
+            sets = f .sets;
+            old = f .old;
+            first = f .first;
+            second = atom (f .binder) (symbol (f .symb));
+            third = g .value;
+            shown = carry (f .shown) (g .later .kept) (g .later .grows);
+            shown-first = carry (f .shown-first) (g .later .kept) (g .later .grows);
+            shown-second = carry (f .shown-id) (g .later .kept) (g .later .grows);
+            shown-third = g .shown .rep;
+            room = room-later (f .within .room) (g .later) len;
+            free = omega (arith, g .later .fits, r .free, len);
+            few = g .shown .few;
+          }
+
+      pub abstraction-made : {i head : ℕ} {l3 : List ℕ} {q : Answer} → ThreeLists l2 l3 (o .state) i head (b .at) (o .at) q → ExpandedAbstraction at st st1 l l3 b i head body q
+      unfolding abstractionRule
+      abstraction-made f =
+          record {
+            means = λ k qs h c n y g u w2 p q t.
+                let j = scoped-to c n y g p q t in
+                beyond 2 (nodeSpare + tripleSpare) 2 2 (j .later) (owes-two (o .state)) (owes-two (b .state)) (omega arith) (omega arith) (then-ok _ (j .is))
+                (f .means (bindsOf st1) k qs h (atom c (symbol n)) (j .value) (carry u (j .later .kept) (j .later .grows)) (carry w2 (j .later .kept) (j .later .grows)) (carry p (j .later .kept) (j .later .grows)) (j .shown .rep));
+          }
 
 -- ---- let-syntax
 
-module _ {st l : List ℕ} (s : State) {tail : ℕ} {at : Context} where
+module _ {st l : List ℕ} (s : State) {tail : ℕ} {at : Surroundings} where
   pub let-seen : ReadyLet l st (unpaid s) tail at → SeenP l tail
   unfolding unpaid
   let-seen r = record { top = s .top; thing = fromStxs (r .parts); shown = r .shown; inside = omega (arith, r .within .room .fits); small = r .within .room .small }
 
   module _ {d : Three} (h : Triple l tail d) where
-    pub let-shape : {left : ℕ} → d ≡ three.Not → ExpandedLetSyntax left at st st l l s tail (Refused (record { refusal = NoRule; units = s .units }))
+    pub let-shape : d ≡ three.Not → ExpandedLetSyntax at st st l l s tail (Refused (record { refusal = NoRule; units = s .units }))
     unfolding expandLetSyntax
     let-shape e = record { means = λ ps g w z. stops _ (not-parts3 ps _ (stateOf s (bindsOf st)) (on-not-three (h .means (s .top) ps w) e)) }
 
@@ -631,7 +611,7 @@ module _ {st l : List ℕ} (s : State) {tail : ℕ} {at : Context} where
           record { top = s .top; thing = stx (q .first); shown = q .shown; inside = omega (arith, r .within .room .fits); small = r .within .room .small }
 
       module _ {z : Bool} (f : Identifies l a z) where
-        pub let-no-id : {left : ℕ} → z ≡ false → ExpandedLetSyntax left at st st l l s tail (Refused (record { refusal = NoRule; units = s .units }))
+        pub let-no-id : z ≡ false → ExpandedLetSyntax at st st l l s tail (Refused (record { refusal = NoRule; units = s .units }))
         unfolding expandLetSyntax parts3
         let-no-id t =
             record {
@@ -648,27 +628,37 @@ module _ {st l : List ℕ} (s : State) {tail : ℕ} {at : Context} where
               let n = is-identifier (q .first) (sym (f .means (s .top) (q .first) (q .shown)) ∙ t) in
               record { binder = n .sets; symb = n .symb; thing = q .second; object = q .third; shown = rw (n .is) at (q .shown); shown-right = q .shown-second; shown-body = q .shown-third; within = within-paid s (r .within) }
 
-          pub let-binding : {left : ℕ} {st1 l1 : List ℕ} {r : Answer} → ExpandedBinding left at st st1 l l1 s a b c r → ExpandedLetSyntax left at st st1 l l1 s tail r
-          unfolding expandLetSyntax parts3 identifier
-          let-binding p =
-              record {
-                means = λ ps g w k.
-                    let q = on-three (h .means (s .top) ps w) e in
-                    let n = is-identifier (q .first) (sym (f .means (s .top) (q .first) (q .shown)) ∙ t) in
-                    let y = p .means (n .sets) (n .symb) (q .second) (q .third) g (rw (n .is) at (q .shown)) (q .shown-second) (q .shown-third) k in
-                    rw (q .is, n .is) (beyond 1 twoCells 0 1 (later-refl l s) (owes-none s) (owes-one s) (omega arith) (omega arith) refl y);
-              }
+          module _ {st1 l1 : List ℕ} {x : Onward} (v : OnwardBinding at st st1 l l1 s a b c x) where
+            let-inside : (r : ReadyBinding l st s a b c at) → Agrees nexts 1 cellSize l l1 s (bindsOf st1) (bindingRule (entries (at .left)) (at .left) (at .phase) (r .within .meant) (r .binder) (r .symb) (r .thing) (r .object) (stateOf s (bindsOf st))) (onwardOf x)
+            let-inside r = v .means (r .binder) (r .symb) (r .thing) (r .object) (r .within .meant) (r .shown) (r .shown-right) (r .shown-body) (r .within .known)
+
+            pub let-next-ready : ReadyLet l st (unpaid s) tail at → length l1 ≡ length l → length st1 ≡ length st → ReadyOnward l1 st1 x
+            let-next-ready r len len2 = let q = let-binding-ready r in onward-ready (let-inside q) (q .within .room) (q .within .held) len len2
+
+            pub let-less : {T : ℕ} → ReadyLet l st (unpaid s) tail at → s .units * 32 + 18 ≡ T → unitsOf x * 32 + 1 < T
+            let-less r z = omega (arith, onward-less x (let-inside (let-binding-ready r)))
+
+            pub let-expanded : {st2 l2 : List ℕ} {r : Answer} → ExpandedOnward at st1 st2 l1 l2 x r → ExpandedLetSyntax at st st2 l l2 s tail r
+            unfolding expandLetSyntax parts3 identifier
+            let-expanded p =
+                record {
+                  means = λ ps g w k.
+                      let q = on-three (h .means (s .top) ps w) e in
+                      let n = is-identifier (q .first) (sym (f .means (s .top) (q .first) (q .shown)) ∙ t) in
+                      let y = onward-goes x (v .means (n .sets) (n .symb) (q .second) (q .third) g (rw (n .is) at (q .shown)) (q .shown-second) (q .shown-third) k) p in
+                      rw (q .is, n .is) (beyond 1 twoCells 0 1 (later-refl l s) (owes-none s) (owes-one s) (omega arith) (omega arith) (binding-split (entries (at .left)) (at .left) (at .phase) g (scopesOf (at .prunable)) (stateOf s (bindsOf st)) (n .sets) (n .symb) (q .second) (q .third)) y);
+                }
 
 -- ---- binding
 
-module _ {st l : List ℕ} {s : State} {id right body : ℕ} {at : Context} (r : ReadyBinding l st s id right body at) where
+module _ {st l : List ℕ} {s : State} {id right body : ℕ} {at : Surroundings} (r : ReadyBinding l st s id right body at) where
   pub binding-binder-ready : ReadyBinder l st s id
   binding-binder-ready = record { sets = r .binder; symb = r .symb; shown = r .shown; room = r .within .room; held = r .within .held }
 
   module _ {st1 l1 : List ℕ} {z : Bound} (v : BindsFresh (at .phase) st st1 l l1 s id z) where
-    pub binding-refused : {left : ℕ} {f : Stop} → z ≡ bounds.Refused f → ExpandedBinding left at st st1 l l1 s id right body (Refused f)
-    binding-refused {left} e =
-        record { means = λ c x u y g a b w k. stops _ (binding-split (entries left) left (at .phase) g (scopesOf (at .prunable)) (stateOf s (bindsOf st)) c x u y ∙ then-no _ (on-refused (v .means c x a) (ap boundOf e))) }
+    pub binding-refused : {f : Stop} → z ≡ bounds.Refused f → OnwardBinding at st st1 l l1 s id right body (onward.Refused f)
+    unfolding bindingRule
+    binding-refused e = record { means = λ c x u y g a b w k. stops _ (then-no _ (on-refused (v .means c x a) (ap boundOf e))) }
 
     module _ {o : Binder} (e : z ≡ bounds.Done o) where
       let-bound : (c : Sets) (x : ℕ) → Rep l (s .top) id (stx (atom c (symbol x))) → Gave (binders x) 1 nodeSpare l l1 s (bindsOf st1) (bindFresh (at .phase) c x (stateOf s (bindsOf st))) o
@@ -691,198 +681,90 @@ module _ {st l : List ℕ} {s : State} {id right body : ℕ} {at : Context} (r :
             within = within-later (r .within) (g .later) (g .shown .few) len len2;
           }
 
-      pub binding-rhs : {left : ℕ} {st2 l2 : List ℕ} {q : Answer} → ExpandedRhs left at st1 st2 l1 l2 (o .state) (o .name .0) (o .scope .0) right body q → ExpandedBinding left at st st2 l l2 s id right body q
-      binding-rhs {left} {st2} {l2} {q} f =
+      pub binding-rhs : {st2 l2 : List ℕ} {q : Onward} → OnwardRhs at st1 st2 l1 l2 o right body q → OnwardBinding at st st2 l l2 s id right body q
+      unfolding bindingRule
+      binding-rhs {st2} {l2} {q} f =
           record {
             means = λ c x u y g a b w k.
                 let j = let-bound c x a in
                 let d = f .means u y g (carry b (j .later .kept) (j .later .grows)) (carry w (j .later .kept) (j .later .grows)) (carryE k (j .later .kept) (j .later .grows)) in
-                let named : rhsRule (entries left) left (at .phase) g (scopesOf (at .prunable)) (j .value .name) (j .value .scope) u y (stateOf (o .state) (bindsOf st1))
-                ≡ rhsRule (entries left) left (at .phase) g (scopesOf (at .prunable)) (o .name .0) (o .scope .0) u y (stateOf (o .state) (bindsOf st1)) =
-                λ n. rhsRule (entries left) left (at .phase) g (scopesOf (at .prunable)) ((sym (j .shown .name)) n) ((sym (j .shown .scope)) n) u y (stateOf (o .state) (bindsOf st1)) in
-                since 1 twoCells (j .later) (omega arith) (omega arith)
-                (binding-split (entries left) left (at .phase) g (scopesOf (at .prunable)) (stateOf s (bindsOf st)) c x u y ∙ then-ok _ (j .is) ∙ named) d;
+                let named : rhsRule (entries (at .left)) (at .left) (at .phase) g (j .value .name) (j .value .scope) u y (stateOf (o .state) (bindsOf st1))
+                ≡ rhsRule (entries (at .left)) (at .left) (at .phase) g (o .name .0) (o .scope .0) u y (stateOf (o .state) (bindsOf st1)) =
+                λ n. rhsRule (entries (at .left)) (at .left) (at .phase) g ((sym (j .shown .name)) n) ((sym (j .shown .scope)) n) u y (stateOf (o .state) (bindsOf st1)) in
+                since 1 cellSize (j .later) (omega arith) (omega arith) (then-ok _ (j .is) ∙ named) d;
           }
 
 -- ---- the right-hand side
 
-pub rhs-up : (at : Context) → at .phase < 2 → at .phase + 1 < 2 ^ 32
+pub rhs-up : (at : Surroundings) → at .phase < 2 → at .phase + 1 < 2 ^ 32
 rhs-up at h = omega arith
 
-module _ {left : ℕ} {st l : List ℕ} {s : State} {n d right body : ℕ} {at : Context} where
-  pub rhs-phase : 2 ≤ at .phase → ExpandedRhs left at st st l l s n d right body (Refused (record { refusal = NoPhase; units = s .units }))
-  unfolding rhsRule lastPhase
-  rhs-phase h = record { means = λ u y g a b k. stops _ (then-no _ (unless-no ref.noPhase (stateOf s (bindsOf st)) (lt-leb (at .phase + 1) 2 (omega arith)))) }
+pub rhs-phase : {st l : List ℕ} {b : Binder} {right body : ℕ} {at : Surroundings} → 2 ≤ at .phase → OnwardRhs at st st l l b right body (onward.Refused (record { refusal = NoPhase; units = b .state .units }))
+unfolding rhsRule lastPhase
+rhs-phase {st} {b = b} {at = at} h = record { means = λ u y g w z k. stops _ (then-no _ (unless-no ref.noPhase (stateOf (b .state) (bindsOf st)) (lt-leb (at .phase + 1) 2 (omega arith)))) }
 
-module _ {st l : List ℕ} {s : State} {right body : ℕ} {at : Context} (r : ReadyRhs l st s right body at) (h : at .phase < 2) {p : ScopeSet} where
-  pub rhs-expand-ready : Ready l st s right (record { phase = at .phase + 1; meanings = 0; prunable = p })
-  rhs-expand-ready = record { thing = r .thing; shown = r .shown; within = record { meant = coreOnly; known = is-core; room = r .within .room; held = r .within .held } }
+module _ {st l : List ℕ} {s : State} {right : ℕ} (at : Surroundings) (h : at .phase < 2) {p : ScopeSet} where
+  pub rhs-expand-ready : {body : ℕ} → ReadyRhs l st s right body at → Ready l st s right (record { left = at .left; phase = at .phase + 1; meanings = 0; prunable = p })
+  rhs-expand-ready r = record { thing = r .thing; shown = r .shown; within = record { meant = coreOnly; known = is-core; room = r .within .room; held = r .within .held } }
 
-  module _ (f : scopesOf p ≡ 0) {left : ℕ} {st1 l1 : List ℕ} {a : Answer} (v : Expanded left (record { phase = at .phase + 1; meanings = 0; prunable = p }) st st1 l l1 s right a) where
-    above : (u : Stx) → Rep l (s .top) right (stx u) → Agrees objects 1 twoCells l l1 s (bindsOf st1) (expand left (at .phase + 1) coreOnly 0 u (stateOf s (bindsOf st))) (ended a)
+  module _ (f : scopesOf p ≡ 0) {st1 l1 : List ℕ} {a : Answer} (v : Expanded (record { left = at .left; phase = at .phase + 1; meanings = 0; prunable = p }) st st1 l l1 s right a) where
+    above : (u : Stx) → Rep l (s .top) right (stx u) → Agrees objects 1 twoCells l l1 s (bindsOf st1) (expand (at .left) (at .phase + 1) coreOnly 0 u (stateOf s (bindsOf st))) (ended a)
     above u w = rw f at (v .means u coreOnly w is-core)
 
-    starts : (g : Env) (n d : ℕ) (u y : Stx) → rhsRule (entries left) left (at .phase) g (scopesOf (at .prunable)) n d u y (stateOf s (bindsOf st))
-        ≡ after (expand left (at .phase + 1) coreOnly 0 u (stateOf s (bindsOf st))) (λ t. definedRule (entries left) left (at .phase) g (scopesOf (at .prunable)) n d t y)
+    starts : (g : Env) (n d : ℕ) (u y : Stx) → rhsRule (entries (at .left)) (at .left) (at .phase) g n d u y (stateOf s (bindsOf st))
+        ≡ after (expand (at .left) (at .phase + 1) coreOnly 0 u (stateOf s (bindsOf st))) (λ t. definedRule (at .left) (at .phase) g n d t y)
     unfolding rhsRule lastPhase
     starts g n d u y = then-ok _ (unless-ok ref.noPhase (stateOf s (bindsOf st)) (le-leb (at .phase + 1) 2 (omega arith)))
 
-    pub rhs-refused : {n d : ℕ} {q : Stop} → a ≡ Refused q → ExpandedRhs left at st st1 l l1 s n d right body (Refused q)
-    rhs-refused {n} {d} e = record { means = λ u y g w b k. stops _ (starts g n d u y ∙ then-no _ (on-refused (above u w) (ap ended e))) }
-
     module _ {o : Out} (e : a ≡ Done o) where
-      right-to : (u : Stx) → Rep l (s .top) right (stx u) → Gave objects 1 twoCells l l1 s (bindsOf st1) (expand left (at .phase + 1) coreOnly 0 u (stateOf s (bindsOf st))) o
+      right-to : (u : Stx) → Rep l (s .top) right (stx u) → Gave objects 1 twoCells l l1 s (bindsOf st1) (expand (at .left) (at .phase + 1) coreOnly 0 u (stateOf s (bindsOf st))) o
       right-to u w = on-done (above u w) (ap ended e)
 
-      pub rhs-less : {T : ℕ} → s .units * 32 + 18 ≡ T → o .state .units * 32 + 16 < T
-      rhs-less z = omega (arith, right-to (r .thing) (r .shown) .later .spent)
-
-      pub rhs-defined-ready : length l1 ≡ length l → length st1 ≡ length st → ReadyDefined l1 st1 (o .state) (o .at) body at
-      rhs-defined-ready len len2 =
+      pub rhs-defined-ready : {body : ℕ} → ReadyRhs l st s right body at → length l1 ≡ length l → length st1 ≡ length st → ReadyDefined l1 st1 (o .state) (o .at) body at
+      rhs-defined-ready r len len2 =
           let g = right-to (r .thing) (r .shown) in
           record {
-            rhs = record {
-              thing = g .value;
-              object = r .object;
-              shown = g .shown .rep;
-              shown-body = carry (r .shown-body) (g .later .kept) (g .later .grows);
-              within = within-later (r .within) (g .later) (g .shown .few) len len2;
-            };
+            thing = g .value;
+            object = r .object;
+            shown = g .shown .rep;
+            shown-body = carry (r .shown-body) (g .later .kept) (g .later .grows);
+            within = within-later (r .within) (g .later) (g .shown .few) len len2;
             low = omega arith;
           }
 
-      pub rhs-defined : {n d : ℕ} {st2 l2 : List ℕ} {q : Answer} → ExpandedDefined left at st1 st2 l1 l2 (o .state) n d (o .at) body q → ExpandedRhs left at st st2 l l2 s n d right body q
-      rhs-defined {n} {d} c =
-          record {
-            means = λ u y g w b k.
-                let j = right-to u w in
-                since 1 twoCells (j .later) (omega arith) (omega arith) (starts g n d u y ∙ then-ok _ (j .is))
-                (c .means (j .value) y g (j .shown .rep) (carry b (j .later .kept) (j .later .grows)) (carryE k (j .later .kept) (j .later .grows)));
-          }
+module _ {st l : List ℕ} {b : Binder} {right body : ℕ} {at : Surroundings} (h : at .phase < 2) {p : ScopeSet} (f : scopesOf p ≡ 0) {st1 l1 : List ℕ} {a : Answer}
+    (v : Expanded (record { left = at .left; phase = at .phase + 1; meanings = 0; prunable = p }) st st1 l l1 (b .state) right a) where
+  pub rhs-refused : {q : Stop} → a ≡ Refused q → OnwardRhs at st st1 l l1 b right body (onward.Refused q)
+  rhs-refused e = record { means = λ u y g w z k. stops _ (starts at h f v g (b .name .0) (b .scope .0) u y ∙ then-no _ (on-refused (above at h f v u w) (ap ended e))) }
 
--- ---- the value
-
-module _ {st l : List ℕ} {s : State} {right body : ℕ} {at : Context} (r : ReadyDefined l st s right body at) where
-  pub defined-up : at .phase + 1 < 2 ^ 32
-  defined-up = omega (arith, r .low)
-
-  pub defined-value-ready : ReadyValue l st s right
-  defined-value-ready = record { thing = r .rhs .thing; shown = r .rhs .shown; room = r .rhs .within .room; held = r .rhs .within .held }
-
-  module _ {left : ℕ} {l1 : List ℕ} {a : Answer} (v : Values left (at .phase + 1) st l l1 s right a) where
-    pub defined-refused : {n d : ℕ} {f : Stop} → a ≡ Refused f → ExpandedDefined left at st st l l1 s n d right body (Refused f)
-    unfolding definedRule
-    defined-refused e = record { means = λ u y g w b k. stops _ (then-no _ (on-refused (v .means u w) (ap ended e))) }
-
-    module _ {o : Out} (e : a ≡ Done o) where
-      value-to : (u : Stx) → Rep l (s .top) right (stx u) → Gave trees 1 twoCells l l1 s (bindsOf st) (valueRule left (at .phase + 1) u (stateOf s (bindsOf st))) o
-      value-to u w = on-done (v .means u w) (ap ended e)
-
-      pub defined-scoped-ready : length l1 ≡ length l → ReadyScoped l1 st (o .state) 1 (o .at) body at
-      defined-scoped-ready len =
-          let g = value-to (r .rhs .thing) (r .rhs .shown) in
-          record {
-            meaning = macro (g .value);
-            object = r .rhs .object;
-            shown = meant-macro (g .shown .rep);
-            shown-body = carry (r .rhs .shown-body) (g .later .kept) (g .later .grows);
-            within = within-later (r .rhs .within) (g .later) (g .shown .few) len refl;
-          }
-
-      pub defined-less : {T : ℕ} → s .units * 32 + 16 ≡ T → o .state .units * 32 + 15 < T
-      defined-less z = omega (arith, value-to (r .rhs .thing) (r .rhs .shown) .later .spent)
-
-      pub defined-scoped : {n d : ℕ} {st1 l2 : List ℕ} {q : Answer} → ExpandedScoped left at st st1 l1 l2 (o .state) n d 1 (o .at) body q → ExpandedDefined left at st st1 l l2 s n d right body q
-      unfolding definedRule
-      defined-scoped c =
-          record {
-            means = λ u y g w b k.
-                let j = value-to u w in
-                since 1 twoCells (j .later) (omega arith) (omega arith) (then-ok _ (j .is))
-                (c .means (macro (j .value)) y g (meant-macro (j .shown .rep)) (carry b (j .later .kept) (j .later .grows)) (carryE k (j .later .kept) (j .later .grows)));
-          }
+  pub rhs-defined : {o : Out} {l2 : List ℕ} {q : Onward} → a ≡ Done o → Defined at st1 l1 l2 (o .state) b (o .at) body q → OnwardRhs at st st1 l l2 b right body q
+  rhs-defined e c =
+      record {
+        means = λ u y g w z k.
+            let j = right-to at h f v e u w in
+            since 1 cellSize (j .later) (omega arith) (omega arith) (starts at h f v g (b .name .0) (b .scope .0) u y ∙ then-ok _ (j .is))
+            (c .means (j .value) y g (j .shown .rep) (carry z (j .later .kept) (j .later .grows)) (carryE k (j .later .kept) (j .later .grows)));
+      }
 
 -- ---- a macro's use
 
-module _ {st l : List ℕ} {s : State} {i w : ℕ} {at : Context} (r : ReadyMacro l st s i w at) where
-  pub macro-mark-ready : ReadyObject l s i
-  macro-mark-ready = record { thing = r .thing; shown = r .shown; room = r .within .room; few = r .within .held .few }
+module _ {at : Surroundings} {l l1 : List ℕ} {s : State} {i w : ℕ} {x : Onward} (v : Rewritten at l l1 s i w x) where
+  made-of : (r : ReadyMacro l s i w at) (q : Store) → Agrees nexts 1 cellSize l l1 s q (rewrittenRule (at .left) (at .phase) (r .meant) (r .value) (r .thing) (stateOf s q)) (onwardOf x)
+  made-of r q = v .means q (r .thing) (r .value) (r .meant) (r .shown) (r .shown-value) (r .known)
 
-  module _ {l1 : List ℕ} {z : Marking} (v : MarksFresh (at .phase) l l1 s i z) where
-    pub macro-refused : {left : ℕ} {f : Stop} → z ≡ marking.Refused f → ExpandedMacro left at st st l l1 s i w (Refused f)
-    macro-refused {left} e =
-        record { means = λ x t g a b k. stops _ (macro-split (entries left) left (at .phase) g (scopesOf (at .prunable)) (stateOf s (bindsOf st)) t x ∙ then-no _ (on-refused (v .means (bindsOf st) x a) (ap markingOf e))) }
+  pub macro-next-ready : {st : List ℕ} → ReadyMacro l s i w at → Held st s → length l1 ≡ length l → ReadyOnward l1 st x
+  macro-next-ready r h len = onward-ready (made-of r (λ n. [])) (r .room) h len refl
 
-    module _ {o : Mark} (e : z ≡ marking.Done o) where
-      marked-to : (b : Store) (x : Stx) → Rep l (s .top) i (stx x) → Gave marks 1 nodeSpare l l1 s b (markRule (at .phase) x (stateOf s b)) o
-      marked-to b x a = on-done (v .means b x a) (ap markingOf e)
+  pub macro-less : {T : ℕ} → ReadyMacro l s i w at → s .units * 32 + 18 ≡ T → unitsOf x * 32 + 1 < T
+  macro-less r z = omega (arith, onward-less x (made-of r (λ n. [])))
 
-      pub macro-use-declared : Declared (o .uses)
-      macro-use-declared = marked-to (bindsOf st) (r .thing) (r .shown) .shown .uses-declared
-
-      pub macro-intro-declared : Declared (o .intro)
-      macro-intro-declared = marked-to (bindsOf st) (r .thing) (r .shown) .shown .intro-declared
-
-      pub macro-less : {T : ℕ} → s .units * 32 + 18 ≡ T → o .state .units * 32 + 17 < T
-      macro-less y = omega (arith, marked-to (bindsOf st) (r .thing) (r .shown) .later .spent)
-
-      pub macro-rewritten-ready : {p : ScopeSet} → length l1 ≡ length l → ReadyRewritten l1 st (o .state) w (o .at) (record { phase = at .phase; meanings = at .meanings; prunable = p })
-      macro-rewritten-ready {p} len =
-          let g = marked-to (bindsOf st) (r .thing) (r .shown) in
-          record {
-            value = r .value;
-            thing = g .value .object;
-            shown-value = carry (r .shown-value) (g .later .kept) (g .later .grows);
-            shown = g .shown .rep;
-            within = pruning p (within-later (r .within) (g .later) (g .shown .few) len refl);
-          }
-
-      pub macro-rewritten : {left : ℕ} {p : ScopeSet} {st1 l2 : List ℕ} {q : Answer} → scopesOf p ≡ add (o .uses .0) (scopesOf (at .prunable))
-          → ExpandedRewritten left (record { phase = at .phase; meanings = at .meanings; prunable = p }) st st1 l1 l2 (o .state) w (o .at) (o .intro .0) q → ExpandedMacro left at st st1 l l2 s i w q
-      macro-rewritten {left} {p} {st1} {l2} {q} wider f =
-          record {
-            means = λ x t g a b k.
-                let j = marked-to (bindsOf st) x a in
-                let d = f .means (j .value .object) t g (carry b (j .later .kept) (j .later .grows)) (j .shown .rep) (carryE k (j .later .kept) (j .later .grows)) in
-                let pruned : add (j .value .uses) (scopesOf (at .prunable)) ≡ scopesOf p = ap (λ (u : ℕ). add u (scopesOf (at .prunable))) (sym (j .shown .uses)) ∙ sym wider in
-                let named : rewrittenRule (entries left) left (at .phase) g (add (j .value .uses) (scopesOf (at .prunable))) t (j .value .intro) (j .value .object) (stateOf (o .state) (bindsOf st))
-                ≡ rewrittenRule (entries left) left (at .phase) g (scopesOf p) t (o .intro .0) (j .value .object) (stateOf (o .state) (bindsOf st)) =
-                λ n. rewrittenRule (entries left) left (at .phase) g (pruned n) t ((sym (j .shown .intro)) n) (j .value .object) (stateOf (o .state) (bindsOf st)) in
-                since 1 twoCells (j .later) (omega arith) (omega arith)
-                (macro-split (entries left) left (at .phase) g (scopesOf (at .prunable)) (stateOf s (bindsOf st)) t x ∙ then-ok _ (j .is) ∙ named) d;
-          }
-
--- ---- what the macro made
-
-module _ {st l : List ℕ} {s : State} {w form : ℕ} {at : Context} (r : ReadyRewritten l st s w form at) where
-  pub rewritten-ready : ReadyTranscribed l s w form
-  rewritten-ready = record { value = r .value; thing = r .thing; shown = r .shown-value; shown-form = r .shown; room = r .within .room; few = r .within .held .few }
-
-  module _ {left k : ℕ} {l1 : List ℕ} {a : Answer} (v : Transcribes left (at .phase) k l l1 s w form a) where
-    pub rewritten-refused : {f : Stop} → a ≡ Refused f → ExpandedRewritten left at st st l l1 s w form k (Refused f)
-    unfolding rewrittenRule
-    rewritten-refused e = record { means = λ x t g b c y. stops _ (then-no _ (on-refused (v .means (bindsOf st) t x b c) (ap ended e))) }
-
-    module _ {o : Out} (e : a ≡ Done o) where
-      made-to : (b : Store) (t : Tree) (x : Stx) → Rep l (s .top) w t → Rep l (s .top) form (stx x) → Gave objects 1 nodeSpare l l1 s b (transcribeRule left (at .phase) k t x (stateOf s b)) o
-      made-to b t x p q = on-done (v .means b t x p q) (ap ended e)
-
-      pub rewritten-expand-ready : length l1 ≡ length l → Ready l1 st (o .state) (o .at) at
-      rewritten-expand-ready len =
-          let g = made-to (bindsOf st) (r .value) (r .thing) (r .shown-value) (r .shown) in
-          record { thing = g .value; shown = g .shown .rep; within = within-later (r .within) (g .later) (g .shown .few) len refl }
-
-      pub rewritten-less : {T : ℕ} → s .units * 32 + 17 ≡ T → o .state .units * 32 < T
-      rewritten-less z = omega (arith, made-to (bindsOf st) (r .value) (r .thing) (r .shown-value) (r .shown) .later .spent)
-
-      pub rewritten-expanded : {st1 l2 : List ℕ} {q : Answer} → Expanded left at st st1 l1 l2 (o .state) (o .at) q → ExpandedRewritten left at st st1 l l2 s w form k q
-      unfolding rewrittenRule
-      rewritten-expanded f =
-          record {
-            means = λ x t g b c y.
-                let j = made-to (bindsOf st) t x b c in
-                since 1 twoCells (j .later) (omega arith) (omega arith) (then-ok _ (j .is)) (f .means (j .value) g (j .shown .rep) (carryE y (j .later .kept) (j .later .grows)));
-          }
+  pub macro-expanded : {st st1 l2 : List ℕ} {r : Answer} → ExpandedOnward at st st1 l1 l2 x r → ExpandedMacro at st st1 l l2 s i w r
+  macro-expanded {st} p =
+      record {
+        means = λ y t g a b k.
+            since 1 twoCells (later-refl l s) (omega arith) (omega arith) (macro-split (entries (at .left)) (at .left) (at .phase) g (scopesOf (at .prunable)) (stateOf s (bindsOf st)) t y)
+            (onward-goes x (v .means (bindsOf st) y t g a b k) p);
+      }
 
 pub ruleset laws = (
   enter-one,
@@ -905,6 +787,7 @@ pub ruleset laws = (
   list-tail-ready,
   list-let-ready,
   list-macro-ready,
+  list-macro-held,
   list-lambda,
   list-let-syntax,
   list-variable,
@@ -917,15 +800,11 @@ pub ruleset laws = (
   application-refused,
   application-list,
   application-made,
-  scoped-add-ready,
-  scoped-refused,
-  scoped-inner-ready,
-  scoped-less,
-  scoped-inner,
-  inner-roomy,
-  inner-expand-ready,
-  inner-less,
-  inner-expanded,
+  in-place-declared,
+  in-place-ready,
+  in-place-less,
+  in-place-refused,
+  in-place-expanded,
   lambda-seen,
   lambda-shape,
   lambda-id-seen,
@@ -939,6 +818,8 @@ pub ruleset laws = (
   function-abstraction-ready,
   function-abstraction,
   abstraction-scoped-ready,
+  abstraction-next-ready,
+  abstraction-less,
   abstraction-refused,
   abstraction-three-ready,
   abstraction-made,
@@ -947,7 +828,9 @@ pub ruleset laws = (
   let-id-seen,
   let-no-id,
   let-binding-ready,
-  let-binding,
+  let-next-ready,
+  let-less,
+  let-expanded,
   binding-binder-ready,
   binding-refused,
   binding-declared,
@@ -958,25 +841,9 @@ pub ruleset laws = (
   rhs-up,
   rhs-expand-ready,
   rhs-refused,
-  rhs-less,
   rhs-defined-ready,
   rhs-defined,
-  defined-up,
-  defined-value-ready,
-  defined-refused,
-  defined-scoped-ready,
-  defined-less,
-  defined-scoped,
-  macro-mark-ready,
-  macro-refused,
-  macro-use-declared,
-  macro-intro-declared,
+  macro-next-ready,
   macro-less,
-  macro-rewritten-ready,
-  macro-rewritten,
-  rewritten-ready,
-  rewritten-refused,
-  rewritten-expand-ready,
-  rewritten-less,
-  rewritten-expanded,
+  macro-expanded,
 )

@@ -4,9 +4,8 @@ use mathlib.Core.List.{List}
 use Prim.Native.Nat.{ℕ, _+_, _*_, _≤_, _<_}
 use native.Mathlib.Omega.{arith}
 use lib.ListN.{length}
-use Rattle.model.specs.Scopes.{Scopes}
 use Rattle.model.specs.Objects.{Stx, Stxs, nil, cons}
-use Rattle.model.specs.Trees.{Trees, tnil, tcons, stx, fromStxs}
+use Rattle.model.specs.Trees.{stx, fromStxs}
 use Rattle.model.specs.Steps as m
 use Rattle.model.specs.Steps.{ok, after}
 use Rattle.model.specs.Expanding.{Env, expandAll, expand}
@@ -34,7 +33,7 @@ use Rattle.forms.proofs.Shapes.{nil-at, first-at}
 use Rattle.environment.specs.Meanings.{RepE}
 use Rattle.environment.proofs.Frame.{carryE}
 use Rattle.scoping.specs.Changing.{objects}
-use Rattle.expand.specs.declared.Context.{Context}
+use Rattle.expand.specs.declared.Surroundings.{Surroundings}
 use Rattle.expand.specs.Leaves.{Within}
 use Rattle.expand.specs.Cycle.{entries, Ready, ReadyParts, Expanded, ExpandedParts}
 use Rattle.expand.proofs.Cycle.{within-later}
@@ -54,30 +53,30 @@ abbrev pub handedOn : Stxs → Stxs → m.Step Stxs
 handedOn done us = λ y. ok (turnObjects done us) y
 
 -- the rule for the parts
-abbrev pub all : ℕ → Context → Env → Stxs → m.Step Stxs
-all left at e ps = expandAll (entries left (at .phase) e (scopesOf (at .prunable))) ps
+abbrev pub all : Surroundings → Env → Stxs → m.Step Stxs
+all at e ps = expandAll (entries (at .left) (at .phase) e (scopesOf (at .prunable))) ps
 
 -- `from` is left of the chain of ps, and `turned` is what the parts before it became, the last first
-pub record Half (left : ℕ) (at : Context) (st st′ l : List ℕ) (s t : State) (from turned : ℕ) (ps : Stxs) (e : Env) : Type 0 where
+pub record Half (at : Surroundings) (st st′ l : List ℕ) (s t : State) (from turned : ℕ) (ps : Stxs) (e : Env) : Type 0 where
   pub rest : Stxs
   pub done : Stxs
   pub shown : RepP l (t .top) from (fromStxs rest)
   pub made : RepP l (t .top) turned (fromStxs done)
-  pub whole : all left at e ps (stateOf s (bindsOf st)) ≡ after (all left at e rest (stateOf t (bindsOf st′))) (handedOn done)
+  pub whole : all at e ps (stateOf s (bindsOf st)) ≡ after (all at e rest (stateOf t (bindsOf st′))) (handedOn done)
   pub fits : end t + cellSize * counts (fromStxs done) ≤ end s
 
-pub record Going (left : ℕ) (at : Context) (st l : List ℕ) (s : State) (c : ℕ) (st′ l′ : List ℕ) (t : State) (from turned : ℕ) : Type 0 where
+pub record Going (at : Surroundings) (st l : List ℕ) (s : State) (c : ℕ) (st′ l′ : List ℕ) (t : State) (from turned : ℕ) : Type 0 where
   pub kept : Same (s .top) l l′
   pub grows : s .top ≤ t .top
   pub long : length l′ ≡ length l
   pub wide : length st′ ≡ length st
   pub few : t .bindings ≤ 512
   pub spent : t .units ≤ s .units
-  pub means : (ps : Stxs) (e : Env) → RepP l (s .top) c (fromStxs ps) → RepE l (s .top) (at .meanings) e → Half left at st st′ l′ s t from turned ps e
+  pub means : (ps : Stxs) (e : Env) → RepP l (s .top) c (fromStxs ps) → RepE l (s .top) (at .meanings) e → Half at st st′ l′ s t from turned ps e
 
-pub parts-start : {left : ℕ} {at : Context} {st l : List ℕ} {s : State} {c : ℕ} → ReadyParts l st s c at → Going left at st l s c st l s c 0
+pub parts-start : {at : Surroundings} {st l : List ℕ} {s : State} {c : ℕ} → ReadyParts l st s c at → Going at st l s c st l s c 0
 unfolding turnObjects counts fromStxs
-parts-start {left} {at} {st} {l} {s} r = record {
+parts-start {at} {st} {l} {s} r = record {
   kept = same-refl (s .top) l;
   grows = omega arith;
   long = refl;
@@ -89,13 +88,13 @@ parts-start {left} {at} {st} {l} {s} r = record {
     done = nil;
     shown = w;
     made = is-none;
-    whole = sym (after-done (all left at e ps (stateOf s (bindsOf st))));
+    whole = sym (after-done (all at e ps (stateOf s (bindsOf st))));
     fits = omega arith;
   };
 }
 
-module _ {left : ℕ} {at : Context} {st l : List ℕ} {s : State} {c : ℕ} (r : ReadyParts l st s c at) {st1 l1 : List ℕ} {t : State} {from turned : ℕ} (g : Going left at st l s c st1 l1 t from turned) where
-  half : Half left at st st1 l1 s t from turned (r .parts) (r .within .meant)
+module _ {at : Surroundings} {st l : List ℕ} {s : State} {c : ℕ} (r : ReadyParts l st s c at) {st1 l1 : List ℕ} {t : State} {from turned : ℕ} (g : Going at st l s c st1 l1 t from turned) where
+  half : Half at st st1 l1 s t from turned (r .parts) (r .within .meant)
   half = g .means (r .parts) (r .within .meant) (r .shown) (r .within .known)
 
   so-far : Later 0 0 l l1 s t
@@ -118,20 +117,20 @@ module _ {left : ℕ} {at : Context} {st l : List ℕ} {s : State} {c : ℕ} (r 
       pub part-falls : x .tail < from
       part-falls = first-at (half .rest) (half .shown) n e .cell .low .1
 
-      module _ {st2 l2 : List ℕ} {a : Answer} (v : Expanded left at st1 st2 l1 l2 t (x .head) a) where
-        pub part-refused : {f : Stop} → a ≡ Refused f → ExpandedParts left at st st2 l l2 s c (Refused f)
+      module _ {st2 l2 : List ℕ} {a : Answer} (v : Expanded at st1 st2 l1 l2 t (x .head) a) where
+        pub part-refused : {f : Stop} → a ≡ Refused f → ExpandedParts at st st2 l l2 s c (Refused f)
         unfolding expandAll
         part-refused k = record {
           means = λ ps d w y.
               let h = g .means ps d w y in
               let q = first-at (h .rest) (h .shown) n e in
-              stops _ (h .whole ∙ ap (λ (z : Stxs). after (all left at d z (stateOf t (bindsOf st1))) (handedOn (h .done))) (q .is)
+              stops _ (h .whole ∙ ap (λ (z : Stxs). after (all at d z (stateOf t (bindsOf st1))) (handedOn (h .done))) (q .is)
               ∙ then-no _ (then-no _ (on-refused (v .means (q .first) d (q .cell .shown) (carryE y (g .kept) (g .grows))) (ap ended k))));
         }
 
         module _ {o : Out} (k : a ≡ Done o) where
           gave : (z : Stx) (d : Env) → Rep l1 (t .top) (x .head) (stx z) → RepE l1 (t .top) (at .meanings) d
-              → Gave objects 1 twoCells l1 l2 t (bindsOf st2) (expand left (at .phase) d (scopesOf (at .prunable)) z (stateOf t (bindsOf st1))) o
+              → Gave objects 1 twoCells l1 l2 t (bindsOf st2) (expand (at .left) (at .phase) d (scopesOf (at .prunable)) z (stateOf t (bindsOf st1))) o
           gave z d w y = on-done (v .means z d w y) (ap ended k)
 
           linkable : {i : ℕ} {z : Stx} → length l2 ≡ length l1 → Rep l2 (o .state .top) i (stx z) → Linkable l2 (o .state .top) i turned
@@ -159,7 +158,7 @@ module _ {left : ℕ} {at : Context} {st l : List ℕ} {s : State} {c : ℕ} (r 
               linkable len (carry (q .cell .shown) (j .later .kept) (j .later .grows))
 
           pub part-more : {l3 : List ℕ} {d : Made} {u : State} → length l2 ≡ length l1 → length st2 ≡ length st1 → Linked l2 l3 (o .state .top) (o .at) turned (d .at) (d .top) → length l3 ≡ length l2
-              → u ≡ raisedTo (d .top) (o .state) → Going left at st l s c st2 l3 u (x .tail) (d .at)
+              → u ≡ raisedTo (d .top) (o .state) → Going at st l s c st2 l3 u (x .tail) (d .at)
           unfolding expandAll turnObjects fromStxs
           part-more {l3} {d} {u} len wid y len3 z =
               let q0 = first-at (half .rest) (half .shown) n e in
@@ -182,9 +181,9 @@ module _ {left : ℕ} {at : Context} {st l : List ℕ} {s : State} {c : ℕ} (r 
                       shown = carryP (carryP (q .cell .shown-others) (j .later .kept) (j .later .grows)) (y .kept) (omega (arith, y .grows));
                       made = y .means (stx (j .value)) (fromStxs (h .done)) (j .shown .rep) (carryP (h .made) (j .later .kept) (j .later .grows));
                       whole =
-                          h .whole ∙ ap (λ (z1 : Stxs). after (all left at env z1 (stateOf t (bindsOf st1))) (handedOn (h .done))) (q .is)
+                          h .whole ∙ ap (λ (z1 : Stxs). after (all at env z1 (stateOf t (bindsOf st1))) (handedOn (h .done))) (q .is)
                           ∙ ap (λ (z1 : m.Out Stxs). after z1 (handedOn (h .done))) (then-ok _ (j .is))
-                          ∙ after-after (all left at env (q .others) (stateOf (o .state) (bindsOf st2))) (λ us. λ y1. ok (cons (j .value) us) y1) (handedOn (h .done));
+                          ∙ after-after (all at env (q .others) (stateOf (o .state) (bindsOf st2))) (λ us. λ y1. ok (cons (j .value) us) y1) (handedOn (h .done));
                       fits = omega (arith, more, h .fits, j .later .fits, y .grows);
                     };
               })
@@ -192,17 +191,17 @@ module _ {left : ℕ} {at : Context} {st l : List ℕ} {s : State} {c : ℕ} (r 
   pub parts-turnable : from ≡ 0 → Turnable l1 (t .top) turned
   parts-turnable z = record { thing = fromStxs (half .done); shown = half .made; room = omega (arith, half .fits, r .within .room .fits, g .long); small = within .room .small; low = within .room .low }
 
-pub parts-turned : {left : ℕ} {at : Context} {st l : List ℕ} {s : State} {c : ℕ} {st1 l1 : List ℕ} {t : State} {from turned : ℕ} → Going left at st l s c st1 l1 t from turned → from ≡ 0
-    → {l2 : List ℕ} {d : Made} {u : State} → Turned l1 l2 (t .top) turned (d .at) (d .top) → u ≡ raisedTo (d .top) t → ExpandedParts left at st st1 l l2 s c (Done (record { at = d .at; state = u }))
+pub parts-turned : {at : Surroundings} {st l : List ℕ} {s : State} {c : ℕ} {st1 l1 : List ℕ} {t : State} {from turned : ℕ} → Going at st l s c st1 l1 t from turned → from ≡ 0
+    → {l2 : List ℕ} {d : Made} {u : State} → Turned l1 l2 (t .top) turned (d .at) (d .top) → u ≡ raisedTo (d .top) t → ExpandedParts at st st1 l l2 s c (Done (record { at = d .at; state = u }))
 unfolding expandAll fromStxs
-parts-turned {left} {at} {st} {l} {s} {c} {st1} {l1} {t} {from} {turned} g z {l2} {d} {u} y e =
+parts-turned {at} {st} {l} {s} {c} {st1} {l1} {t} {from} {turned} g z {l2} {d} {u} y e =
     record {
       means = λ ps env w b.
           let h = g .means ps env w b in
           let k = y .means (fromStxs (h .done)) (h .made) in
           rw e (gives (record { at = d .at; state = raisedTo (d .top) t }) (record {
             value = turnObjects (h .done) nil;
-            is = h .whole ∙ ap (λ (z1 : Stxs). after (all left at env z1 (stateOf t (bindsOf st1))) (handedOn (h .done))) (nil-at (h .rest) (h .shown) z);
+            is = h .whole ∙ ap (λ (z1 : Stxs). after (all at env z1 (stateOf t (bindsOf st1))) (handedOn (h .done))) (nil-at (h .rest) (h .shown) z);
             shown = record { rep = rw (from-turned (h .done) nil) at (k .0); few = g .few };
             later = record {
               kept = same-trans (s .top) (t .top) l l1 l2 (g .grows) (g .kept) (y .kept);

@@ -1,6 +1,6 @@
 -- Evaluating changes no bindings.
-use mathlib.Core.Path.{_≡_, refl, sym, ap, _∙_}
-use Prim.Native.Nat.{ℕ, zero, suc, _≤_}
+use mathlib.Core.Path.{_≡_, sym, ap, _∙_}
+use Prim.Native.Nat.{ℕ, zero, suc}
 use mathlib.Core.Bool.{Bool, true, false}
 use mathlib.Core.Option.{Option, none, some}
 use lib.Dec.{leb}
@@ -8,7 +8,7 @@ use Rattle.model.specs.Limits.{mostNesting}
 use Rattle.model.specs.Refusals.{Refusal, tooDeep, notApplicable, tooManyEntries, wrongArgument, unowned}
 use Rattle.model.specs.Objects.{symbol, number, point, prim, rung}
 use Rattle.model.specs.Trees.{Tree, var, app, fun, datum, lst, stx, Trees, tnil, tcons, tcount, tsize, tnesting, substitute}
-use Rattle.model.specs.Steps.{State, Out, ok, no, Step, after, done, refuse, unless, charge, madeTree}
+use Rattle.model.specs.Steps.{State, ok, no, Step, after, done, refuse, unless, charge, madeTree}
 use Rattle.model.specs.Evaluating.{evaluate, evalEntry, applicable, eachTree, argument, apply, primitive, orWrongKind}
 use Rattle.laws.proofs.StepLaws.{no≢ok, ok-state, both-ok, spend, charge-ok}
 

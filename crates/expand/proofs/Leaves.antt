@@ -1,32 +1,28 @@
 -- The functions that expand no part: one law for each way out.
 use mathlib.Core.Path.{_≡_, refl, sym, ap, _∙_}
 use mathlib.Core.List.{List, []}
-use mathlib.Core.Option.{Option, none, some}
-use Prim.Native.Nat.{ℕ, zero, suc, _+_, _-_, _*_, _≤_, _<_}
+use mathlib.Core.Option.{none}
+use Prim.Native.Nat.{ℕ, _+_, _-_, _*_, _≤_, _<_}
 use native.Mathlib.Omega.{arith}
 use lib.ListN.{length}
-use Rattle.model.specs.Scopes.{Scopes}
-use Rattle.model.specs.Objects.{Sets, symbol, Stx, atom, list, Stxs, nil, cons, flipScope, pruneScopes}
-use Rattle.model.specs.Trees.{Tree, var, app, fun, datum, lst, stx, tnil, tcons, fromStxs, asStx}
-use Rattle.model.specs.Resolving.{Bind}
+use Rattle.model.specs.Objects.{Sets, symbol, Stx, atom, list, nil, cons, flipScope, pruneScopes}
+use Rattle.model.specs.Trees.{Tree, app, stx, tnil, tcons, fromStxs, asStx}
 use Rattle.model.specs.Steps as ms
-use Rattle.model.specs.Steps.{ok, no, after, resolveAt, parts1, flipIn, pruneFrom}
+use Rattle.model.specs.Steps.{ok, after, resolveAt, parts1, flipIn, pruneFrom}
 use Rattle.model.specs.Evaluating.{evaluate}
 use Rattle.model.specs.Parsing.{parse}
-use Rattle.model.specs.Expanding as m
-use Rattle.model.specs.Expanding.{core, variable, macro, unknown, Env, meaning, headMeaning, expandName, expandSyntax, orNoSyntax}
+use Rattle.model.specs.Expanding.{Env, headMeaning, expandName, expandSyntax, orNoSyntax}
 use Rattle.refusals.specs.declared.Refusal.the-variants.{Ambiguous, NoMeaning, NoRule, NoSyntax}
-use Rattle.scopes.specs.Sets.{scopesOf, Declared}
-use Rattle.scopes.specs.declared.Scope.{Scope}
+use Rattle.scopes.specs.Sets.{scopesOf}
 use Rattle.store.specs.Words.{bindsOf}
 use Rattle.table.specs.Tags.{listTag}
 use Rattle.table.specs.Words.{getNode}
 use Rattle.table.specs.declared.Node.{Node}
-use Rattle.things.specs.Rep.{Rep, RepP, is-var, is-app, is-fun, is-lst, is-datum, is-atom, is-list}
+use Rattle.things.specs.Rep.{Rep, is-var, is-app, is-fun, is-lst, is-datum, is-atom, is-list}
 use Rattle.things.specs.Measuring.{Seen, SeenP}
-use Rattle.things.proofs.Frame.{below, up, carry}
+use Rattle.things.proofs.Frame.{below, carry}
 use Rattle.things.proofs.ByTag.{tag-is, tag-low}
-use Rattle.steps.specs.States.{Store, stateOf, end, Room}
+use Rattle.steps.specs.States.{Store, stateOf}
 use Rattle.steps.specs.Agreement as agr
 use Rattle.steps.specs.Agreement.{Later, ended, Gave, Agrees, gives, stops}
 use Rattle.steps.specs.declared.State.{State}
@@ -34,8 +30,8 @@ use Rattle.steps.specs.declared.Stop.{Stop}
 use Rattle.steps.specs.declared.Out.{Out}
 use Rattle.steps.specs.declared.Answer.{Answer}
 use Rattle.steps.specs.declared.Answer.the-variants.{Done, Refused}
-use Rattle.steps.proofs.Laws.{then-ok, then-no, later-refl, later-trans, room-later, on-done, on-refused, since}
-use Rattle.parse.specs.Shown.{Held, ShownTree, trees}
+use Rattle.steps.proofs.Laws.{then-ok, then-no, later-refl, room-later, on-done, on-refused, since}
+use Rattle.parse.specs.Shown.{trees}
 use Rattle.parse.specs.Parsing as pp
 use Rattle.parse.specs.Parsing.{unpaid, Parsed}
 use Rattle.evaluate.specs.Evaluation.{ReadyOne, Evaluates, AppliesValue}
@@ -43,19 +39,19 @@ use Rattle.forms.specs.Shapes.{Single}
 use Rattle.forms.specs.declared.One.{One}
 use Rattle.forms.specs.declared.One.the-variants as one
 use Rattle.forms.proofs.Shapes.{on-one, on-not-one, not-parts1}
-use Rattle.environment.specs.Meanings.{RepE, Known, MeansAt}
+use Rattle.environment.specs.Meanings.{Known, MeansAt}
 use Rattle.environment.specs.declared.Meaning.{Meaning}
 use Rattle.environment.specs.declared.Meaning.the-variants as meant
 use Rattle.environment.proofs.Laws.{on-lambda, on-let-syntax, on-quote, on-syntax, on-variable, on-macro, on-unknown, on-meaning-unclear, head-means, head-unclear}
-use Rattle.scoping.specs.Changing.{ShownObject, objects, ReadyObject, changeRule, Changes}
+use Rattle.scoping.specs.Changing.{objects, ReadyObject, changeRule, Changes}
 use Rattle.steps.proofs.Laws.{after-after}
 use Rattle.scoping.proofs.Fresh.{binds-length}
 use Rattle.expand.specs.Making.{ReadyTwo, TwoLists}
-use Rattle.expand.specs.Leaves.{Within, ReadyName, nameRule, ExpandedName, ReadyTail, quoteRule, ExpandedQuote, ExpandedSyntax, ReadyPruned, prunedRule, Pruned, ReadyValue, valueRule, Values, ReadyBack, backRule, Backs, ReadyTranscribed, transcribeRule, Transcribes}
-use Rattle.expand.specs.declared.Context.{Context}
+use Rattle.expand.specs.Leaves.{ReadyName, nameRule, ExpandedName, ReadyTail, quoteRule, ExpandedQuote, ExpandedSyntax, ReadyPruned, prunedRule, Pruned, ReadyValue, valueRule, Values, ReadyBack, backRule, Backs, ReadyTranscribed, transcribeRule, Transcribes}
+use Rattle.expand.specs.declared.Surroundings.{Surroundings}
 use Rattle.expand.proofs.Keeping.{evaluate-keeps}
 use Rattle.expand.proofs.Agreeing.{Owed, beyond}
-use Rattle.table.specs.Sizes.{cellSize, twoCells, nodeSize, nodeSpare, unitSize}
+use Rattle.table.specs.Sizes.{twoCells, nodeSize, nodeSpare, unitSize}
 use Rattle.store.specs.Sizes.{bindingSize}
 
 -- an entry that makes nothing
@@ -80,7 +76,7 @@ name-split : (ph : ℕ) (e : Env) (c : Sets) (x : ℕ) (y : ms.State) → nameRu
 unfolding nameRule headMeaning
 name-split ph e c x y = sym (after-after (resolveAt ph c x y) _ _)
 
-module _ {l st : List ℕ} (s : State) {i : ℕ} {at : Context} (r : ReadyName l st (unpaid s) i at) where
+module _ {l st : List ℕ} (s : State) {i : ℕ} {at : Surroundings} (r : ReadyName l st (unpaid s) i at) where
   pub name-seen : Seen l i
   unfolding unpaid
   name-seen = record { top = s .top; thing = stx (atom (r .sets) (symbol (r .symb))); shown = r .shown; inside = omega (arith, r .within .room .fits); small = r .within .room .small }
@@ -163,7 +159,7 @@ module _ {l : List ℕ} (s : State) {i head tail : ℕ} (r : ReadyTail l (unpaid
               rw (q .is) (gives _ (record { value = x; is = refl; shown = record { rep = u; few = r .few }; later = unmade l s }));
         }
 
-    pub syntax-shape : {ph : ℕ} {p : Scopes} → d ≡ one.Not → ExpandedSyntax ph p l l s i head tail (Refused (record { refusal = NoRule; units = s .units }))
+    pub syntax-shape : {at : Surroundings} → d ≡ one.Not → ExpandedSyntax at l l s i head tail (Refused (record { refusal = NoRule; units = s .units }))
     unfolding expandSyntax
     syntax-shape e = record { means = λ b k x ps u v w. stops _ (not-parts1 ps _ (stateOf s b) (on-not-one (h .means (s .top) ps w) e)) }
 
@@ -173,7 +169,7 @@ module _ {l : List ℕ} (s : State) {i head tail : ℕ} (r : ReadyTail l (unpaid
           let q = on-one (h .means (unpaid s .top) (r .others) (r .chain)) e in
           record { sets = r .sets; first = r .first; thing = q .first; old = cons (r .first) (r .others); shown = r .shown; shown-first = r .shown-first; shown-thing = q .shown; room = r .room; few = r .few }
 
-      pub syntax-pruned : {ph : ℕ} {p : Scopes} {l1 : List ℕ} {a : Answer} → Pruned ph p l l1 s i head j a → ExpandedSyntax ph p l l1 s i head tail a
+      pub syntax-pruned : {at : Surroundings} {l1 : List ℕ} {a : Answer} → Pruned at l l1 s i head j a → ExpandedSyntax at l l1 s i head tail a
       unfolding expandSyntax parts1 prunedRule
       syntax-pruned a =
           record {
@@ -187,13 +183,13 @@ module _ {l : List ℕ} (s : State) {i head x : ℕ} (r : ReadyPruned l (unpaid 
   unfolding unpaid
   prune-ready = record { thing = r .thing; shown = r .shown-thing; room = record { fits = omega (arith, r .room .fits); small = r .room .small; low = r .room .low }; few = r .few }
 
-  module _ (ph : ℕ) (p : Scopes) {l1 : List ℕ} {a : Answer} (v : Changes (pruneScopes p ph) l l1 s x a) where
-    pub prune-refused : {f : Stop} → a ≡ Refused f → Pruned ph p l l1 s i head x (Refused f)
+  module _ (at : Surroundings) {l1 : List ℕ} {a : Answer} (v : Changes (pruneScopes (scopesOf (at .prunable)) (at .phase)) l l1 s x a) where
+    pub prune-refused : {f : Stop} → a ≡ Refused f → Pruned at l l1 s i head x (Refused f)
     unfolding prunedRule pruneFrom changeRule
     prune-refused e = record { means = λ b k qs h y u w z. stops _ (then-no _ (on-refused (v .means b y z) (ap ended e))) }
 
     module _ {o : Out} (e : a ≡ Done o) where
-      pruned-to : (b : Store) (y : Stx) → Rep l (s .top) x (stx y) → Gave objects 1 nodeSpare l l1 s b (changeRule (pruneScopes p ph) y (stateOf s b)) o
+      pruned-to : (b : Store) (y : Stx) → Rep l (s .top) x (stx y) → Gave objects 1 nodeSpare l l1 s b (changeRule (pruneScopes (scopesOf (at .prunable)) (at .phase)) y (stateOf s b)) o
       pruned-to b y w = on-done (v .means b y w) (ap ended e)
 
       pub prune-two : length l1 ≡ length l → ReadyTwo l1 (o .state) i head (o .at)
@@ -213,7 +209,7 @@ module _ {l : List ℕ} (s : State) {i head x : ℕ} (r : ReadyPruned l (unpaid 
             few = g .shown .few;
           }
 
-      pub prune-done : {l2 : List ℕ} {q : Answer} → TwoLists l1 l2 (o .state) i head (o .at) q → Pruned ph p l l2 s i head x q
+      pub prune-done : {l2 : List ℕ} {q : Answer} → TwoLists l1 l2 (o .state) i head (o .at) q → Pruned at l l2 s i head x q
       unfolding prunedRule pruneFrom changeRule unpaid
       prune-done {l2} {q} d =
           record {

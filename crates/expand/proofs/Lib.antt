@@ -3,5 +3,6 @@ pub mod Agreeing
 pub mod Making
 pub mod Leaves
 pub mod Rules
+pub mod InPlace
 pub mod Cycle
 pub mod InTurn

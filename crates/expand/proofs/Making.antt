@@ -1,20 +1,18 @@
 -- Lists made anew: one law for each way out.
 use mathlib.Core.Path.{_≡_, refl, sym, ap, _∙_}
 use mathlib.Core.List.{List}
-use Prim.Native.Nat.{ℕ, zero, suc, _+_, _-_, _*_, _^_, _≤_, _<_}
+use Prim.Native.Nat.{ℕ, suc, _+_, _-_, _*_, _≤_, _<_}
 use native.Mathlib.Omega.{arith}
 use borrow.Author.Tests.{le-leb, lt-leb}
 use lib.ListN.{length}
-use lib.Dec.{leb}
 use Rattle.model.specs.Limits.{mostNesting}
 use Rattle.model.specs.Refusals as ref
-use Rattle.model.specs.Objects.{Sets, Stx, list, Stxs, nil, cons, nesting, nestings}
-use Rattle.model.specs.Trees.{Tree, Trees, stx, tnil, tcons, fromStxs, tnestings}
-use Rattle.model.specs.Steps.{ok, no, made}
+use Rattle.model.specs.Objects.{Sets, Stx, list, Stxs, nil, cons, nesting}
+use Rattle.model.specs.Trees.{stx, tnil, tcons, fromStxs}
+use Rattle.model.specs.Steps.{made}
 use Rattle.refusals.specs.declared.Refusal.the-variants.{TooDeep}
 use Rattle.table.specs.Tags.{listTag}
-use Rattle.table.specs.Words.{getNode, getSets, Same}
-use Rattle.table.specs.declared.Node.{Node}
+use Rattle.table.specs.Words.{getSets, Same}
 use Rattle.table.specs.declared.Sets as tb
 use Rattle.table.proofs.Laws.{same-trans}
 use Rattle.things.specs.Rep.{Rep, RepP, is-list, is-none, setsOf}
@@ -22,17 +20,16 @@ use Rattle.things.specs.Measuring.{SeenP, MeasuredP}
 use Rattle.things.specs.Making.{Roomy, StoredObject, Linkable, Linked}
 use Rattle.things.specs.declared.Extent.{Extent}
 use Rattle.things.specs.declared.Made.{Made}
-use Rattle.things.proofs.Frame.{below, carry, carryP}
+use Rattle.things.proofs.Frame.{below, carry}
 use Rattle.things.proofs.Making.{made-list}
 use Rattle.things.proofs.Weighing.{nest-from}
-use Rattle.steps.specs.States.{Store, stateOf, raisedTo, end, Room}
-use Rattle.steps.specs.Agreement.{Later, ended, Gave, Agrees, gives, stops}
+use Rattle.steps.specs.States.{stateOf, raisedTo}
+use Rattle.steps.specs.Agreement.{Later, gives, stops}
 use Rattle.steps.specs.declared.State.{State}
 use Rattle.steps.specs.declared.Answer.{Answer}
 use Rattle.steps.specs.declared.Answer.the-variants.{Done, Refused}
 use Rattle.steps.proofs.Laws.{then-ok, then-no, unless-ok, unless-no, since}
 use Rattle.parse.specs.Parsing.{unpaid}
-use Rattle.scoping.specs.Changing.{ShownObject, objects}
 use Rattle.expand.specs.Making.{Relistable, Relisted, Chainable, Chained, ReadyList, Lists, ReadyTwo, TwoLists, ReadyThree, ThreeLists}
 use Rattle.table.specs.Sizes.{cellSize, nodeSize, tripleSpare, unitSize}
 

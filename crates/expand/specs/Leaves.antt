@@ -1,7 +1,6 @@
 -- What the functions that expand no part ask and give.
 use mathlib.Core.List.{List}
-use Prim.Native.Nat.{ℕ, _+_, _≤_}
-use lib.ListN.{length}
+use Prim.Native.Nat.{ℕ, _≤_}
 use Rattle.model.specs.Scopes.{Scopes}
 use Rattle.model.specs.Objects.{Sets, symbol, Stx, atom, list, Stxs, nil, cons}
 use Rattle.model.specs.Trees.{Tree, stx, app, tnil, tcons, fromStxs, asStx}
@@ -20,19 +19,19 @@ use Rattle.parse.specs.Shown.{Held, trees}
 use Rattle.parse.specs.Parsing.{unpaid}
 use Rattle.environment.specs.Meanings.{RepE}
 use Rattle.scoping.specs.Changing.{objects}
-use Rattle.expand.specs.declared.Context.{Context}
+use Rattle.expand.specs.declared.Surroundings.{Surroundings}
 use Rattle.table.specs.Sizes.{twoCells, nodeSpare}
 
 -- ---- an identifier
 
 -- meanings, room and the store where an object is expanded
-pub record Within (l st : List ℕ) (s : State) (at : Context) : Type 0 where
+pub record Within (l st : List ℕ) (s : State) (at : Surroundings) : Type 0 where
   pub meant : Env
   pub known : RepE l (s .top) (at .meanings) meant
   pub room : Room l s
   pub held : Held st s
 
-pub record ReadyName (l st : List ℕ) (s : State) (i : ℕ) (at : Context) : Type 0 where
+pub record ReadyName (l st : List ℕ) (s : State) (i : ℕ) (at : Surroundings) : Type 0 where
   pub sets : Sets
   pub symb : ℕ
   pub shown : Rep l (s .top) i (stx (atom sets (symbol symb)))
@@ -44,7 +43,7 @@ nameRule ph e c x = do
   n ← resolveAt ph c x
   expandName (meaning n e)
 
-pub record ExpandedName (at : Context) (st l : List ℕ) (s : State) (i : ℕ) (r : Answer) : Type 0 where
+pub record ExpandedName (at : Surroundings) (st l : List ℕ) (s : State) (i : ℕ) (r : Answer) : Type 0 where
   pub means : (c : Sets) (x : ℕ) (e : Env) → Rep l (s .top) i (stx (atom c (symbol x))) → RepE l (s .top) (at .meanings) e
       → Agrees objects 1 twoCells l l (unpaid s) (bindsOf st) (nameRule (at .phase) e c x (stateOf s (bindsOf st))) (ended r)
 
@@ -68,9 +67,9 @@ pub record ExpandedQuote (l : List ℕ) (s : State) (i tail : ℕ) (r : Answer) 
   pub means : (b : Store) (x : Stx) (ps : Stxs) → Rep l (s .top) i (stx x) → RepP l (s .top) tail (fromStxs ps)
       → Agrees objects 1 twoCells l l (unpaid s) b (quoteRule x ps (stateOf s b)) (ended r)
 
-pub record ExpandedSyntax (ph : ℕ) (p : Scopes) (l l′ : List ℕ) (s : State) (i head tail : ℕ) (r : Answer) : Type 0 where
+pub record ExpandedSyntax (at : Surroundings) (l l′ : List ℕ) (s : State) (i head tail : ℕ) (r : Answer) : Type 0 where
   pub means : (b : Store) (k : Sets) (h : Stx) (ps : Stxs) → Rep l (s .top) i (stx (list k (cons h ps))) → Rep l (s .top) head (stx h) → RepP l (s .top) tail (fromStxs ps)
-      → Agrees objects 1 twoCells l l′ (unpaid s) b (expandSyntax ph p k h ps (stateOf s b)) (ended r)
+      → Agrees objects 1 twoCells l l′ (unpaid s) b (expandSyntax (at .phase) (scopesOf (at .prunable)) k h ps (stateOf s b)) (ended r)
 
 pub record ReadyPruned (l : List ℕ) (s : State) (i head x : ℕ) : Type 0 where
   pub sets : Sets
@@ -89,9 +88,9 @@ prunedRule ph p c h s = do
   t ← pruneFrom p ph s
   done (list c (cons h (cons t nil)))
 
-pub record Pruned (ph : ℕ) (p : Scopes) (l l′ : List ℕ) (s : State) (i head x : ℕ) (r : Answer) : Type 0 where
+pub record Pruned (at : Surroundings) (l l′ : List ℕ) (s : State) (i head x : ℕ) (r : Answer) : Type 0 where
   pub means : (b : Store) (k : Sets) (qs : Stxs) (h y : Stx) → Rep l (s .top) i (stx (list k qs)) → Rep l (s .top) head (stx h) → Rep l (s .top) x (stx y)
-      → Agrees objects 1 twoCells l l′ (unpaid s) b (prunedRule ph p k h y (stateOf s b)) (ended r)
+      → Agrees objects 1 twoCells l l′ (unpaid s) b (prunedRule (at .phase) (scopesOf (at .prunable)) k h y (stateOf s b)) (ended r)
 
 -- ---- values
 

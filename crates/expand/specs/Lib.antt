@@ -1,3 +1,4 @@
 pub mod Making
 pub mod Leaves
+pub mod InPlace
 pub mod Cycle

@@ -1,13 +1,13 @@
-// Document 01, 'Expanding'. `left` is how many entries there are to spare. Expanding, parsing and evaluating a right-hand side call each
-// other with the remaining budget falling; the unit of an entry pays for what the entry itself makes.
+// Document 01, 'Expanding'. Expanding, parsing and evaluating a right-hand side call each other with the remaining budget falling; the unit
+// of an entry pays for what the entry itself makes.
 use environment::Meaning;
 use forms::One;
 use forms::Three;
 use forms::Two;
 use refusals::Refusal;
-use scopes::Name;
 use scopes::Scope;
 use scopes::ScopeSet;
+use scoping::Binder;
 use scoping::Bound;
 use scoping::Marking;
 use steps::Answer;
@@ -17,35 +17,27 @@ use steps::State;
 use steps::Stop;
 use table::Node;
 use things::Made;
-ghost use mathlib.Core.Path.{_≡_};
-ghost use Prim.Native.Nat.{ℕ, _+_, _≤_};
-ghost use lib.ListN.{length};
-ghost use Rattle.model.specs.Scopes.{add};
-ghost use Rattle.scopes.specs.Sets.{scopesOf, Declared};
+ghost use Prim.Native.Nat.{_+_};
+ghost use Rattle.scopes.specs.Sets.{Declared};
 ghost use Rattle.parse.specs.Parsing.{unpaid};
+ghost use Rattle.parse.specs.Shown.{Held};
 ghost use Rattle.expand.specs.Making.{Relistable, Relisted, Chainable, Chained, ReadyList, Lists, ReadyTwo, TwoLists, ReadyThree, ThreeLists};
 ghost use Rattle.expand.specs.Leaves.{ReadyName, ExpandedName, ReadyTail, ExpandedQuote, ExpandedSyntax, ReadyPruned, Pruned, ReadyValue, Values, ReadyBack, Backs, ReadyTranscribed, Transcribes};
-ghost use Rattle.expand.specs.Cycle.{Ready, ReadyParts, ReadyChain, ReadyForm, ReadyLet, ReadyFunction, ReadyAbstraction, ReadyScoped, ReadyInner, ReadyBinding, ReadyRhs, ReadyDefined, ReadyMacro, ReadyRewritten, Expanded, ExpandedEntry, ExpandedList, ExpandedApplication, ExpandedParts, ExpandedLambda, ExpandedFunction, ExpandedAbstraction, ExpandedScoped, ExpandedInner, ExpandedLetSyntax, ExpandedBinding, ExpandedRhs, ExpandedDefined, ExpandedMacro, ExpandedRewritten};
+ghost use Rattle.expand.specs.InPlace.{ReadyScoped, Scoped, ReadyDefined, Defined, ReadyMacro, Rewritten};
+ghost use Rattle.expand.specs.Cycle.{Ready, ReadyParts, ReadyChain, ReadyForm, ReadyLet, ReadyFunction, ReadyAbstraction, ReadyOnward, ReadyBinding, ReadyRhs, Expanded, ExpandedOnward, ExpandedEntry, ExpandedList, ExpandedApplication, ExpandedParts, ExpandedLambda, ExpandedFunction, ExpandedAbstraction, ExpandedLetSyntax, OnwardBinding, OnwardRhs, ExpandedMacro};
 
 // Where an object is expanded.
-pub struct Context {
+pub struct Surroundings {
+    // Entries to spare.
+    pub left: u32,
     pub phase: u32,
     // The index of the meanings that names have.
     pub meanings: u32,
     pub prunable: ScopeSet,
 }
 
-impl Context {
+impl Surroundings {
     pub const LAST_PHASE: u32 = table::Sets::LAST_PHASE;
-
-    // The prunable set with a scope more.
-    fn also_prunable(self, k: Scope) -> ScopeSet
-        requires { ⌜ Declared k ⌝ }
-        ensures { λ r. ⌜ scopesOf r ≡ add (k .0) (scopesOf (self .prunable)) ⌝ }
-    {
-        let prunable = self.prunable;
-        prunable.add(k)
-    }
 }
 
 // ---- what is made
@@ -118,7 +110,7 @@ fn three_list(table: &mut [u32], s: State, i: u32, a: u32, b: u32, c: u32) -> An
 // ---- forms that expand no part
 
 // An identifier in expression place.
-fn reference(table: &[u32], store: &[u64], s: State, i: u32, at: Context) -> Answer
+fn reference(table: &[u32], store: &[u64], s: State, i: u32, at: Surroundings) -> Answer
     requires { ⌜ ReadyName (now table) (now store) (unpaid s) i at ⌝ }
     ensures { λ r. ⌜ ExpandedName at (now (store .entry)) (now (table .entry)) s i r ⌝ }
 {
@@ -176,34 +168,26 @@ fn syntax_form(
     i: u32,
     head: u32,
     tail: u32,
-    phase: u32,
-    prunable: ScopeSet,
+    at: Surroundings,
 ) -> Answer
     requires { ⌜ ReadyTail (now table) (unpaid s) i head tail ⌝ }
-    ensures { λ r. ⌜ ExpandedSyntax phase (scopesOf prunable) (now (table .entry)) (now (table .exit)) s i head tail r ⌝ }
+    ensures { λ r. ⌜ ExpandedSyntax at (now (table .entry)) (now (table .exit)) s i head tail r ⌝ }
 {
     match forms::one_part(table, tail) {
         One::Not => Answer::Refused(Stop {
             refusal: Refusal::NoRule,
             units: s.units,
         }),
-        One::Is(x) => pruned(table, s, i, head, x, phase, prunable),
+        One::Is(x) => pruned(table, s, i, head, x, at),
     }
 }
 
-fn pruned(
-    table: &mut [u32],
-    s: State,
-    i: u32,
-    head: u32,
-    x: u32,
-    phase: u32,
-    prunable: ScopeSet,
-) -> Answer
+fn pruned(table: &mut [u32], s: State, i: u32, head: u32, x: u32, at: Surroundings) -> Answer
     requires { ⌜ ReadyPruned (now table) (unpaid s) i head x ⌝ }
-    ensures { λ r. ⌜ Pruned phase (scopesOf prunable) (now (table .entry)) (now (table .exit)) s i head x r ⌝ }
+    ensures { λ r. ⌜ Pruned at (now (table .entry)) (now (table .exit)) s i head x r ⌝ }
 {
-    match scoping::prune_from(table, s, x, phase, prunable) {
+    let prunable = at.prunable;
+    match scoping::prune_from(table, s, x, at.phase, prunable) {
         Answer::Refused(f) => Answer::Refused(f),
         Answer::Done(o) => {
             let s1 = o.state;
@@ -265,34 +249,154 @@ fn transcribe(
     }
 }
 
+// ---- what is expanded next
+
+// What a form leaves to be expanded in its place: where it lies, the scope that is prunable in it, and the meanings there.
+struct Next {
+    at: u32,
+    scope: Scope,
+    meanings: u32,
+    state: State,
+}
+
+enum Onward {
+    Done(Next),
+    Refused(Stop),
+}
+
+// The body with the binder's scope added, and the binder's name meaning the thing.
+fn scoped(
+    table: &mut [u32],
+    s: State,
+    b: Binder,
+    kind: u32,
+    thing: u32,
+    body: u32,
+    at: Surroundings,
+) -> Onward
+    requires { ⌜ ReadyScoped (now table) s kind thing body at × Declared (b .scope) ⌝ }
+    ensures { λ r. ⌜ Scoped at (now (table .entry)) (now (table .exit)) s b kind thing body r ⌝ }
+{
+    let scope = b.scope;
+    match scoping::add_to(table, s, body, at.phase, scope) {
+        Answer::Refused(f) => Onward::Refused(f),
+        Answer::Done(o) => {
+            let s1 = o.state;
+            let name = b.name;
+            let m = environment::extend(table, s1.top, name, kind, thing, at.meanings);
+            let state = s1.raised(m.top);
+            Onward::Done(Next {
+                at: o.at,
+                scope,
+                meanings: m.at,
+                state,
+            })
+        }
+    }
+}
+
+// The same, the name meaning the value of the expanded right-hand side.
+fn defined(
+    table: &mut [u32],
+    store: &[u64],
+    s: State,
+    b: Binder,
+    right: u32,
+    body: u32,
+    at: Surroundings,
+) -> Onward
+    requires { ⌜ ReadyDefined (now table) (now store) s right body at × Declared (b .scope) ⌝ }
+    ensures { λ r. ⌜ Defined at (now (store .entry)) (now (table .entry)) (now (table .exit)) s b right body r ⌝ }
+{
+    match value_of(table, store, s, right, at.phase + 1, at.left) {
+        Answer::Refused(f) => Onward::Refused(f),
+        Answer::Done(o) => {
+            let s1 = o.state;
+            scoped(table, s1, b, Meaning::MACRO, o.at, body, at)
+        }
+    }
+}
+
+// What the macro v makes of its use, i. The use scope is prunable there.
+fn rewritten(table: &mut [u32], s: State, i: u32, v: u32, at: Surroundings) -> Onward
+    requires { ⌜ ReadyMacro (now table) s i v at ⌝ }
+    ensures { λ r. ⌜ Rewritten at (now (table .entry)) (now (table .exit)) s i v r ⌝ }
+{
+    match scoping::mark_form(table, s, i, at.phase) {
+        Marking::Refused(f) => Onward::Refused(f),
+        Marking::Done(m) => {
+            let s1 = m.state;
+            let intro = m.intro;
+            match transcribe(table, s1, v, m.at, at.phase, intro, at.left) {
+                Answer::Refused(f) => Onward::Refused(f),
+                Answer::Done(o) => {
+                    let scope = m.uses;
+                    let state = o.state;
+                    Onward::Done(Next {
+                        at: o.at,
+                        scope,
+                        meanings: at.meanings,
+                        state,
+                    })
+                }
+            }
+        }
+    }
+}
+
 // ---- entries
 
-pub fn expand(
-    table: &mut [u32],
-    store: &mut [u64],
-    s: State,
-    i: u32,
-    left: u32,
-    at: Context,
-) -> Answer
+pub fn expand(table: &mut [u32], store: &mut [u64], s: State, i: u32, at: Surroundings) -> Answer
     requires { ⌜ Ready (now table) (now store) s i at ⌝ }
-    ensures { λ r. ⌜ Expanded left at (now (store .entry)) (now (store .exit)) (now (table .entry)) (now (table .exit)) s i r ⌝ }
+    ensures { λ r. ⌜ Expanded at (now (store .entry)) (now (store .exit)) (now (table .entry)) (now (table .exit)) s i r ⌝ }
 {
-    match s.enter(left) {
+    match s.enter(at.left) {
         Charged::Refused(f) => Answer::Refused(f),
-        Charged::Paid(t) => entry(table, store, t, i, left - 1, at),
+        Charged::Paid(t) => {
+            let prunable = at.prunable;
+            let to = Surroundings {
+                left: at.left - 1,
+                phase: at.phase,
+                meanings: at.meanings,
+                prunable,
+            };
+            entry(table, store, t, i, to)
+        }
+    }
+}
+
+// What is expanded next, its scope being prunable there.
+fn in_place(table: &mut [u32], store: &mut [u64], n: Onward, at: Surroundings) -> Answer
+    requires { ⌜ ReadyOnward (now table) (now store) n ⌝ }
+    ensures { λ r. ⌜ ExpandedOnward at (now (store .entry)) (now (store .exit)) (now (table .entry)) (now (table .exit)) n r ⌝ }
+{
+    match n {
+        Onward::Refused(f) => Answer::Refused(f),
+        Onward::Done(x) => {
+            let scope = x.scope;
+            let prunable = at.prunable;
+            let more = prunable.add(scope);
+            let to = Surroundings {
+                left: at.left,
+                phase: at.phase,
+                meanings: x.meanings,
+                prunable: more,
+            };
+            let s = x.state;
+            expand(table, store, s, x.at, to)
+        }
     }
 }
 
 // The entry charged.
-fn entry(table: &mut [u32], store: &mut [u64], s: State, i: u32, left: u32, at: Context) -> Answer
+fn entry(table: &mut [u32], store: &mut [u64], s: State, i: u32, at: Surroundings) -> Answer
     requires { ⌜ Ready (now table) (now store) (unpaid s) i at ⌝ }
-    ensures { λ r. ⌜ ExpandedEntry left at (now (store .entry)) (now (store .exit)) (now (table .entry)) (now (table .exit)) s i r ⌝ }
+    ensures { λ r. ⌜ ExpandedEntry at (now (store .entry)) (now (store .exit)) (now (table .entry)) (now (table .exit)) s i r ⌝ }
 {
     let n = table::get_node(table, i);
     let tag = n.tag;
     if tag == Node::LIST {
-        return list(table, store, s, i, n.content, left, at);
+        return list(table, store, s, i, n.content, at);
     }
     if tag == Node::SYMBOL {
         return reference(table, store, s, i, at);
@@ -301,17 +405,9 @@ fn entry(table: &mut [u32], store: &mut [u64], s: State, i: u32, left: u32, at: 
 }
 
 // The list i of the chain c, by its head's meaning.
-fn list(
-    table: &mut [u32],
-    store: &mut [u64],
-    s: State,
-    i: u32,
-    c: u32,
-    left: u32,
-    at: Context,
-) -> Answer
+fn list(table: &mut [u32], store: &mut [u64], s: State, i: u32, c: u32, at: Surroundings) -> Answer
     requires { ⌜ ReadyChain (now table) (now store) (unpaid s) i c at ⌝ }
-    ensures { λ r. ⌜ ExpandedList left at (now (store .entry)) (now (store .exit)) (now (table .entry)) (now (table .exit)) s i c r ⌝ }
+    ensures { λ r. ⌜ ExpandedList at (now (store .entry)) (now (store .exit)) (now (table .entry)) (now (table .exit)) s i c r ⌝ }
 {
     if c == 0 {
         return Answer::Refused(Stop {
@@ -321,16 +417,13 @@ fn list(
     }
     let x = table::get_cell(table, c);
     match environment::meaning_of(table, store, s.bindings, x.head, at.phase, at.meanings) {
-        Meaning::Lambda => lambda(table, store, s, i, x.head, x.tail, left, at),
-        Meaning::LetSyntax => let_syntax(table, store, s, x.tail, left, at),
+        Meaning::Lambda => lambda(table, store, s, i, x.head, x.tail, at),
+        Meaning::LetSyntax => let_syntax(table, store, s, x.tail, at),
         Meaning::Quote => quote(table, s, i, x.head, x.tail),
-        Meaning::Syntax => {
-            let prunable = at.prunable;
-            syntax_form(table, s, i, x.head, x.tail, at.phase, prunable)
-        }
-        Meaning::Variable(_) => application(table, store, s, i, c, left, at),
-        Meaning::Macro(v) => macro_use(table, store, s, i, v, left, at),
-        Meaning::Unknown => application(table, store, s, i, c, left, at),
+        Meaning::Syntax => syntax_form(table, s, i, x.head, x.tail, at),
+        Meaning::Variable(_) => application(table, store, s, i, c, at),
+        Meaning::Macro(v) => macro_use(table, store, s, i, v, at),
+        Meaning::Unknown => application(table, store, s, i, c, at),
         Meaning::Unclear => Answer::Refused(Stop {
             refusal: Refusal::Ambiguous,
             units: s.units,
@@ -346,13 +439,12 @@ fn application(
     s: State,
     i: u32,
     c: u32,
-    left: u32,
-    at: Context,
+    at: Surroundings,
 ) -> Answer
     requires { ⌜ ReadyChain (now table) (now store) (unpaid s) i c at ⌝ }
-    ensures { λ r. ⌜ ExpandedApplication left at (now (store .entry)) (now (store .exit)) (now (table .entry)) (now (table .exit)) s i c r ⌝ }
+    ensures { λ r. ⌜ ExpandedApplication at (now (store .entry)) (now (store .exit)) (now (table .entry)) (now (table .exit)) s i c r ⌝ }
 {
-    match parts(table, store, s, c, left, at) {
+    match parts(table, store, s, c, at) {
         Answer::Refused(f) => Answer::Refused(f),
         Answer::Done(o) => {
             let s1 = o.state;
@@ -362,16 +454,16 @@ fn application(
 }
 
 // The parts of the chain c, from left to right: what they become as a chain, made with the last first, and turned round.
-fn parts(table: &mut [u32], store: &mut [u64], s: State, c: u32, left: u32, at: Context) -> Answer
+fn parts(table: &mut [u32], store: &mut [u64], s: State, c: u32, at: Surroundings) -> Answer
     requires { ⌜ ReadyParts (now table) (now store) s c at ⌝ }
-    ensures { λ r. ⌜ ExpandedParts left at (now (store .entry)) (now (store .exit)) (now (table .entry)) (now (table .exit)) s c r ⌝ }
+    ensures { λ r. ⌜ ExpandedParts at (now (store .entry)) (now (store .exit)) (now (table .entry)) (now (table .exit)) s c r ⌝ }
 {
     let mut t = s;
     let mut from = c;
     let mut turned: u32 = 0;
     while from != 0 {
         let x = table::get_cell(table, from);
-        match expand(table, store, t, x.head, left, at) {
+        match expand(table, store, t, x.head, at) {
             Answer::Refused(f) => return Answer::Refused(f),
             Answer::Done(o) => {
                 let s1 = o.state;
@@ -390,59 +482,6 @@ fn parts(table: &mut [u32], store: &mut [u64], s: State, c: u32, left: u32, at: 
     })
 }
 
-// ---- what is expanded in a new scope
-
-// The body with the scope added, prunable, and the name meaning the thing.
-fn scoped(
-    table: &mut [u32],
-    store: &mut [u64],
-    s: State,
-    name: Name,
-    scope: Scope,
-    kind: u32,
-    thing: u32,
-    body: u32,
-    left: u32,
-    at: Context,
-) -> Answer
-    requires { ⌜ ReadyScoped (now table) (now store) s kind thing body at × Declared scope ⌝ }
-    ensures { λ r. ⌜ ExpandedScoped left at (now (store .entry)) (now (store .exit)) (now (table .entry)) (now (table .exit)) s (name .0) (scope .0) kind thing body r ⌝ }
-{
-    match scoping::add_to(table, s, body, at.phase, scope) {
-        Answer::Refused(f) => Answer::Refused(f),
-        Answer::Done(o) => {
-            let s1 = o.state;
-            inner(table, store, s1, name, scope, kind, thing, o.at, left, at)
-        }
-    }
-}
-
-fn inner(
-    table: &mut [u32],
-    store: &mut [u64],
-    s: State,
-    name: Name,
-    scope: Scope,
-    kind: u32,
-    thing: u32,
-    body: u32,
-    left: u32,
-    at: Context,
-) -> Answer
-    requires { ⌜ ReadyInner (now table) (now store) s kind thing body at × Declared scope ⌝ }
-    ensures { λ r. ⌜ ExpandedInner left at (now (store .entry)) (now (store .exit)) (now (table .entry)) (now (table .exit)) s (name .0) (scope .0) kind thing body r ⌝ }
-{
-    let m = environment::extend(table, s.top, name, kind, thing, at.meanings);
-    let t = s.raised(m.top);
-    let prunable = at.also_prunable(scope);
-    let to = Context {
-        phase: at.phase,
-        meanings: m.at,
-        prunable,
-    };
-    expand(table, store, t, body, left, to)
-}
-
 // ---- (lambda id body), i
 
 // By its head and its parts after the head.
@@ -453,11 +492,10 @@ fn lambda(
     i: u32,
     head: u32,
     tail: u32,
-    left: u32,
-    at: Context,
+    at: Surroundings,
 ) -> Answer
     requires { ⌜ ReadyForm (now table) (now store) (unpaid s) i head tail at ⌝ }
-    ensures { λ r. ⌜ ExpandedLambda left at (now (store .entry)) (now (store .exit)) (now (table .entry)) (now (table .exit)) s i head tail r ⌝ }
+    ensures { λ r. ⌜ ExpandedLambda at (now (store .entry)) (now (store .exit)) (now (table .entry)) (now (table .exit)) s i head tail r ⌝ }
 {
     match forms::two_parts(table, tail) {
         Two::Not => Answer::Refused(Stop {
@@ -466,7 +504,7 @@ fn lambda(
         }),
         Two::Are(id, body) => {
             if forms::is_identifier(table, id) {
-                return function(table, store, s, i, head, id, body, left, at);
+                return function(table, store, s, i, head, id, body, at);
             }
             Answer::Refused(Stop {
                 refusal: Refusal::NoRule,
@@ -484,20 +522,14 @@ fn function(
     head: u32,
     id: u32,
     body: u32,
-    left: u32,
-    at: Context,
+    at: Surroundings,
 ) -> Answer
     requires { ⌜ ReadyFunction (now table) (now store) (unpaid s) i head id body at ⌝ }
-    ensures { λ r. ⌜ ExpandedFunction left at (now (store .entry)) (now (store .exit)) (now (table .entry)) (now (table .exit)) s i head id body r ⌝ }
+    ensures { λ r. ⌜ ExpandedFunction at (now (store .entry)) (now (store .exit)) (now (table .entry)) (now (table .exit)) s i head id body r ⌝ }
 {
     match scoping::bind_fresh(table, store, s, id, at.phase) {
         Bound::Refused(f) => Answer::Refused(f),
-        Bound::Done(b) => {
-            let s1 = b.state;
-            let name = b.name;
-            let scope = b.scope;
-            abstraction(table, store, s1, i, head, name, scope, b.at, body, left, at)
-        }
+        Bound::Done(b) => abstraction(table, store, i, head, b, body, at),
     }
 }
 
@@ -505,31 +537,19 @@ fn function(
 fn abstraction(
     table: &mut [u32],
     store: &mut [u64],
-    s: State,
     i: u32,
     head: u32,
-    name: Name,
-    scope: Scope,
-    binder: u32,
+    b: Binder,
     body: u32,
-    left: u32,
-    at: Context,
+    at: Surroundings,
 ) -> Answer
-    requires { ⌜ ReadyAbstraction (now table) (now store) s i head binder body at × Declared scope ⌝ }
-    ensures { λ r. ⌜ ExpandedAbstraction left at (now (store .entry)) (now (store .exit)) (now (table .entry)) (now (table .exit)) s i head (name .0) (scope .0) binder body r ⌝ }
+    requires { ⌜ ReadyAbstraction (now table) (now store) (b .state) i head (b .at) body at × Declared (b .scope) ⌝ }
+    ensures { λ r. ⌜ ExpandedAbstraction at (now (store .entry)) (now (store .exit)) (now (table .entry)) (now (table .exit)) b i head body r ⌝ }
 {
-    match scoped(
-        table,
-        store,
-        s,
-        name,
-        scope,
-        Meaning::VARIABLE,
-        binder,
-        body,
-        left,
-        at,
-    ) {
+    let binder = b.at;
+    let s = b.state;
+    let n = scoped(table, s, b, Meaning::VARIABLE, binder, body, at);
+    match in_place(table, store, n, at) {
         Answer::Refused(f) => Answer::Refused(f),
         Answer::Done(o) => {
             let s1 = o.state;
@@ -541,16 +561,9 @@ fn abstraction(
 // ---- (let-syntax id rhs body)
 
 // By its parts after the head.
-fn let_syntax(
-    table: &mut [u32],
-    store: &mut [u64],
-    s: State,
-    tail: u32,
-    left: u32,
-    at: Context,
-) -> Answer
+fn let_syntax(table: &mut [u32], store: &mut [u64], s: State, tail: u32, at: Surroundings) -> Answer
     requires { ⌜ ReadyLet (now table) (now store) (unpaid s) tail at ⌝ }
-    ensures { λ r. ⌜ ExpandedLetSyntax left at (now (store .entry)) (now (store .exit)) (now (table .entry)) (now (table .exit)) s tail r ⌝ }
+    ensures { λ r. ⌜ ExpandedLetSyntax at (now (store .entry)) (now (store .exit)) (now (table .entry)) (now (table .exit)) s tail r ⌝ }
 {
     match forms::three_parts(table, tail) {
         Three::Not => Answer::Refused(Stop {
@@ -559,7 +572,8 @@ fn let_syntax(
         }),
         Three::Are(id, right, body) => {
             if forms::is_identifier(table, id) {
-                return binding(table, store, s, id, right, body, left, at);
+                let n = binding(table, store, s, id, right, body, at);
+                return in_place(table, store, n, at);
             }
             Answer::Refused(Stop {
                 refusal: Refusal::NoRule,
@@ -576,20 +590,14 @@ fn binding(
     id: u32,
     right: u32,
     body: u32,
-    left: u32,
-    at: Context,
-) -> Answer
+    at: Surroundings,
+) -> Onward
     requires { ⌜ ReadyBinding (now table) (now store) s id right body at ⌝ }
-    ensures { λ r. ⌜ ExpandedBinding left at (now (store .entry)) (now (store .exit)) (now (table .entry)) (now (table .exit)) s id right body r ⌝ }
+    ensures { λ r. ⌜ OnwardBinding at (now (store .entry)) (now (store .exit)) (now (table .entry)) (now (table .exit)) s id right body r ⌝ }
 {
     match scoping::bind_fresh(table, store, s, id, at.phase) {
-        Bound::Refused(f) => Answer::Refused(f),
-        Bound::Done(b) => {
-            let s1 = b.state;
-            let name = b.name;
-            let scope = b.scope;
-            rhs(table, store, s1, name, scope, right, body, left, at)
-        }
+        Bound::Refused(f) => Onward::Refused(f),
+        Bound::Done(b) => rhs(table, store, b, right, body, at),
     }
 }
 
@@ -597,70 +605,34 @@ fn binding(
 fn rhs(
     table: &mut [u32],
     store: &mut [u64],
-    s: State,
-    name: Name,
-    scope: Scope,
+    b: Binder,
     right: u32,
     body: u32,
-    left: u32,
-    at: Context,
-) -> Answer
-    requires { ⌜ ReadyRhs (now table) (now store) s right body at × Declared scope ⌝ }
-    ensures { λ r. ⌜ ExpandedRhs left at (now (store .entry)) (now (store .exit)) (now (table .entry)) (now (table .exit)) s (name .0) (scope .0) right body r ⌝ }
+    at: Surroundings,
+) -> Onward
+    requires { ⌜ ReadyRhs (now table) (now store) (b .state) right body at × Declared (b .scope) ⌝ }
+    ensures { λ r. ⌜ OnwardRhs at (now (store .entry)) (now (store .exit)) (now (table .entry)) (now (table .exit)) b right body r ⌝ }
 {
     let phase = at.phase;
-    if Context::LAST_PHASE <= phase {
-        return Answer::Refused(Stop {
+    let s = b.state;
+    if Surroundings::LAST_PHASE <= phase {
+        return Onward::Refused(Stop {
             refusal: Refusal::NoPhase,
             units: s.units,
         });
     }
     let none = ScopeSet::empty();
-    let above = Context {
+    let above = Surroundings {
+        left: at.left,
         phase: phase + 1,
         meanings: 0,
         prunable: none,
     };
-    match expand(table, store, s, right, left, above) {
-        Answer::Refused(f) => Answer::Refused(f),
+    match expand(table, store, s, right, above) {
+        Answer::Refused(f) => Onward::Refused(f),
         Answer::Done(o) => {
             let s1 = o.state;
-            defined(table, store, s1, name, scope, o.at, body, left, at)
-        }
-    }
-}
-
-// The name is to mean the value of the expanded right-hand side.
-fn defined(
-    table: &mut [u32],
-    store: &mut [u64],
-    s: State,
-    name: Name,
-    scope: Scope,
-    right: u32,
-    body: u32,
-    left: u32,
-    at: Context,
-) -> Answer
-    requires { ⌜ ReadyDefined (now table) (now store) s right body at × Declared scope ⌝ }
-    ensures { λ r. ⌜ ExpandedDefined left at (now (store .entry)) (now (store .exit)) (now (table .entry)) (now (table .exit)) s (name .0) (scope .0) right body r ⌝ }
-{
-    match value_of(table, store, s, right, at.phase + 1, left) {
-        Answer::Refused(f) => Answer::Refused(f),
-        Answer::Done(o) => {
-            let s1 = o.state;
-            scoped(
-                table,
-                store,
-                s1,
-                name,
-                scope,
-                Meaning::MACRO,
-                o.at,
-                body,
-                left,
-                at,
-            )
+            defined(table, store, s1, b, o.at, body, at)
         }
     }
 }
@@ -673,48 +645,11 @@ fn macro_use(
     s: State,
     i: u32,
     v: u32,
-    left: u32,
-    at: Context,
+    at: Surroundings,
 ) -> Answer
-    requires { ⌜ ReadyMacro (now table) (now store) s i v at ⌝ }
-    ensures { λ r. ⌜ ExpandedMacro left at (now (store .entry)) (now (store .exit)) (now (table .entry)) (now (table .exit)) s i v r ⌝ }
+    requires { ⌜ ReadyMacro (now table) s i v at × Held (now store) s ⌝ }
+    ensures { λ r. ⌜ ExpandedMacro at (now (store .entry)) (now (store .exit)) (now (table .entry)) (now (table .exit)) s i v r ⌝ }
 {
-    match scoping::mark_form(table, s, i, at.phase) {
-        Marking::Refused(f) => Answer::Refused(f),
-        Marking::Done(m) => {
-            let s1 = m.state;
-            let uses = m.uses;
-            let intro = m.intro;
-            let prunable = at.also_prunable(uses);
-            let to = Context {
-                phase: at.phase,
-                meanings: at.meanings,
-                prunable,
-            };
-            rewritten(table, store, s1, v, m.at, intro, left, to)
-        }
-    }
-}
-
-// What the macro makes of the marked form is expanded in its place, the use scope being prunable there.
-fn rewritten(
-    table: &mut [u32],
-    store: &mut [u64],
-    s: State,
-    v: u32,
-    form: u32,
-    intro: Scope,
-    left: u32,
-    at: Context,
-) -> Answer
-    requires { ⌜ ReadyRewritten (now table) (now store) s v form at × Declared intro ⌝ }
-    ensures { λ r. ⌜ ExpandedRewritten left at (now (store .entry)) (now (store .exit)) (now (table .entry)) (now (table .exit)) s v form (intro .0) r ⌝ }
-{
-    match transcribe(table, s, v, form, at.phase, intro, left) {
-        Answer::Refused(f) => Answer::Refused(f),
-        Answer::Done(o) => {
-            let s1 = o.state;
-            expand(table, store, s1, o.at, left, at)
-        }
-    }
+    let n = rewritten(table, s, i, v, at);
+    in_place(table, store, n, at)
 }

@@ -30,7 +30,7 @@ use Rattle.builder.specs.Reads.{ObjectRead}
 use Rattle.builder.specs.Building as built
 use Rattle.builder.specs.Building.{Builds}
 use Rattle.builder.specs.declared.Built.{Built}
-use Rattle.expand.specs.declared.Context.{Context}
+use Rattle.expand.specs.declared.Surroundings.{Surroundings}
 use Rattle.expand.specs.Cycle.{Ready, Expanded}
 use Rattle.judged.specs.declared.Judgement.{Judgement}
 use Rattle.loading.proofs.Building.{object-reads, object-judged, object-room}
@@ -41,8 +41,8 @@ use Rattle.expand_job.specs.Loading.{Loading, LoadedEnds}
 use Rattle.expand_job.proofs.Worked.{Came, came-done, came-ends, stop-ends}
 use Rattle.table.specs.Sizes.{twoCells}
 
-abbrev atCore : ℕ → ScopeSet → Context
-atCore ph none = record { phase = ph; meanings = 0; prunable = none }
+abbrev atCore : ℕ → ScopeSet → Surroundings
+atCore ph none = record { left = 128; phase = ph; meanings = 0; prunable = none }
 
 module _ {image : List ℕ} {j : Judgement} {st l : List ℕ} {s : State} {budget : ℕ} (d : Loading image j st l s budget) where
   abbrev object : Stx
@@ -58,7 +58,7 @@ module _ {image : List ℕ} {j : Judgement} {st l : List ℕ} {s : State} {budge
     shown : Rep l′ (b .top) (b .at) (stx object)
     shown = w .means (stx object) [] (object-reads (d .good .known)) .shown
 
-    ready : (at : Context) → at .meanings ≡ 0 → Ready l′ st (raisedTo (b .top) s) (b .at) at
+    ready : (at : Surroundings) → at .meanings ≡ 0 → Ready l′ st (raisedTo (b .top) s) (b .at) at
     ready at core = record {
       thing = object;
       shown = shown;
@@ -74,12 +74,12 @@ module _ {image : List ℕ} {j : Judgement} {st l : List ℕ} {s : State} {budge
     object-ready {ph = ph} {none = none} e = subst (λ (z : State). Ready l′ st z (b .at) (atCore ph none)) (sym e) (ready (atCore ph none) refl)
 
     module _ {t : State} (te : t ≡ raisedTo (b .top) s) {ph : ℕ} {none : ScopeSet} (ne : scopesOf none ≡ 0) {st′ l″ : List ℕ} {a : Answer}
-        (v : Expanded 128 (atCore ph none) st st′ l′ l″ t (b .at) a) (same′ : length l″ ≡ length l′) where
+        (v : Expanded (atCore ph none) st st′ l′ l″ t (b .at) a) (same′ : length l″ ≡ length l′) where
       abbrev result : m.Out Stx
       result = expand 128 ph coreOnly 0 object (stateOf s (bindsOf st))
 
-      v′ : Expanded 128 (atCore ph none) st st′ l′ l″ (raisedTo (b .top) s) (b .at) a
-      v′ = subst (λ (z : State). Expanded 128 (atCore ph none) st st′ l′ l″ z (b .at) a) te v
+      v′ : Expanded (atCore ph none) st st′ l′ l″ (raisedTo (b .top) s) (b .at) a
+      v′ = subst (λ (z : State). Expanded (atCore ph none) st st′ l′ l″ z (b .at) a) te v
 
       agrees : Agrees objects 1 twoCells l′ l″ (raisedTo (b .top) s) (bindsOf st′) result (ended a)
       agrees =
@@ -116,7 +116,7 @@ module _ {image : List ℕ} {j : Judgement} {st l : List ℕ} {s : State} {budge
 
 module _ (image : List ℕ) (j : Judgement) (st l : List ℕ) (s : State) (ph budget : ℕ) (out : List ℕ) {st′ l′ l″ : List ℕ} {b : Built} {a : Answer}
     (w : Builds (ObjectRead (j .head .scopes)) l l′ (s .top) image (j .root) (j .root + 1) b) (same : length l′ ≡ length l)
-    {t : State} (te : t ≡ raisedTo (b .top) s) {none : ScopeSet} (ne : scopesOf none ≡ 0) (v : Expanded 128 (atCore ph none) st st′ l′ l″ t (b .at) a) (same′ : length l″ ≡ length l′) where
+    {t : State} (te : t ≡ raisedTo (b .top) s) {none : ScopeSet} (ne : scopesOf none ≡ 0) (v : Expanded (atCore ph none) st st′ l′ l″ t (b .at) a) (same′ : length l″ ≡ length l′) where
   pub expand-refused : {f : Stop} → a ≡ Refused f → LoadedEnds image j st l s ph budget out out (ending.Refused (f .refusal) (budget - f .units))
   expand-refused e = record { means = λ d. stop-ends (d .good .known .headed .words) budget _ out (stopped d w same te ne v same′ e) }
 

@@ -1,6 +1,6 @@
 // The job expand, apart from what is lent: the phase tested, the image judged, its root charged for, built and expanded, and the result written.
 use endings::Ending;
-use expand::Context;
+use expand::Surroundings;
 use judged::Judged;
 use judged::Judgement;
 use refusals::Refusal;
@@ -33,12 +33,13 @@ fn expand_loaded(
     let b = builder::object(table, s.top, image, j.root, h.scopes);
     let t = s.raised(b.top);
     let none = ScopeSet::empty();
-    let at = Context {
+    let at = Surroundings {
+        left: State::MOST_ENTRIES,
         phase,
         meanings: 0,
         prunable: none,
     };
-    match expand::expand(table, store, t, b.at, State::MOST_ENTRIES, at) {
+    match expand::expand(table, store, t, b.at, at) {
         Answer::Refused(f) => {
             let refusal = f.refusal;
             Ending::Refused(refusal, budget - f.units)
@@ -106,7 +107,7 @@ pub fn expand_work(
     requires { ⌜ Lent (now table) budget ⌝ }
     ensures { λ r. ⌜ EndsAs (expandEnding (now (image .entry)) phase budget (length (now (out .entry)))) (now (out .entry)) (now (out .exit)) r ⌝ }
 {
-    if Context::LAST_PHASE < phase {
+    if Surroundings::LAST_PHASE < phase {
         return Ending::Refused(Refusal::NoPhase, 0);
     }
     let mut store = [0u64; Resolving::STORE];

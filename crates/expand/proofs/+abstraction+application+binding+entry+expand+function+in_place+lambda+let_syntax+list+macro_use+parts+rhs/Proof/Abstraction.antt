@@ -1,18 +1,22 @@
 use borrow.Author.Needs.{needs}
 use Prim.Native.Nat.{ℕ}
-use Rattle.expand.proofs.Cycle.{laws}
+use Rattle.expand.proofs.Cycle.{laws, abstraction-three-ready}
 use Rattle.expand.proofs.abstraction.Reads as abstraction
-use Rattle.expand.proofs.scoped.Reads as scoped
+use Rattle.expand.proofs.in_place.Reads as in-place
+use Rattle.expand.proofs.scoped.Reads as scoped-reads
 use Rattle.expand.proofs.three_list.Reads as three-list-reads
-use Rattle.expand.proofs.+abstraction+application+binding+defined+entry+expand+function+inner+lambda+let_syntax+list+macro_use+parts+rewritten+rhs+scoped.Lts-abstraction as lts
-use Rattle.expand.proofs.+abstraction+application+binding+defined+entry+expand+function+inner+lambda+let_syntax+list+macro_use+parts+rewritten+rhs+scoped.Proof.Measures.{abstraction-at, scoped-below}
+use Rattle.expand.proofs.+abstraction+application+binding+entry+expand+function+in_place+lambda+let_syntax+list+macro_use+parts+rhs.Lts-abstraction as lts
+use Rattle.expand.proofs.+abstraction+application+binding+entry+expand+function+in_place+lambda+let_syntax+list+macro_use+parts+rhs.Proof.Measures.{abstraction-at, in-place-below}
 
 module _ (t : ℕ) where
   abbrev env : lts.Claims
-  env = (scoped-below t, scoped.Post, three-list-reads.Asked, three-list-reads.Learnt)
+  env = (scoped-reads.Asked, scoped-reads.Learnt, in-place-below t, in-place.Post, three-list-reads.Asked, three-list-reads.Learnt)
 
   scoped-requires : lts.Need-scoped-requires env (abstraction-at t) abstraction.Post
   scoped-requires c κs = search (laws, needs)
+
+  in-place-requires : lts.Need-in-place-requires env (abstraction-at t) abstraction.Post
+  in-place-requires c κs = search (laws, needs)
 
   enum-known-f : lts.Need-enum-known-f env (abstraction-at t) abstraction.Post
   enum-known-f c = search (laws, needs)
@@ -21,7 +25,7 @@ module _ (t : ℕ) where
   enum-known-o c = search (laws, needs)
 
   three-list-requires : lts.Need-three-list-requires env (abstraction-at t) abstraction.Post
-  three-list-requires c κs = search (laws, needs)
+  three-list-requires c κs = abstraction-three-ready (c .before .before .before .before .before .before .before .before .before .before .before .before .before .before .scoped .ensures) (c .before .before .before .before .before .before .before .before .before .in-place .ensures) (search (needs, c .before .before .known-told2 .given)) (c .before .before .before .before .before .before .before .before .before .before .before .before .before .before .before .before .before .before .before .pre .1 .0) (search (needs, c .before .before .before .before .before .before .before .before .before .before .before .before .before .table)) (search (needs, c .before .before .before .before .before .before .before .before .table2))
 
   same-length : lts.Need-same-length env (abstraction-at t) abstraction.Post
   same-length c = search (laws, needs)
@@ -44,6 +48,7 @@ module _ (t : ℕ) where
   pub closed : {M : Type 1} → lts.Closed env (abstraction-at t) abstraction.Post M
   closed = lts.spec env (abstraction-at t) abstraction.Post
       scoped-requires
+      in-place-requires
       enum-known-f
       enum-known-o
       three-list-requires

@@ -4,8 +4,8 @@ use Rattle.expand.proofs.Cycle.{laws}
 use Rattle.expand.proofs.abstraction.Reads as abstraction
 use Rattle.scoping.proofs.bind_fresh.Reads as bind-fresh-reads
 use Rattle.expand.proofs.function.Reads as function
-use Rattle.expand.proofs.+abstraction+application+binding+defined+entry+expand+function+inner+lambda+let_syntax+list+macro_use+parts+rewritten+rhs+scoped.Lts-function as lts
-use Rattle.expand.proofs.+abstraction+application+binding+defined+entry+expand+function+inner+lambda+let_syntax+list+macro_use+parts+rewritten+rhs+scoped.Proof.Measures.{function-at, abstraction-below}
+use Rattle.expand.proofs.+abstraction+application+binding+entry+expand+function+in_place+lambda+let_syntax+list+macro_use+parts+rhs.Lts-function as lts
+use Rattle.expand.proofs.+abstraction+application+binding+entry+expand+function+in_place+lambda+let_syntax+list+macro_use+parts+rhs.Proof.Measures.{function-at, abstraction-below}
 
 module _ (t : ℕ) where
   abbrev env : lts.Claims
@@ -21,7 +21,7 @@ module _ (t : ℕ) where
   enum-known-b c = search (laws, needs)
 
   abstraction-requires : lts.Need-abstraction-requires env (function-at t) function.Post
-  abstraction-requires c κs = search (laws, needs, c .before .before .before .before .before .before .before .before .before .before .before .before .before .before .before .before .before .pre, c .before .before .before .before .before .before .before .before .before .before .before .before .bind-fresh .ensures, c .before .before .before .before .before .known-told2 .given, c .before .before .before .before .before .before .before .before .before .before .before .table, c .before .before .before .before .before .before .before .before .before .store)
+  abstraction-requires c κs = search (laws, needs)
 
   same-length : lts.Need-same-length env (function-at t) function.Post
   same-length c = search (laws, needs)

@@ -1,7 +1,6 @@
-use Rattle.expand.proofs.Cycle.{list-macro-ready}
 use borrow.Author.Needs.{needs}
 use Prim.Native.Nat.{ℕ}
-use Rattle.expand.proofs.Cycle.{laws}
+use Rattle.expand.proofs.Cycle.{laws, list-macro-ready, list-macro-held}
 use Rattle.expand.proofs.application.Reads as application
 use Rattle.table.proofs.get_cell.Reads as get-cell-reads
 use Rattle.expand.proofs.lambda.Reads as lambda
@@ -11,8 +10,8 @@ use Rattle.expand.proofs.macro_use.Reads as macro-use
 use Rattle.environment.proofs.meaning_of.Reads as meaning-of-reads
 use Rattle.expand.proofs.quote.Reads as quote-reads
 use Rattle.expand.proofs.syntax_form.Reads as syntax-form-reads
-use Rattle.expand.proofs.+abstraction+application+binding+defined+entry+expand+function+inner+lambda+let_syntax+list+macro_use+parts+rewritten+rhs+scoped.Lts-list as lts
-use Rattle.expand.proofs.+abstraction+application+binding+defined+entry+expand+function+inner+lambda+let_syntax+list+macro_use+parts+rewritten+rhs+scoped.Proof.Measures.{list-at, application-below, lambda-below, let-syntax-below, macro-use-below}
+use Rattle.expand.proofs.+abstraction+application+binding+entry+expand+function+in_place+lambda+let_syntax+list+macro_use+parts+rhs.Lts-list as lts
+use Rattle.expand.proofs.+abstraction+application+binding+entry+expand+function+in_place+lambda+let_syntax+list+macro_use+parts+rhs.Proof.Measures.{list-at, application-below, lambda-below, let-syntax-below, macro-use-below}
 
 module _ (t : ℕ) where
   abbrev env : lts.Claims
@@ -61,7 +60,7 @@ module _ (t : ℕ) where
   enum-known-v c = search (laws, needs)
 
   macro-use-requires : lts.Need-macro-use-requires env (list-at t) list.Post
-  macro-use-requires c κs = (search (laws, needs), list-macro-ready _ (c .before .before .before .before .before .before .before .before .before .before .if1 .left) (c .before .before .before .before .before .before .before .before .get-cell .ensures) (c .before .before .before .before .before .meaning-of .ensures) (c .before .before .before .before .before .before .before .before .before .before .before .before .before .pre .1) (search needs))
+  macro-use-requires c κs = (search (laws, needs), (list-macro-ready _ (c .before .before .before .before .before .before .before .before .before .before .if1 .left) (c .before .before .before .before .before .before .before .before .get-cell .ensures) (c .before .before .before .before .before .meaning-of .ensures) (c .before .before .before .before .before .before .before .before .before .before .before .before .before .pre .1) (search needs), list-macro-held _ (c .before .before .before .before .before .before .before .before .before .before .before .before .before .pre .1)))
 
   enum-told-6 : lts.Need-enum-told-6 env (list-at t) list.Post
   enum-told-6 c = search (laws, needs)

@@ -1,4 +1,3 @@
-use Rattle.expand.proofs.Cycle.{lambda-function-ready}
 use borrow.Author.Needs.{needs}
 use Prim.Native.Nat.{ℕ}
 use Rattle.expand.proofs.Cycle.{laws}
@@ -6,8 +5,9 @@ use Rattle.expand.proofs.function.Reads as function
 use Rattle.forms.proofs.is_identifier.Reads as is-identifier-reads
 use Rattle.expand.proofs.lambda.Reads as lambda
 use Rattle.forms.proofs.two_parts.Reads as two-parts-reads
-use Rattle.expand.proofs.+abstraction+application+binding+defined+entry+expand+function+inner+lambda+let_syntax+list+macro_use+parts+rewritten+rhs+scoped.Lts-lambda as lts
-use Rattle.expand.proofs.+abstraction+application+binding+defined+entry+expand+function+inner+lambda+let_syntax+list+macro_use+parts+rewritten+rhs+scoped.Proof.Measures.{lambda-at, function-below}
+use Rattle.expand.proofs.+abstraction+application+binding+entry+expand+function+in_place+lambda+let_syntax+list+macro_use+parts+rhs.Lts-lambda as lts
+use Rattle.expand.proofs.+abstraction+application+binding+entry+expand+function+in_place+lambda+let_syntax+list+macro_use+parts+rhs.Proof.Measures.{lambda-at, function-below}
+use Rattle.expand.proofs.Cycle.{lambda-function-ready}
 
 module _ (t : ℕ) where
   abbrev env : lts.Claims

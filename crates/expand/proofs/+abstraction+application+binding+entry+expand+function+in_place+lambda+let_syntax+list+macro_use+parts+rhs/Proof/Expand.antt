@@ -4,8 +4,8 @@ use Rattle.expand.proofs.Cycle.{laws}
 use Rattle.steps.proofs.State.enter.Reads as enter-reads
 use Rattle.expand.proofs.entry.Reads as entry
 use Rattle.expand.proofs.expand.Reads as expand
-use Rattle.expand.proofs.+abstraction+application+binding+defined+entry+expand+function+inner+lambda+let_syntax+list+macro_use+parts+rewritten+rhs+scoped.Lts-expand as lts
-use Rattle.expand.proofs.+abstraction+application+binding+defined+entry+expand+function+inner+lambda+let_syntax+list+macro_use+parts+rewritten+rhs+scoped.Proof.Measures.{expand-at, entry-below}
+use Rattle.expand.proofs.+abstraction+application+binding+entry+expand+function+in_place+lambda+let_syntax+list+macro_use+parts+rhs.Lts-expand as lts
+use Rattle.expand.proofs.+abstraction+application+binding+entry+expand+function+in_place+lambda+let_syntax+list+macro_use+parts+rhs.Proof.Measures.{expand-at, entry-below}
 
 module _ (t : ℕ) where
   abbrev env : lts.Claims
@@ -20,8 +20,8 @@ module _ (t : ℕ) where
   enum-known-t : lts.Need-enum-known-t env (expand-at t) expand.Post
   enum-known-t c = search (laws, needs)
 
-  sub-entry : lts.Need-sub-entry env (expand-at t) expand.Post
-  sub-entry c = search (laws, needs)
+  sub-t12 : lts.Need-sub-t12 env (expand-at t) expand.Post
+  sub-t12 c = search (laws, needs)
 
   entry-requires : lts.Need-entry-requires env (expand-at t) expand.Post
   entry-requires c κs = search (laws, needs)
@@ -43,7 +43,7 @@ module _ (t : ℕ) where
       enter-requires
       enum-known-f
       enum-known-t
-      sub-entry
+      sub-t12
       entry-requires
       returns
       same-length

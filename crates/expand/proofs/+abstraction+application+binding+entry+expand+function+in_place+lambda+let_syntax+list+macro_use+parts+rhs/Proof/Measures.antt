@@ -4,16 +4,14 @@ use Rattle.expand.proofs.application.Reads as application
 use Rattle.expand.proofs.application.Kinds as application-kinds
 use Rattle.expand.proofs.binding.Reads as binding
 use Rattle.expand.proofs.binding.Kinds as binding-kinds
-use Rattle.expand.proofs.defined.Reads as defined
-use Rattle.expand.proofs.defined.Kinds as defined-kinds
 use Rattle.expand.proofs.entry.Reads as entry
 use Rattle.expand.proofs.entry.Kinds as entry-kinds
 use Rattle.expand.proofs.expand.Reads as expand
 use Rattle.expand.proofs.expand.Kinds as expand-kinds
 use Rattle.expand.proofs.function.Reads as function
 use Rattle.expand.proofs.function.Kinds as function-kinds
-use Rattle.expand.proofs.inner.Reads as inner
-use Rattle.expand.proofs.inner.Kinds as inner-kinds
+use Rattle.expand.proofs.in_place.Reads as in-place
+use Rattle.expand.proofs.in_place.Kinds as in-place-kinds
 use Rattle.expand.proofs.lambda.Reads as lambda
 use Rattle.expand.proofs.lambda.Kinds as lambda-kinds
 use Rattle.expand.proofs.let_syntax.Reads as let-syntax
@@ -24,18 +22,15 @@ use Rattle.expand.proofs.macro_use.Reads as macro-use
 use Rattle.expand.proofs.macro_use.Kinds as macro-use-kinds
 use Rattle.expand.proofs.parts.Reads as parts
 use Rattle.expand.proofs.parts.Kinds as parts-kinds
-use Rattle.expand.proofs.rewritten.Reads as rewritten
-use Rattle.expand.proofs.rewritten.Kinds as rewritten-kinds
 use Rattle.expand.proofs.rhs.Reads as rhs
 use Rattle.expand.proofs.rhs.Kinds as rhs-kinds
-use Rattle.expand.proofs.scoped.Reads as scoped
-use Rattle.expand.proofs.scoped.Kinds as scoped-kinds
 use Prim.Native.Nat.{ℕ, _<_, _+_, _*_, _^_}
 use borrow.Fn.Kinds.{In}
 use borrow.Fn.PlainCycle.{Measures, is, falls, and}
+use Rattle.expand.proofs.InPlace.{unitsOf}
 
 abbrev pub μ-abstraction : Measures 2 abstraction-kinds.ps ℕ
-μ-abstraction κs a = a .1 .1 .0 .units * 32 + 16
+μ-abstraction κs a = a .1 .1 .1 .1 .0 .state .units * 32 + 16
 
 abbrev pub abstraction-at : ℕ → In 2 abstraction-kinds.ps
 abstraction-at t = and 2 abstraction-kinds.ps (is 2 abstraction-kinds.ps μ-abstraction t) abstraction.Pre
@@ -60,15 +55,6 @@ binding-at t = and 2 binding-kinds.ps (is 2 binding-kinds.ps μ-binding t) bindi
 
 abbrev pub binding-below : ℕ → In 2 binding-kinds.ps
 binding-below t = and 2 binding-kinds.ps (falls 2 binding-kinds.ps _<_ μ-binding t) binding.Pre
-
-abbrev pub μ-defined : Measures 2 defined-kinds.ps ℕ
-μ-defined κs a = a .1 .1 .0 .units * 32 + 16
-
-abbrev pub defined-at : ℕ → In 2 defined-kinds.ps
-defined-at t = and 2 defined-kinds.ps (is 2 defined-kinds.ps μ-defined t) defined.Pre
-
-abbrev pub defined-below : ℕ → In 2 defined-kinds.ps
-defined-below t = and 2 defined-kinds.ps (falls 2 defined-kinds.ps _<_ μ-defined t) defined.Pre
 
 abbrev pub μ-entry : Measures 2 entry-kinds.ps ℕ
 μ-entry κs a = a .1 .1 .0 .units * 32 + 20
@@ -97,14 +83,14 @@ function-at t = and 2 function-kinds.ps (is 2 function-kinds.ps μ-function t) f
 abbrev pub function-below : ℕ → In 2 function-kinds.ps
 function-below t = and 2 function-kinds.ps (falls 2 function-kinds.ps _<_ μ-function t) function.Pre
 
-abbrev pub μ-inner : Measures 2 inner-kinds.ps ℕ
-μ-inner κs a = a .1 .1 .0 .units * 32 + 14
+abbrev pub μ-in-place : Measures 2 in-place-kinds.ps ℕ
+μ-in-place κs a = unitsOf (a .1 .1 .0) * 32 + 1
 
-abbrev pub inner-at : ℕ → In 2 inner-kinds.ps
-inner-at t = and 2 inner-kinds.ps (is 2 inner-kinds.ps μ-inner t) inner.Pre
+abbrev pub in-place-at : ℕ → In 2 in-place-kinds.ps
+in-place-at t = and 2 in-place-kinds.ps (is 2 in-place-kinds.ps μ-in-place t) in-place.Pre
 
-abbrev pub inner-below : ℕ → In 2 inner-kinds.ps
-inner-below t = and 2 inner-kinds.ps (falls 2 inner-kinds.ps _<_ μ-inner t) inner.Pre
+abbrev pub in-place-below : ℕ → In 2 in-place-kinds.ps
+in-place-below t = and 2 in-place-kinds.ps (falls 2 in-place-kinds.ps _<_ μ-in-place t) in-place.Pre
 
 abbrev pub μ-lambda : Measures 2 lambda-kinds.ps ℕ
 μ-lambda κs a = a .1 .1 .0 .units * 32 + 18
@@ -151,29 +137,11 @@ parts-at t = and 2 parts-kinds.ps (is 2 parts-kinds.ps μ-parts t) parts.Pre
 abbrev pub parts-below : ℕ → In 2 parts-kinds.ps
 parts-below t = and 2 parts-kinds.ps (falls 2 parts-kinds.ps _<_ μ-parts t) parts.Pre
 
-abbrev pub μ-rewritten : Measures 2 rewritten-kinds.ps ℕ
-μ-rewritten κs a = a .1 .1 .0 .units * 32 + 17
-
-abbrev pub rewritten-at : ℕ → In 2 rewritten-kinds.ps
-rewritten-at t = and 2 rewritten-kinds.ps (is 2 rewritten-kinds.ps μ-rewritten t) rewritten.Pre
-
-abbrev pub rewritten-below : ℕ → In 2 rewritten-kinds.ps
-rewritten-below t = and 2 rewritten-kinds.ps (falls 2 rewritten-kinds.ps _<_ μ-rewritten t) rewritten.Pre
-
 abbrev pub μ-rhs : Measures 2 rhs-kinds.ps ℕ
-μ-rhs κs a = a .1 .1 .0 .units * 32 + 18
+μ-rhs κs a = a .1 .1 .0 .state .units * 32 + 18
 
 abbrev pub rhs-at : ℕ → In 2 rhs-kinds.ps
 rhs-at t = and 2 rhs-kinds.ps (is 2 rhs-kinds.ps μ-rhs t) rhs.Pre
 
 abbrev pub rhs-below : ℕ → In 2 rhs-kinds.ps
 rhs-below t = and 2 rhs-kinds.ps (falls 2 rhs-kinds.ps _<_ μ-rhs t) rhs.Pre
-
-abbrev pub μ-scoped : Measures 2 scoped-kinds.ps ℕ
-μ-scoped κs a = a .1 .1 .0 .units * 32 + 15
-
-abbrev pub scoped-at : ℕ → In 2 scoped-kinds.ps
-scoped-at t = and 2 scoped-kinds.ps (is 2 scoped-kinds.ps μ-scoped t) scoped.Pre
-
-abbrev pub scoped-below : ℕ → In 2 scoped-kinds.ps
-scoped-below t = and 2 scoped-kinds.ps (falls 2 scoped-kinds.ps _<_ μ-scoped t) scoped.Pre

@@ -4,8 +4,8 @@ use Rattle.expand.proofs.Cycle.{laws}
 use Rattle.expand.proofs.application.Reads as application
 use Rattle.expand.proofs.listed.Reads as listed-reads
 use Rattle.expand.proofs.parts.Reads as parts
-use Rattle.expand.proofs.+abstraction+application+binding+defined+entry+expand+function+inner+lambda+let_syntax+list+macro_use+parts+rewritten+rhs+scoped.Lts-application as lts
-use Rattle.expand.proofs.+abstraction+application+binding+defined+entry+expand+function+inner+lambda+let_syntax+list+macro_use+parts+rewritten+rhs+scoped.Proof.Measures.{application-at, parts-below}
+use Rattle.expand.proofs.+abstraction+application+binding+entry+expand+function+in_place+lambda+let_syntax+list+macro_use+parts+rhs.Lts-application as lts
+use Rattle.expand.proofs.+abstraction+application+binding+entry+expand+function+in_place+lambda+let_syntax+list+macro_use+parts+rhs.Proof.Measures.{application-at, parts-below}
 
 module _ (t : ℕ) where
   abbrev env : lts.Claims

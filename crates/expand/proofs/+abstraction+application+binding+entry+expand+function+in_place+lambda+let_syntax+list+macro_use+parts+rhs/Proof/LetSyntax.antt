@@ -1,17 +1,17 @@
-use Rattle.expand.proofs.Cycle.{let-binding-ready}
 use borrow.Author.Needs.{needs}
 use Prim.Native.Nat.{ℕ}
-use Rattle.expand.proofs.Cycle.{laws}
+use Rattle.expand.proofs.Cycle.{laws, let-binding-ready, let-less, let-next-ready}
 use Rattle.expand.proofs.binding.Reads as binding
+use Rattle.expand.proofs.in_place.Reads as in-place
 use Rattle.forms.proofs.is_identifier.Reads as is-identifier-reads
 use Rattle.expand.proofs.let_syntax.Reads as let-syntax
 use Rattle.forms.proofs.three_parts.Reads as three-parts-reads
-use Rattle.expand.proofs.+abstraction+application+binding+defined+entry+expand+function+inner+lambda+let_syntax+list+macro_use+parts+rewritten+rhs+scoped.Lts-let_syntax as lts
-use Rattle.expand.proofs.+abstraction+application+binding+defined+entry+expand+function+inner+lambda+let_syntax+list+macro_use+parts+rewritten+rhs+scoped.Proof.Measures.{let-syntax-at, binding-below}
+use Rattle.expand.proofs.+abstraction+application+binding+entry+expand+function+in_place+lambda+let_syntax+list+macro_use+parts+rhs.Lts-let_syntax as lts
+use Rattle.expand.proofs.+abstraction+application+binding+entry+expand+function+in_place+lambda+let_syntax+list+macro_use+parts+rhs.Proof.Measures.{let-syntax-at, binding-below, in-place-below}
 
 module _ (t : ℕ) where
   abbrev env : lts.Claims
-  env = (three-parts-reads.Asked, three-parts-reads.Learnt, is-identifier-reads.Asked, is-identifier-reads.Learnt, binding-below t, binding.Post)
+  env = (three-parts-reads.Asked, three-parts-reads.Learnt, is-identifier-reads.Asked, is-identifier-reads.Learnt, binding-below t, binding.Post, in-place-below t, in-place.Post)
 
   three-parts-requires : lts.Need-three-parts-requires env (let-syntax-at t) let-syntax.Post
   three-parts-requires c κs = search (laws, needs)
@@ -27,6 +27,9 @@ module _ (t : ℕ) where
 
   binding-requires : lts.Need-binding-requires env (let-syntax-at t) let-syntax.Post
   binding-requires c κs = (search (laws, needs), let-binding-ready _ (c .before .before .before .before .before .before .before .before .three-parts .ensures) (search needs) (c .before .before .before .is-identifier .ensures) (c .before .before .if1 .taken) (c .before .before .before .before .before .before .before .before .before .before .before .before .pre .1))
+
+  in-place-requires : lts.Need-in-place-requires env (let-syntax-at t) let-syntax.Post
+  in-place-requires c κs = (let-less _ (c .before .before .before .before .before .before .before .before .before .before .before .before .before .before .before .three-parts .ensures) (search needs) (c .before .before .before .before .before .before .before .before .before .before .is-identifier .ensures) (c .before .before .before .before .before .before .before .before .before .if1 .taken) (c .before .before .before .before .before .before .binding .ensures) (c .before .before .before .before .before .before .before .before .before .before .before .before .before .before .before .before .before .before .before .pre .1) (c .before .before .before .before .before .before .before .before .before .before .before .before .before .before .before .before .before .before .before .pre .0), let-next-ready _ (c .before .before .before .before .before .before .before .before .before .before .before .before .before .before .before .three-parts .ensures) (search needs) (c .before .before .before .before .before .before .before .before .before .before .is-identifier .ensures) (c .before .before .before .before .before .before .before .before .before .if1 .taken) (c .before .before .before .before .before .before .binding .ensures) (c .before .before .before .before .before .before .before .before .before .before .before .before .before .before .before .before .before .before .before .pre .1) (search (needs, c .before .before .before .before .before .table)) (search (needs, c .before .before .before .store)))
 
   same-length : lts.Need-same-length env (let-syntax-at t) let-syntax.Post
   same-length c = search (laws, needs)
@@ -56,6 +59,7 @@ module _ (t : ℕ) where
       enum-known-id
       is-identifier-requires
       binding-requires
+      in-place-requires
       same-length
       same-length-2
       returns

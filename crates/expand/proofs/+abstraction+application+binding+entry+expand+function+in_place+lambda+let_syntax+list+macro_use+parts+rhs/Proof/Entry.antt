@@ -5,8 +5,8 @@ use Rattle.expand.proofs.entry.Reads as entry
 use Rattle.table.proofs.get_node.Reads as get-node-reads
 use Rattle.expand.proofs.list.Reads as list
 use Rattle.expand.proofs.reference.Reads as reference-reads
-use Rattle.expand.proofs.+abstraction+application+binding+defined+entry+expand+function+inner+lambda+let_syntax+list+macro_use+parts+rewritten+rhs+scoped.Lts-entry as lts
-use Rattle.expand.proofs.+abstraction+application+binding+defined+entry+expand+function+inner+lambda+let_syntax+list+macro_use+parts+rewritten+rhs+scoped.Proof.Measures.{entry-at, list-below}
+use Rattle.expand.proofs.+abstraction+application+binding+entry+expand+function+in_place+lambda+let_syntax+list+macro_use+parts+rhs.Lts-entry as lts
+use Rattle.expand.proofs.+abstraction+application+binding+entry+expand+function+in_place+lambda+let_syntax+list+macro_use+parts+rhs.Proof.Measures.{entry-at, list-below}
 
 module _ (t : ℕ) where
   abbrev env : lts.Claims

@@ -4,8 +4,8 @@ use Rattle.expand.proofs.Cycle.{laws}
 use Rattle.scoping.proofs.bind_fresh.Reads as bind-fresh-reads
 use Rattle.expand.proofs.binding.Reads as binding
 use Rattle.expand.proofs.rhs.Reads as rhs
-use Rattle.expand.proofs.+abstraction+application+binding+defined+entry+expand+function+inner+lambda+let_syntax+list+macro_use+parts+rewritten+rhs+scoped.Lts-binding as lts
-use Rattle.expand.proofs.+abstraction+application+binding+defined+entry+expand+function+inner+lambda+let_syntax+list+macro_use+parts+rewritten+rhs+scoped.Proof.Measures.{binding-at, rhs-below}
+use Rattle.expand.proofs.+abstraction+application+binding+entry+expand+function+in_place+lambda+let_syntax+list+macro_use+parts+rhs.Lts-binding as lts
+use Rattle.expand.proofs.+abstraction+application+binding+entry+expand+function+in_place+lambda+let_syntax+list+macro_use+parts+rhs.Proof.Measures.{binding-at, rhs-below}
 
 module _ (t : ℕ) where
   abbrev env : lts.Claims
@@ -21,7 +21,7 @@ module _ (t : ℕ) where
   enum-known-b c = search (laws, needs)
 
   rhs-requires : lts.Need-rhs-requires env (binding-at t) binding.Post
-  rhs-requires c κs = search (laws, needs, c .before .before .before .before .before .before .before .before .before .before .before .before .before .before .before .before .before .pre, c .before .before .before .before .before .before .before .before .before .before .before .before .bind-fresh .ensures, c .before .before .before .before .before .known-told2 .given, c .before .before .before .before .before .before .before .before .before .before .before .table, c .before .before .before .before .before .before .before .before .before .store)
+  rhs-requires c κs = search (laws, needs)
 
   same-length : lts.Need-same-length env (binding-at t) binding.Post
   same-length c = search (laws, needs)

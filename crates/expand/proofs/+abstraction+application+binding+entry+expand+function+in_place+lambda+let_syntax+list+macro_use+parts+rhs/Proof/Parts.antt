@@ -8,14 +8,14 @@ use Rattle.steps.proofs.State.raised.Reads as raised-reads
 use Rattle.table.proofs.get_cell.Reads as get-cell-reads
 use Rattle.things.proofs.link.Reads as link-reads
 use Rattle.things.proofs.turn.Reads as turn-reads
-use Rattle.expand.proofs.+abstraction+application+binding+defined+entry+expand+function+inner+lambda+let_syntax+list+macro_use+parts+rewritten+rhs+scoped.Lts-parts as lts
-use Rattle.expand.proofs.+abstraction+application+binding+defined+entry+expand+function+inner+lambda+let_syntax+list+macro_use+parts+rewritten+rhs+scoped.Proof.Measures.{parts-at, expand-below}
+use Rattle.expand.proofs.+abstraction+application+binding+entry+expand+function+in_place+lambda+let_syntax+list+macro_use+parts+rhs.Lts-parts as lts
+use Rattle.expand.proofs.+abstraction+application+binding+entry+expand+function+in_place+lambda+let_syntax+list+macro_use+parts+rhs.Proof.Measures.{parts-at, expand-below}
 
 abbrev Inv-loop : lts.InvT-loop
-Inv-loop table₀ store₀ c left at t₀ from₀ turned₀ table store t from turned = Going left at store₀ table₀ t₀ c store table t from turned
+Inv-loop table₀ store₀ c at t₀ from₀ turned₀ table store t from turned = Going at store₀ table₀ t₀ c store table t from turned
 
 abbrev μ-loop : lts.MeasureT-loop
-μ-loop table₀ store₀ c left at t₀ from₀ turned₀ table store t from turned = from
+μ-loop table₀ store₀ c at t₀ from₀ turned₀ table store t from turned = from
 
 module _ (t : ℕ) where
   abbrev env : lts.Claims

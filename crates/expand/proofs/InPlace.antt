@@ -1,0 +1,232 @@
+-- What a form leaves to be expanded in its place: one law for each way out.
+use mathlib.Core.Path.{_≡_, refl, sym, ap, _∙_}
+use mathlib.Core.List.{List, []}
+use Prim.Native.Nat.{ℕ, _+_, _^_, _≤_, _<_}
+use native.Mathlib.Omega.{arith}
+use lib.ListN.{length}
+use Rattle.model.specs.Objects.{Stx, addScope}
+use Rattle.model.specs.Trees.{Tree, stx}
+use Rattle.model.specs.Steps as ms
+use Rattle.model.specs.Steps.{after, addTo}
+use Rattle.model.specs.Expanding as m
+use Rattle.model.specs.Expanding.{macro}
+use Rattle.scopes.specs.Sets.{Declared}
+use Rattle.store.specs.Words.{bindsOf}
+use Rattle.table.proofs.Laws.{same-trans}
+use Rattle.things.specs.Rep.{Rep}
+use Rattle.things.specs.Making.{Roomy}
+use Rattle.things.specs.declared.Made.{Made}
+use Rattle.things.proofs.Frame.{carry}
+use Rattle.steps.specs.States.{Store, stateOf, raisedTo, Room}
+use Rattle.steps.specs.Agreement.{ended, Gave, Agrees, gives, stops}
+use Rattle.steps.specs.declared.State.{State}
+use Rattle.steps.specs.declared.Stop.{Stop}
+use Rattle.steps.specs.declared.Out.{Out}
+use Rattle.steps.specs.declared.Answer.{Answer}
+use Rattle.steps.specs.declared.Answer.the-variants.{Done, Refused}
+use Rattle.steps.proofs.Laws.{then-ok, then-no, later-trans, room-later, on-done, on-refused, since}
+use Rattle.parse.specs.Shown.{Held, trees}
+use Rattle.environment.specs.Meanings.{meant-macro, Extended}
+use Rattle.environment.proofs.Frame.{carryE, carryM}
+use Rattle.scoping.specs.Changing.{objects, ReadyObject, changeRule, Changes}
+use Rattle.scoping.specs.Fresh.{marks, markRule, markingOf, MarksFresh}
+use Rattle.scoping.specs.declared.Binder.{Binder}
+use Rattle.scoping.specs.declared.Mark.{Mark}
+use Rattle.scoping.specs.declared.Marking.{Marking}
+use Rattle.scoping.specs.declared.Marking.the-variants as marking
+use Rattle.expand.specs.Leaves.{ReadyValue, valueRule, Values, ReadyTranscribed, transcribeRule, Transcribes}
+use Rattle.expand.specs.InPlace.{Further, nexts, onwardOf, ReadyScoped, scopedRule, Scoped, ReadyDefined, definedRule, Defined, ReadyMacro, rewrittenRule, Rewritten}
+use Rattle.expand.specs.Cycle.{entries, furtherRule, ReadyOnward, ExpandedOnward}
+use Rattle.expand.specs.declared.Surroundings.{Surroundings}
+use Rattle.expand.specs.declared.Onward.{Onward}
+use Rattle.expand.specs.declared.Onward.the-variants as onward
+use Rattle.scopes.specs.Sets.{scopesOf}
+use Rattle.table.specs.Sizes.{cellSize, twoCells, nodeSpare}
+
+-- ---- the body, in a new scope
+
+pub scoped-add-ready : {l : List ℕ} {s : State} {kind thing body : ℕ} {at : Surroundings} → ReadyScoped l s kind thing body at → ReadyObject l s body
+scoped-add-ready r = record { thing = r .object; shown = r .shown-body; room = r .room; few = r .few }
+
+module _ (at : Surroundings) (b : Binder) {l l1 : List ℕ} {s : State} {body : ℕ} {a : Answer} (v : Changes (addScope (b .scope .0) (at .phase)) l l1 s body a) where
+  pub scoped-refused : {kind thing : ℕ} {f : Stop} → a ≡ Refused f → Scoped at l l1 s b kind thing body (onward.Refused f)
+  unfolding scopedRule addTo changeRule
+  scoped-refused e = record { means = λ q w y g p u k. stops _ (then-no _ (on-refused (v .means q y u) (ap ended e))) }
+
+  module _ {o : Out} (e : a ≡ Done o) where
+    added : (q : Store) (y : Stx) → Rep l (s .top) body (stx y) → Gave objects 1 nodeSpare l l1 s q (changeRule (addScope (b .scope .0) (at .phase)) y (stateOf s q)) o
+    added q y u = on-done (v .means q y u) (ap ended e)
+
+    pub scoped-roomy : {kind thing : ℕ} → ReadyScoped l s kind thing body at → length l1 ≡ length l → Roomy l1 (o .state .top) cellSize
+    scoped-roomy r len =
+        let g = added (λ n. []) (r .object) (r .shown-body) in
+        record { fits = omega (arith, g .later .fits, r .room .fits, len); small = omega (arith, r .room .small, len); low = omega (arith, r .room .low, g .later .grows) }
+
+    pub scoped-next : {kind thing : ℕ} {l2 : List ℕ} {k : Made} {t : State} → Declared (b .scope) → Extended l1 l2 (o .state .top) (b .name .0) kind thing (at .meanings) (k .at) (k .top) → t ≡ raisedTo (k .top) (o .state)
+        → Scoped at l l2 s b kind thing body (onward.Done (record { at = o .at; scope = b .scope; meanings = k .at; state = t }))
+    unfolding scopedRule addTo changeRule
+    scoped-next {l2 = l2} {k = k} d x z =
+        rw z (record {
+          means = λ q w y g p u c.
+              let j = added q y u in
+              gives (record { at = o .at; scope = b .scope; meanings = k .at; state = raisedTo (k .top) (o .state) }) (record {
+                value = record { object = j .value; scope = b .scope .0; meant = m.extend (b .name .0) w g };
+                is = then-ok _ (j .is);
+                shown = record {
+                  rep = carry (j .shown .rep) (x .kept) (omega (arith, x .grows));
+                  scope = refl;
+                  declared = d;
+                  known = x .means w g (carryM p (j .later .kept) (j .later .grows)) (carryE c (j .later .kept) (j .later .grows));
+                  few = j .shown .few;
+                };
+                later = record {
+                  kept = same-trans (s .top) (o .state .top) l l1 l2 (j .later .grows) (j .later .kept) (x .kept);
+                  grows = omega (arith, j .later .grows, x .grows);
+                  fits = omega (arith, j .later .fits, x .grows);
+                  spent = omega (arith, j .later .spent);
+                };
+              });
+        })
+
+-- ---- the body, with the value of an expanded right-hand side
+
+module _ {st l : List ℕ} {s : State} {right body : ℕ} {at : Surroundings} (r : ReadyDefined l st s right body at) where
+  pub defined-up : at .phase + 1 < 2 ^ 32
+  defined-up = omega (arith, r .low)
+
+  pub defined-value-ready : ReadyValue l st s right
+  defined-value-ready = record { thing = r .thing; shown = r .shown; room = r .within .room; held = r .within .held }
+
+module _ (at : Surroundings) {st l l1 : List ℕ} {s : State} {right : ℕ} {a : Answer} (v : Values (at .left) (at .phase + 1) st l l1 s right a) where
+  pub defined-refused : {b : Binder} {body : ℕ} {f : Stop} → a ≡ Refused f → Defined at st l l1 s b right body (onward.Refused f)
+  unfolding definedRule
+  defined-refused e = record { means = λ u y g w z k. stops _ (then-no _ (on-refused (v .means u w) (ap ended e))) }
+
+  module _ {o : Out} (e : a ≡ Done o) where
+    value-to : (u : Stx) → Rep l (s .top) right (stx u) → Gave trees 1 twoCells l l1 s (bindsOf st) (valueRule (at .left) (at .phase + 1) u (stateOf s (bindsOf st))) o
+    value-to u w = on-done (v .means u w) (ap ended e)
+
+    pub defined-scoped-ready : {body : ℕ} → ReadyDefined l st s right body at → length l1 ≡ length l → ReadyScoped l1 (o .state) 1 (o .at) body at
+    defined-scoped-ready r len =
+        let g = value-to (r .thing) (r .shown) in
+        record {
+          meaning = macro (g .value);
+          object = r .object;
+          meant = r .within .meant;
+          shown = meant-macro (g .shown .rep);
+          shown-body = carry (r .shown-body) (g .later .kept) (g .later .grows);
+          known = carryE (r .within .known) (g .later .kept) (g .later .grows);
+          room = room-later (r .within .room) (g .later) len;
+          few = g .shown .few;
+        }
+
+    pub defined-scoped : {b : Binder} {body : ℕ} {l2 : List ℕ} {q : Onward} → Scoped at l1 l2 (o .state) b 1 (o .at) body q → Defined at st l l2 s b right body q
+    unfolding definedRule
+    defined-scoped c =
+        record {
+          means = λ u y g w z k.
+              let j = value-to u w in
+              since 1 cellSize (j .later) (omega arith) (omega arith) (then-ok _ (j .is))
+              (c .means (bindsOf st) (macro (j .value)) y g (meant-macro (j .shown .rep)) (carry z (j .later .kept) (j .later .grows)) (carryE k (j .later .kept) (j .later .grows)));
+        }
+
+-- ---- what a macro makes of its use
+
+pub rewritten-mark-ready : {l : List ℕ} {s : State} {i w : ℕ} {at : Surroundings} → ReadyMacro l s i w at → ReadyObject l s i
+rewritten-mark-ready r = record { thing = r .thing; shown = r .shown; room = r .room; few = r .few }
+
+module _ (at : Surroundings) {l l1 : List ℕ} {s : State} {i : ℕ} {z : Marking} (v : MarksFresh (at .phase) l l1 s i z) where
+  pub rewritten-unmarked : {w : ℕ} {f : Stop} → z ≡ marking.Refused f → Rewritten at l l1 s i w (onward.Refused f)
+  unfolding rewrittenRule
+  rewritten-unmarked e = record { means = λ q x t g a b k. stops _ (then-no _ (on-refused (v .means q x a) (ap markingOf e))) }
+
+  module _ {o : Mark} (e : z ≡ marking.Done o) where
+    marked-to : (q : Store) (x : Stx) → Rep l (s .top) i (stx x) → Gave marks 1 nodeSpare l l1 s q (markRule (at .phase) x (stateOf s q)) o
+    marked-to q x a = on-done (v .means q x a) (ap markingOf e)
+
+    pub rewritten-declared : {w : ℕ} → ReadyMacro l s i w at → Declared (o .intro)
+    rewritten-declared r = marked-to (λ n. []) (r .thing) (r .shown) .shown .intro-declared
+
+    pub rewritten-ready : {w : ℕ} → ReadyMacro l s i w at → length l1 ≡ length l → ReadyTranscribed l1 (o .state) w (o .at)
+    rewritten-ready r len =
+        let g = marked-to (λ n. []) (r .thing) (r .shown) in
+        record {
+          value = r .value;
+          thing = g .value .object;
+          shown = carry (r .shown-value) (g .later .kept) (g .later .grows);
+          shown-form = g .shown .rep;
+          room = room-later (r .room) (g .later) len;
+          few = g .shown .few;
+        }
+
+    module _ {w : ℕ} {l2 : List ℕ} {a : Answer} (d : Transcribes (at .left) (at .phase) (o .intro .0) l1 l2 (o .state) w (o .at) a) where
+      transcribed : (q : Store) (x : Stx) (t : Tree) (p : Rep l (s .top) i (stx x)) → Rep l (s .top) w t
+          → Agrees objects 1 nodeSpare l1 l2 (o .state) q (transcribeRule (at .left) (at .phase) (marked-to q x p .value .intro) t (marked-to q x p .value .object) (stateOf (o .state) q)) (ended a)
+      transcribed q x t p u = let j = marked-to q x p in rw (sym (j .shown .intro)) (d .means q t (j .value .object) (carry u (j .later .kept) (j .later .grows)) (j .shown .rep))
+
+      pub rewritten-refused : {f : Stop} → a ≡ Refused f → Rewritten at l l2 s i w (onward.Refused f)
+      unfolding rewrittenRule
+      rewritten-refused h = record { means = λ q x t g p u k. stops _ (then-ok _ (marked-to q x p .is) ∙ then-no _ (on-refused (transcribed q x t p u) (ap ended h))) }
+
+      pub rewritten-next : {c : Out} → a ≡ Done c → Rewritten at l l2 s i w (onward.Done (record { at = c .at; scope = o .uses; meanings = at .meanings; state = c .state }))
+      unfolding rewrittenRule
+      rewritten-next h =
+          record {
+            means = λ q x t g p u k.
+                let j = marked-to q x p in
+                let y = on-done (transcribed q x t p u) (ap ended h) in
+                gives _ (record {
+                  value = record { object = y .value; scope = j .value .uses; meant = g };
+                  is = then-ok _ (j .is) ∙ then-ok _ (y .is);
+                  shown = record {
+                    rep = y .shown .rep;
+                    scope = j .shown .uses;
+                    declared = j .shown .uses-declared;
+                    known = carryE (carryE k (j .later .kept) (j .later .grows)) (y .later .kept) (y .later .grows);
+                    few = y .shown .few;
+                  };
+                  later = later-trans 1 cellSize (j .later) (y .later) (omega arith) (omega arith);
+                });
+          }
+
+-- ---- what is expanded next
+
+-- the units that its expansion starts with
+abbrev pub unitsOf : Onward → ℕ
+unitsOf (onward.Done o) = o .state .units
+unitsOf (onward.Refused f) = 0
+
+pub onward-less : {n v : ℕ} {l l1 : List ℕ} {s : State} {b : Store} {q : ms.Out Further} (x : Onward) → Agrees nexts n v l l1 s b q (onwardOf x) → unitsOf x ≤ s .units
+onward-less (onward.Done o) a = omega (arith, on-done a refl .later .spent)
+onward-less (onward.Refused f) a = omega arith
+
+pub onward-ready : {n v : ℕ} {st st1 l l1 : List ℕ} {s : State} {b : Store} {q : ms.Out Further} {x : Onward} → Agrees nexts n v l l1 s b q (onwardOf x) → Room l s → Held st s → length l1 ≡ length l → length st1 ≡ length st → ReadyOnward l1 st1 x
+onward-ready a r h len len2 =
+    record {
+      next = λ o e.
+          let g = on-done a (ap onwardOf e) in
+          record { further = g .value; shown = g .shown; room = room-later r (g .later) len; held = record { few = g .shown .few; wide = omega (arith, h .wide, len2) } };
+    }
+
+pub onward-goes : {at : Surroundings} {st st1 l l1 l2 : List ℕ} {s : State} {q : ms.Out Further} {r : Answer} (x : Onward) → Agrees nexts 1 cellSize l l1 s (bindsOf st) q (onwardOf x) → ExpandedOnward at st st1 l1 l2 x r
+    → Agrees objects 2 nodeSpare l l2 s (bindsOf st1) (after q (furtherRule (entries (at .left)) (at .phase) (scopesOf (at .prunable)))) (ended r)
+onward-goes (onward.Done o) a e = let j = on-done a refl in since 2 nodeSpare (j .later) (omega arith) (omega arith) (then-ok _ (j .is)) (e .means o (j .value) refl (j .shown))
+onward-goes (onward.Refused f) a e = rw (e .refused f refl) (stops f (then-no _ (on-refused a refl)))
+
+pub ruleset laws = (
+  scoped-add-ready,
+  scoped-refused,
+  scoped-roomy,
+  scoped-next,
+  defined-up,
+  defined-value-ready,
+  defined-refused,
+  defined-scoped-ready,
+  defined-scoped,
+  rewritten-mark-ready,
+  rewritten-unmarked,
+  rewritten-declared,
+  rewritten-ready,
+  rewritten-refused,
+  rewritten-next,
+)
