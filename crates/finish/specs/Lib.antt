@@ -1,1 +1,3 @@
-pub mod Endings
+pub mod Ends
+pub mod Headings
+pub mod Finishing

@@ -1,15 +1,23 @@
 // The last step of a job that writes: the result's length is known before the first byte is stored, so that a refusal leaves the output
 // untouched.
-use head::Head;
-ghost use mathlib.Core.Path.{_≡_};
-ghost use Prim.Native.Nat.{ℕ, _+_, _*_, _≤_, min};
-ghost use lib.ListN.{length};
-ghost use Rattle.finish.specs.Endings.{TreeReady, TreeFits, PutsTree, FinishesTree, FrontReady, FrontLength, SyntaxReady, SyntaxFits, PutsSyntax, FinishesSyntax};
+mod heading;
 
-// How many bytes were written, or that they are too many for the output or an image.
-pub enum Finished {
-    Written(usize),
-    TooLong,
+use head::Front;
+use head::Head;
+use refusals::Refusal;
+use scopes::Name;
+use steps::Out;
+use steps::State;
+ghost use mathlib.Core.Path.{_≡_};
+ghost use Prim.Native.Nat.{ℕ, _+_, _≤_, min};
+ghost use Rattle.store.specs.Words.{bindsOf};
+ghost use Rattle.finish.specs.Finishing.{treeImages, syntaxImages, syntaxFront, Held, Came, Fits, PutsImage, Finishes, FrontReady, FrontLength};
+
+// How a job ends, each after so many units: a refusal, a name, or an image of so many bytes.
+pub enum Ending {
+    Refused(Refusal, u32),
+    Named(Name, u32),
+    Written(usize, u32),
 }
 
 const MOST_IMAGE: usize = numbers::Cursor::MOST_IMAGE;
@@ -31,110 +39,89 @@ fn capped(n: usize, cap: usize) -> usize
 
 // ---- a tree image
 
-fn put_tree_image(
-    out: &mut [u8],
-    image: &[u8],
-    h: Head,
-    end: usize,
-    table: &[u32],
-    i: u32,
-    names: u32,
-    scopes: u32,
-)
-    requires { ⌜ TreeFits (now image) h end (now table) i names scopes (now out) ⌝ }
-    ensures { λ _. ⌜ PutsTree (now (image .entry)) h end (now (table .entry)) i names scopes (now (out .entry)) (now (out .exit)) ⌝ }
+fn put_tree_image(out: &mut [u8], image: &[u8], f: Front, table: &[u32], o: Out)
+    requires { ⌜ Fits treeImages (now image) f (now table) o (now out) ⌝ }
+    ensures { λ _. ⌜ PutsImage treeImages (now (image .entry)) f (now (table .entry)) o (now (out .entry)) (now (out .exit)) ⌝ }
 {
-    let at = heading::put_head(out, image, h, end, Head::TREE, names, scopes);
-    writer::put_tree(out, at, table, i);
+    let t = o.state;
+    let root = heading::put_head(out, image, f, Head::TREE, t);
+    writer::put_tree(out, root, table, o.at);
 }
 
-// The image of the tree i, with the words of the image that was read, whose head h ends at `end`.
+// The image of the tree that the work came to, with the words of the image that was read, whose front is f.
 pub fn finish_tree(
     out: &mut [u8],
     image: &[u8],
-    h: Head,
-    end: usize,
+    f: Front,
     table: &[u32],
-    i: u32,
-    names: u32,
-    scopes: u32,
-) -> Finished
-    requires { ⌜ TreeReady (now image) h end (now table) i names ⌝ }
-    ensures { λ r. ⌜ FinishesTree (now (image .entry)) h end (now (table .entry)) i names scopes (now (out .entry)) (now (out .exit)) r ⌝ }
+    o: Out,
+    budget: u32,
+) -> Ending
+    requires came { ⌜ Came treeImages (now image) f (now table) o ⌝ }
+    requires within { ⌜ o .state .units ≤ budget ⌝ }
+    ensures { λ r. ⌜ Finishes treeImages (now (image .entry)) f (now (table .entry)) o budget (now (out .entry)) (now (out .exit)) r ⌝ }
 {
+    let t = o.state;
+    let units = budget - t.units;
     let cap = most_for(out.len());
-    let head = capped(heading::head_len(image, h, end, names, scopes), cap);
-    let n = writer::tree_len(table, i, head, cap);
+    let front = capped(heading::head_len(image, f, t), cap);
+    let n = writer::tree_len(table, o.at, front, cap);
     if cap < n {
-        return Finished::TooLong;
+        return Ending::Refused(Refusal::TooLong, units);
     }
-    put_tree_image(out, image, h, end, table, i, names, scopes);
-    Finished::Written(n)
+    put_tree_image(out, image, f, table, o);
+    Ending::Written(n, units)
 }
 
 // ---- a syntax image
 
-fn put_syntax_image(
-    out: &mut [u8],
-    image: &[u8],
-    h: Head,
-    end: usize,
-    store: &[u64],
-    count: u32,
-    table: &[u32],
-    i: u32,
-    names: u32,
-    scopes: u32,
-)
-    requires { ⌜ SyntaxFits (now image) h end (now store) count (now table) i names scopes (now out) ⌝ }
-    ensures { λ _. ⌜ PutsSyntax (now (image .entry)) h end (now (store .entry)) count (now (table .entry)) i names scopes (now (out .entry)) (now (out .exit)) ⌝ }
-{
-    let behind = heading::put_head(out, image, h, end, Head::SYNTAX, names, scopes);
-    let first = numbers::put_number(out, behind, count);
-    let root = bindings::storing::put_bindings(out, first, store, count as usize);
-    writer::put_object(out, root, table, i);
-}
-
 // How long the image is before its root.
-fn before_root(
-    image: &[u8],
-    h: Head,
-    end: usize,
-    store: &[u64],
-    count: u32,
-    names: u32,
-    scopes: u32,
-) -> usize
-    requires { ⌜ FrontReady (now image) h end (now store) count names ⌝ }
-    ensures { λ r. ⌜ FrontLength (now (image .entry)) h end (now (store .entry)) count names scopes r ⌝ }
+fn before_root(image: &[u8], f: Front, store: &[u64], t: State) -> usize
+    requires { ⌜ FrontReady (now image) f (now store) t ⌝ }
+    ensures { λ r. ⌜ FrontLength (syntaxFront (bindsOf (now (store .entry)) (t .bindings))) (now (image .entry)) f t r ⌝ }
 {
-    let head = heading::head_len(image, h, end, names, scopes);
+    let head = heading::head_len(image, f, t);
+    let count = t.bindings;
     let all = bindings::storing::bindings_len(store, count as usize);
     head + numbers::number_len(count) + all
 }
 
-// The image of the object i and of the first `count` bindings of the store.
+fn put_syntax_image(out: &mut [u8], image: &[u8], f: Front, store: &[u64], table: &[u32], o: Out)
+    requires held { ⌜ Held (now store) (o .state) ⌝ }
+    requires fits { ⌜ Fits (syntaxImages (bindsOf (now store) (o .state .bindings))) (now image) f (now table) o (now out) ⌝ }
+    ensures { λ _. ⌜ PutsImage (syntaxImages (bindsOf (now (store .entry)) (o .state .bindings))) (now (image .entry)) f (now (table .entry)) o (now (out .entry)) (now (out .exit)) ⌝ }
+{
+    let t = o.state;
+    let count = t.bindings;
+    let behind = heading::put_head(out, image, f, Head::SYNTAX, t);
+    let first = numbers::put_number(out, behind, count);
+    let root = bindings::storing::put_bindings(out, first, store, count as usize);
+    writer::put_object(out, root, table, o.at);
+}
+
+// The image of the object that the work came to and of all bindings.
 pub fn finish_syntax(
     out: &mut [u8],
     image: &[u8],
-    h: Head,
-    end: usize,
+    f: Front,
     store: &[u64],
-    count: u32,
     table: &[u32],
-    i: u32,
-    names: u32,
-    scopes: u32,
-) -> Finished
-    requires { ⌜ SyntaxReady (now image) h end (now store) count (now table) i names ⌝ }
-    ensures { λ r. ⌜ FinishesSyntax (now (image .entry)) h end (now (store .entry)) count (now (table .entry)) i names scopes (now (out .entry)) (now (out .exit)) r ⌝ }
+    o: Out,
+    budget: u32,
+) -> Ending
+    requires came { ⌜ Came (syntaxImages (bindsOf (now store) (o .state .bindings))) (now image) f (now table) o ⌝ }
+    requires held { ⌜ Held (now store) (o .state) ⌝ }
+    requires within { ⌜ o .state .units ≤ budget ⌝ }
+    ensures { λ r. ⌜ Finishes (syntaxImages (bindsOf (now (store .entry)) (o .state .bindings))) (now (image .entry)) f (now (table .entry)) o budget (now (out .entry)) (now (out .exit)) r ⌝ }
 {
+    let t = o.state;
+    let units = budget - t.units;
     let cap = most_for(out.len());
-    let front = capped(before_root(image, h, end, store, count, names, scopes), cap);
-    let n = writer::object_len(table, i, front, cap);
+    let front = capped(before_root(image, f, store, t), cap);
+    let n = writer::object_len(table, o.at, front, cap);
     if cap < n {
-        return Finished::TooLong;
+        return Ending::Refused(Refusal::TooLong, units);
     }
-    put_syntax_image(out, image, h, end, store, count, table, i, names, scopes);
-    Finished::Written(n)
+    put_syntax_image(out, image, f, store, table, o);
+    Ending::Written(n, units)
 }

@@ -11,6 +11,7 @@ use Rattle.model.specs.Reading as m
 use Rattle.model.specs.Reading.{Reader, _>>=_, _>>_, give, need, num, numUpTo, readWords, coreWords}
 use Rattle.numbers.specs.Answers.{answerAt, kept}
 use Rattle.head.specs.declared.Head.{Head}
+use Rattle.head.specs.declared.Counts.{Counts}
 use Rattle.head.specs.declared.HeadRead.{HeadRead}
 use Rattle.head.specs.declared.HeadRead.the-variants.{Read, Fault}
 
@@ -39,6 +40,9 @@ readAfterKind = do
 -- the code keeps how many words there are
 abbrev pub headOf : m.Head → Head
 headOf h = record { words = length (h .words); names = h .names; scopes = h .scopes }
+
+abbrev pub declares : Head → Counts
+declares h = record { symbols = h .words + 4; names = h .names; scopes = h .scopes }
 
 abbrev pub headAt : ℕ → m.Read m.Head → HeadRead
 headAt end g = answerAt Read Fault end (kept headOf g)

@@ -12,7 +12,7 @@ ghost use Rattle.words.specs.Section.{mostWords};
 ghost use Rattle.numbers.specs.Limits.{mostImage};
 ghost use Rattle.model.specs.Reading.{readHead};
 ghost use Rattle.numbers.specs.Answers.{placeAt};
-ghost use Rattle.head.specs.Heads.{readKind, readAfterKind, headAt, CountsRead};
+ghost use Rattle.head.specs.Heads.{readKind, readAfterKind, headAt, declares, CountsRead};
 
 // What the rest of an image is judged by.
 pub struct Head {
@@ -27,6 +27,12 @@ pub struct Counts {
     pub symbols: u32,
     pub names: u32,
     pub scopes: u32,
+}
+
+// A head that was read, and the place past it.
+pub struct Front {
+    pub head: Head,
+    pub end: usize,
 }
 
 // The head with the place past it, or the fault.
@@ -44,6 +50,18 @@ impl Head {
 
     // Words and made names together: core names are counted among the names.
     const MOST_NEW: u32 = Name::MOST - Head::CORE_NAMES;
+
+    // What the rest of the image is judged by.
+    pub fn counts(self) -> Counts
+        requires { ⌜ self .words ≤ mostWords ⌝ }
+        ensures { λ r. ⌜ r ≡ declares self ⌝ }
+    {
+        Counts {
+            symbols: self.words + Head::CORE_NAMES,
+            names: self.names,
+            scopes: self.scopes,
+        }
+    }
 }
 
 // The kind: 1 or 2, and the job's.

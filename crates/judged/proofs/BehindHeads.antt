@@ -1,6 +1,6 @@
 -- The bindings and the root behind them: one law for each way out.
 use Prim.Native.Nat.{ℕ, _+_, _-_, _≤_}
-use mathlib.Core.Path.{_≡_, ap, subst}
+use mathlib.Core.Path.{_≡_, refl, ap, subst}
 use mathlib.Core.List.{List, [], _∷_}
 use native.Mathlib.Omega.{arith}
 use lib.ListN.{length, drop}
@@ -23,9 +23,12 @@ use Rattle.image.specs.Measuring.{thenEnd, wholeSyntax}
 use Rattle.bindings.specs.Sections.{readAll}
 use Rattle.head.specs.declared.Counts.{Counts}
 use Rattle.bindings.proofs.InTurn.{all-tail}
+use Rattle.head.specs.declared.Front.{Front}
+use Rattle.head.specs.Heads.{declares}
 use Rattle.judged.specs.Judging.{measureRest, RestGood, BehindHead}
-use Rattle.judged.specs.declared.Rest.{Rest}
-use Rattle.judged.specs.declared.RestJudged.the-variants as rest
+use Rattle.judged.specs.declared.Judgement.{Judgement}
+use Rattle.judged.specs.declared.Judged.the-variants as judged
+use Rattle.judged.proofs.Heads.{counted-scopes}
 
 -- ---- the end of the image
 
@@ -51,46 +54,54 @@ last-whole n s k left e = then-whole (measureStx (n .symbols) (n .scopes) 64 s) 
 
 -- ---- the bindings and the root
 
-module _ (n : Counts) (at : ℕ) (s l : List ℕ) where
-  rest-bad : {f : Refusal} → measureRest n s ≡ fault (refusalOf f) → BehindHead n at s l (rest.Fault f)
-  rest-bad {f} g = record {
-    good = λ j e. (let z : _≡_ {A = ℕ} 0 1 = cc in absurd (omega arith));
-    bad = λ f′ e. (let i : f ≡ f′ = cc in subst (λ (x : Refusal). measureRest n s ≡ fault (refusalOf x)) i g);
-  }
+module _ (f : Front) (s l : List ℕ) where
+  rest-bad : {x : Refusal} → measureRest (declares (f .head)) s ≡ fault (refusalOf x) → BehindHead f s l (judged.Fault x)
+  rest-bad g = record { is = g; good = λ j e. (let z : _≡_ {A = ℕ} 0 1 = cc in absurd (omega arith)) }
 
-  rest-is : {j : Rest} → RestGood n at s l j → BehindHead n at s l (rest.Good j)
-  rest-is {j} g = record {
-    good = λ j′ e. (let i : j ≡ j′ = cc in subst (RestGood n at s l) i g);
-    bad = λ f e. (let z : _≡_ {A = ℕ} 0 1 = cc in absurd (omega arith));
-  }
+  module _ {n : Counts} (ne : n ≡ declares (f .head)) {bs : List Bind} {q : Place} (h : record { value = bs; end = q } ≡ seenAt [] (f .end + length s) (readAll n s)) where
+    seen : record { value = bs; end = q } ≡ seenAt [] (f .end + length s) (readAll (declares (f .head)) s)
+    seen = subst (λ (k : Counts). record { value = bs; end = q } ≡ seenAt [] (f .end + length s) (readAll k s)) ne h
 
-  module _ {bs : List Bind} {q : Place} (h : record { value = bs; end = q } ≡ seenAt [] (at + length s) (readAll n s)) where
-    pub binds-stop : {f : Refusal} → q ≡ place.Fault f → BehindHead n at s l (rest.Fault f)
+    pub binds-stop : {x : Refusal} → q ≡ place.Fault x → BehindHead f s l (judged.Fault x)
     unfolding measureRest
-    binds-stop {f} e = let g : readAll n s ≡ fault (refusalOf f) = seen-refused [] (at + length s) (readAll n s) h e in rest-bad (rw g)
+    binds-stop {x} e =
+        let g : readAll (declares (f .head)) s ≡ fault (refusalOf x) = seen-refused [] (f .end + length s) (readAll (declares (f .head)) s) seen e in
+        rest-bad (rw g)
 
-    module _ {past : Cursor} (e : q ≡ place.At past) {u : List ℕ} (i : u ≡ drop (past .at - at) s) {r : Number}
-        (k : r ≡ numberAt (past .at + length u) (wholeSyntax n u)) where
-      held : Took at s (readAll n s) bs (past .at)
-      held = took (seen-shape []) h (whole [] at s (readAll n s) h e (all-tail n s)) (all-tail n s)
+    module _ {past : Cursor} (e : q ≡ place.At past) {u : List ℕ} (i : u ≡ drop (past .at - f .end) s) {r : Number} (k : r ≡ numberAt (past .at + length u) (wholeSyntax n u)) where
+      held : Took (f .end) s (readAll (declares (f .head)) s) bs (past .at)
+      held = took (seen-shape []) seen (whole [] (f .end) s (readAll (declares (f .head)) s) seen e (all-tail (declares (f .head)) s)) (all-tail (declares (f .head)) s)
 
-      pub rest-stops : {f : Refusal} → r ≡ number.Fault f → BehindHead n at s l (rest.Fault f)
+      rooted : r ≡ numberAt (past .at + length u) (wholeSyntax (declares (f .head)) u)
+      rooted = subst (λ (m : Counts). r ≡ numberAt (past .at + length u) (wholeSyntax m u)) ne k
+
+      pub rest-stops : {x : Refusal} → r ≡ number.Fault x → BehindHead f s l (judged.Fault x)
       unfolding measureRest
-      rest-stops {f} d =
-          let g : wholeSyntax n u ≡ fault (refusalOf f) = refused number-shape (past .at + length u) (wholeSyntax n u) k d in
+      rest-stops {x} d =
+          let g : wholeSyntax (declares (f .head)) u ≡ fault (refusalOf x) = refused number-shape (past .at + length u) (wholeSyntax (declares (f .head)) u) rooted d in
           rest-bad (rw (held .is, ← i, g))
 
-      measured : {z : ℕ} {end : Cursor} → r ≡ number.Read z end → measureStx (n .symbols) (n .scopes) 64 (drop (past .at - at) s) ≡ got z []
-      measured {z} {end} d =
-          let T : Took (past .at) u (wholeSyntax n u) z (end .at) = took number-shape k d (last-tail n u) in
-          subst (λ (v : List ℕ). measureStx (n .symbols) (n .scopes) 64 v ≡ got z []) i (last-whole n u z (drop (end .at - past .at) u) (T .is))
+      module _ {z : ℕ} {end : Cursor} (d : r ≡ number.Read z end) where
+        -- the root, and that nothing is left behind it
+        ended : wholeSyntax (declares (f .head)) u ≡ got z (drop (end .at - past .at) u)
+        ended = let T : Took (past .at) u (wholeSyntax (declares (f .head)) u) z (end .at) = took number-shape rooted d (last-tail (declares (f .head)) u) in T .is
 
-  pub rest-good : (count : ℕ) {q : Place} → record { value = bindsOf l count; end = q } ≡ seenAt [] (at + length s) (readAll n s) → count ≤ 512
-      → {past : Cursor} → q ≡ place.At past → {u : List ℕ} → u ≡ drop (past .at - at) s
-      → {r : Number} → r ≡ numberAt (past .at + length u) (wholeSyntax n u) → {z : ℕ} {end : Cursor} → r ≡ number.Read z end
-      → BehindHead n at s l (rest.Good (record { root = past .at; size = z; bindings = count }))
-  rest-good count h few {past} e i k d =
-      let T : Took at s (readAll n s) (bindsOf l count) (past .at) = held h e i k in
-      rest-is (record { binds-read = T .is; few-binds = few; behind = T .moved; within = T .within; root-measured = measured h e i k d })
+        measured : measureStx (f .head .words + 4) (f .head .scopes) 64 (drop (past .at - f .end) s) ≡ got z []
+        measured =
+            subst (λ (v : List ℕ). measureStx (f .head .words + 4) (f .head .scopes) 64 v ≡ got z []) i
+            (last-whole (declares (f .head)) u z (drop (end .at - past .at) u) ended)
 
-pub ruleset behind-laws = (binds-stop, rest-stops, rest-good, all-tail)
+        sized : measureRest (declares (f .head)) s ≡ got z []
+        unfolding measureRest wholeSyntax thenEnd atEnd
+        sized = rw (held .is, measured)
+
+  module _ (count : ℕ) {n : Counts} (ne : n ≡ declares (f .head)) {q : Place} (h : record { value = bindsOf l count; end = q } ≡ seenAt [] (f .end + length s) (readAll n s)) (few : count ≤ 512)
+      {past : Cursor} (e : q ≡ place.At past) {u : List ℕ} (i : u ≡ drop (past .at - f .end) s) {r : Number} (k : r ≡ numberAt (past .at + length u) (wholeSyntax n u)) where
+    pub rest-good : {z : ℕ} {end : Cursor} → r ≡ number.Read z end → BehindHead f s l (judged.Good (record { front = f; root = past .at; size = z; bindings = count }))
+    rest-good {z} d =
+        let T : Took (f .end) s (readAll (declares (f .head)) s) (bindsOf l count) (past .at) = held ne h e i k in
+        let j : Judgement = record { front = f; root = past .at; size = z; bindings = count } in
+        let g : RestGood f s l j = record { front-is = refl; binds-read = T .is; few-binds = few; behind = T .moved; within = T .within; root-measured = measured ne h e i k d } in
+        record { is = sized ne h e i k d; good = λ j′ y. (let p : j ≡ j′ = cc in subst (RestGood f s l) p g) }
+
+pub ruleset behind-laws = (counted-scopes, binds-stop, rest-stops, rest-good, all-tail)

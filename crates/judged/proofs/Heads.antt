@@ -19,11 +19,12 @@ use Rattle.numbers.specs.declared.Cursor.{Cursor}
 use borrow.Author.Tests.{le-leb, lt-leb}
 use Rattle.codec_laws.specs.WellFormed.{Bytes, HeadFits}
 use Rattle.codec_laws.proofs.HeadTrip.{head-w}
-use Rattle.head.specs.Heads.{headOf, headAt}
+use Rattle.head.specs.Heads.{headOf, headAt, declares}
 use Rattle.head.specs.declared.Head.{Head}
 use Rattle.head.specs.declared.HeadRead.{HeadRead}
 use Rattle.head.specs.declared.HeadRead.the-variants as hd
-use Rattle.heading.specs.Headings.{Headed, headWith}
+use Rattle.head.specs.declared.Counts.{Counts}
+use Rattle.head.specs.Fronts.{wholeHead, Headed}
 
 pub bytes-of : (s : List ℕ) → ((i : ℕ) → Fits w8 (getD s i 0)) → Bytes s
 bytes-of [] h = tt
@@ -108,9 +109,9 @@ module _ {kind : ℕ} {s : List ℕ} {h : Head} {end : ℕ} (H : HeadHere kind s
   unfolding mostScopes
   scopes-to = omega (arith, scope-count, H .fits .scopes-to)
 
-  pub headed-by : kind < 128 → length s ≤ 65536 → Headed s h end
+  pub headed-by : kind < 128 → length s ≤ 65536 → Headed s (record { head = h; end = end })
   headed-by one short =
-      let p : headWith (H .head .words) (h .names) (h .scopes) ≡ H .head = (λ k. record { words = H .head .words; names = name-count k; scopes = scope-count k }) in
+      let p : wholeHead (H .head .words) h ≡ H .head = (λ k. record { words = H .head .words; names = name-count k; scopes = scope-count k }) in
       record {
         kind = kind;
         words = H .head .words;
@@ -139,8 +140,8 @@ module _ (kind : ℕ) (s : List ℕ) (known : (i : ℕ) → Fits w8 (getD s i 0)
   pub few-names : h .names ≤ 1024
   few-names = names-to H₀
 
-  pub symbols-fit : Fits w32 (h .words + 4)
-  symbols-fit = omega (arith, names-from H₀, names-to H₀)
+  pub few-words : h .words ≤ 1020
+  few-words = omega (arith, names-from H₀, names-to H₀)
 
   pub head-within : c .at ≤ 0 + length s
   head-within = omega (arith, H₀ .within)
@@ -151,4 +152,11 @@ module _ (kind : ℕ) (s : List ℕ) (known : (i : ℕ) → Fits w8 (getD s i 0)
 pub behind-head : (s : List ℕ) (end : ℕ) {u : List ℕ} → u ≡ drop (end - 0) s → u ≡ drop end s
 behind-head s end i = i ∙ ap (λ (k : ℕ). drop k s) (let z : end - 0 ≡ end = omega arith in z)
 
-pub ruleset head-laws = (few-scopes, few-names, symbols-fit, head-within, rest-fits)
+-- the counts that the code hands on
+pub counted-scopes : {n : Counts} (h : Head) → n ≡ declares h → h .scopes ≤ 256 → n .scopes ≤ 256
+counted-scopes h e k = omega (arith, ap (λ (x : Counts). x .scopes) e)
+
+pub counted-names : {n : Counts} (h : Head) → n ≡ declares h → h .names ≤ 1024 → n .names ≤ 1024
+counted-names h e k = omega (arith, ap (λ (x : Counts). x .names) e)
+
+pub ruleset head-laws = (few-scopes, few-names, few-words, head-within, rest-fits, counted-scopes, counted-names)

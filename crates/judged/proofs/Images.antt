@@ -15,7 +15,6 @@ use Rattle.model.specs.Reading as m
 use Rattle.model.specs.Reading.{Read, got, fault, next, Image, symbols, atEnd, readHead, readBinds, readStx, readSyntax, readImage}
 use Rattle.refusals.specs.Refusing.{refusalOf}
 use Rattle.refusals.specs.declared.Refusal.{Refusal}
-use Rattle.refusals.specs.declared.Refusal.the-variants as refusal
 use Rattle.numbers.specs.declared.Cursor.{Cursor}
 use Rattle.numbers.specs.Answers.{kept}
 use Rattle.numbers.proofs.Answering.{Kept, kept-got}
@@ -27,35 +26,17 @@ use Rattle.image.specs.Measuring.{thenEnd, wholeSyntax}
 use Rattle.bindings.specs.Sections.{readAll}
 use Rattle.head.specs.declared.Counts.{Counts}
 use Rattle.bindings.proofs.Definition.{reads-binds}
-use Rattle.head.specs.Heads.{headAt}
+use Rattle.head.specs.Heads.{headAt, declares}
 use Rattle.head.specs.declared.Head.{Head}
 use Rattle.head.specs.declared.HeadRead.{HeadRead}
 use Rattle.head.specs.declared.HeadRead.the-variants as hd
-use Rattle.judged.specs.Judging.{measureRest, RestGood, BehindHead, SyntaxGood, SyntaxJudged}
-use Rattle.judged.proofs.Heads.{bytes-of, image-short, image-long, HeadHere, head-here, head-fault, name-count, scope-count, symbol-count, names-from, names-to, scopes-to, headed-by, headed-words, behind-head}
-use Rattle.judged.specs.declared.Rest.{Rest}
-use Rattle.judged.specs.declared.RestJudged.{RestJudged}
-use Rattle.judged.specs.declared.RestJudged.the-variants as rest
+use Rattle.head.specs.declared.Front.{Front}
+use Rattle.judged.specs.Judging.{measureRest, sizeIn, RestGood, BehindHead, syntaxKind, Good, Judges}
+use Rattle.judged.proofs.Answers.{bad-image, too-long, good-image}
+use Rattle.judged.proofs.Heads.{bytes-of, image-short, HeadHere, head-here, head-fault, name-count, scope-count, symbol-count, names-from, names-to, scopes-to, headed-by, headed-words, behind-head}
 use Rattle.judged.specs.declared.Judgement.{Judgement}
+use Rattle.judged.specs.declared.Judged.{Judged}
 use Rattle.judged.specs.declared.Judged.the-variants as judged
-
--- ---- the answer
-
-module _ (s l : List ℕ) where
-  bad-image : {f : Refusal} → readImage readSyntax s ≡ fault (refusalOf f) → SyntaxJudged s l (judged.Fault f)
-  bad-image {f} g = record {
-    good = λ j e. (let z : _≡_ {A = ℕ} 0 1 = cc in absurd (omega arith));
-    bad = λ f′ e. (let i : f ≡ f′ = cc in subst (λ (x : Refusal). readImage readSyntax s ≡ fault (refusalOf x)) i g);
-  }
-
-  good-image : {j : Judgement} → SyntaxGood s l j → SyntaxJudged s l (judged.Good j)
-  good-image {j} g = record {
-    good = λ j′ e. (let i : j ≡ j′ = cc in subst (SyntaxGood s l) i g);
-    bad = λ f e. (let z : _≡_ {A = ℕ} 0 1 = cc in absurd (omega arith));
-  }
-
-pub too-long : (s l : List ℕ) → 65536 < length s → SyntaxJudged s l (judged.Fault refusal.OverLimit)
-too-long s l h = bad-image s l (image-long readSyntax s h)
 
 -- ---- behind the head h, whose counts are n
 
@@ -94,35 +75,35 @@ module _ (n : Counts) (h : m.Head) (ag : Agree n h) where
 -- ---- the ways out
 
 module _ (s l : List ℕ) (known : (i : ℕ) → Fits w8 (getD s i 0)) (short : length s ≤ 65536) {q : HeadRead} (a : q ≡ headAt (length s) (readHead 1 s)) where
-  pub head-stops : {f : Refusal} → q ≡ hd.Fault f → SyntaxJudged s l (judged.Fault f)
+  pub head-stops : {f : Refusal} → q ≡ hd.Fault f → Judges syntaxKind s l (judged.Fault f)
   unfolding readSyntax
-  head-stops {f} e = bad-image s l (image-short readSyntax s short ∙ rw (head-fault 1 s a e))
+  head-stops {f} e = bad-image syntaxKind s l (image-short readSyntax s short ∙ rw (head-fault 1 s a e))
 
   module _ {h : Head} {c : Cursor} (e : q ≡ hd.Read h c) where
     H : HeadHere 1 s h (c .at)
     H = head-here 1 s (bytes-of s known) a e
 
-    abbrev counts : Counts
-    counts = record { symbols = h .words + 4; names = h .names; scopes = h .scopes }
+    abbrev front : Front
+    front = record { head = h; end = c .at }
 
-    agree : Agree counts (H .head)
+    agree : Agree (declares h) (H .head)
     agree = record { symbols-are = symbol-count H; names-are = name-count H; scopes-are = scope-count H }
 
     from-head : readSyntax s ≡ next (readBinds (H .head) (drop (c .at) s)) (λ bs v. next (readStx mostNesting (H .head) v) (finish (H .head) bs))
     unfolding readSyntax
     from-head = rw (H .reads)
 
-    module _ {u : List ℕ} (i : u ≡ drop (c .at - 0) s) {x : RestJudged} (w : BehindHead (record { symbols = h .words + 4; names = h .names; scopes = h .scopes }) (c .at) u l x) where
+    module _ {u : List ℕ} (i : u ≡ drop (c .at - 0) s) {x : Judged} (w : BehindHead (record { head = h; end = c .at }) u l x) where
       here : u ≡ drop (c .at) s
       here = behind-head s (c .at) i
 
-      pub behind-stops : {f : Refusal} → x ≡ rest.Fault f → SyntaxJudged s l (judged.Fault f)
-      behind-stops {f} d =
-          bad-image s l (image-short readSyntax s short ∙ from-head ∙ rest-fault counts (H .head) agree (drop (c .at) s) (refusalOf f)
-          (subst (λ (v : List ℕ). measureRest counts v ≡ fault (refusalOf f)) here (w .bad f d)))
+      stopped : {f : Refusal} → x ≡ judged.Fault f → Judges syntaxKind s l (judged.Fault f)
+      stopped {f} d =
+          bad-image syntaxKind s l (image-short readSyntax s short ∙ from-head ∙ rest-fault (declares h) (H .head) agree (drop (c .at) s) (refusalOf f)
+          (subst (λ (v : List ℕ). measureRest (declares h) v ≡ fault (refusalOf f)) here (w .is ∙ ap sizeIn d)))
 
-      module _ {j : Rest} (d : x ≡ rest.Good j) where
-        R : RestGood counts (c .at) u l j
+      module _ {j : Judgement} (d : x ≡ judged.Good j) where
+        R : RestGood front u l j
         R = w .good j d
 
         at-root : drop (j .root - c .at) u ≡ drop (j .root) s
@@ -134,11 +115,11 @@ module _ (s l : List ℕ) (known : (i : ℕ) → Fits w8 (getD s i 0)) (short : 
         root-measured = subst (λ (v : List ℕ). measureStx (h .words + 4) (h .scopes) 64 v ≡ got (j .size) []) at-root (R .root-measured)
 
         root-here : Kept size (readStx mostNesting (H .head) (drop (j .root) s)) (j .size) []
-        root-here = kept-got size (readStx mostNesting (H .head) (drop (j .root) s)) (j .size) [] (same-root counts (H .head) agree (drop (j .root) s) ∙ root-measured)
+        root-here = kept-got size (readStx mostNesting (H .head) (drop (j .root) s)) (j .size) [] (same-root (declares h) (H .head) agree (drop (j .root) s) ∙ root-measured)
 
         binds-here : readBinds (H .head) (drop (c .at) s) ≡ got (bindsOf l (j .bindings)) (drop (j .root) s)
         binds-here =
-            sym (same-binds counts (H .head) agree (drop (c .at) s)) ∙ ap (readAll counts) (sym here) ∙ R .binds-read ∙ ap (got (bindsOf l (j .bindings))) at-root
+            sym (same-binds (declares h) (H .head) agree (drop (c .at) s)) ∙ ap (readAll (declares h)) (sym here) ∙ R .binds-read ∙ ap (got (bindsOf l (j .bindings))) at-root
 
         whole-image : Image Stx
         whole-image = record { head = H .head; binds = bindsOf l (j .bindings); root = root-here .value }
@@ -161,9 +142,12 @@ module _ (s l : List ℕ) (known : (i : ℕ) → Fits w8 (getD s i 0)) (short : 
             let k = ap length here ∙ length-drop (c .at) s in
             omega (arith, k, R .within, H .within)
 
-        pub all-good : SyntaxJudged s l (judged.Good (record { head = h; end = c .at; root = j .root; size = j .size; bindings = j .bindings }))
+        abbrev same : Judgement
+        same = record { front = front; root = j .root; size = j .size; bindings = j .bindings }
+
+        good : Good syntaxKind s l same
         unfolding whole-image
-        all-good = good-image s l (record {
+        good = record {
           image = whole-image;
           reads = image-short readSyntax s short ∙ all-read;
           bytes = bytes-of s known;
@@ -181,6 +165,19 @@ module _ (s l : List ℕ) (known : (i : ℕ) → Fits w8 (getD s i 0)) (short : 
           root-reads = root-here .is;
           size-is = sym (root-here .value-is);
           size-to = size-to;
-        })
+        }
 
-pub ruleset image-laws = (too-long, head-stops, behind-stops, all-good)
+        all-good : Judges syntaxKind s l (judged.Good j)
+        unfolding whole-image good
+        all-good =
+            let p : same ≡ j = (λ k. record { front = sym (R .front-is) k; root = j .root; size = j .size; bindings = j .bindings }) in
+            subst (λ (y : Judgement). Judges syntaxKind s l (judged.Good y)) p (good-image syntaxKind s l good (H .reads))
+
+      pub rest-judged : Judges syntaxKind s l x
+      rest-judged = go x refl
+        where
+          go : (y : Judged) → x ≡ y → Judges syntaxKind s l x
+          go (judged.Good j) d = subst (Judges syntaxKind s l) (sym d) (all-good d)
+          go (judged.Fault f) d = subst (Judges syntaxKind s l) (sym d) (stopped d)
+
+pub ruleset image-laws = (too-long, head-stops, rest-judged)

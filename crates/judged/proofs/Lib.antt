@@ -1,4 +1,5 @@
-pub mod BehindHeads
 pub mod Heads
+pub mod Answers
+pub mod BehindHeads
 pub mod Images
 pub mod TreeImages

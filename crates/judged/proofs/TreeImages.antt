@@ -7,6 +7,8 @@ use lib.ListN.{length, drop, getD, length-drop}
 use mir.Syntax.{w8}
 use mir.Val.{Fits}
 use Rattle.model.specs.Limits.{mostNesting}
+use mathlib.Core.Bool.{true, false}
+use Rattle.model.specs.Refusals as r
 use Rattle.model.specs.Trees.{Tree, loadSize}
 use Rattle.model.specs.Reading as m
 use Rattle.model.specs.Reading.{Read, Reader, got, fault, next, Image, atEnd, readHead, readTree, readTreeImage, readImage}
@@ -17,7 +19,7 @@ use Rattle.refusals.specs.declared.Refusal.the-variants as refusal
 use Rattle.numbers.specs.declared.Cursor.{Cursor}
 use Rattle.numbers.specs.Answers.{kept}
 use Rattle.numbers.proofs.Answering.{Kept}
-use Rattle.head.specs.Heads.{headAt}
+use Rattle.head.specs.Heads.{headAt, declares}
 use Rattle.head.specs.declared.Head.{Head}
 use Rattle.head.specs.declared.HeadRead.{HeadRead}
 use Rattle.head.specs.declared.HeadRead.the-variants as hd
@@ -29,29 +31,12 @@ use Rattle.image.specs.Measuring.{treeAt, measureTree, thenEnd, noneAround, who
 use Rattle.image.proofs.Kept.{countsOf, extentOf, around-none, tree-is}
 use Rattle.image.proofs.Spans.{tree-small}
 use Rattle.image.proofs.Roots.{tree-refused, tree-read}
-use Rattle.judged.specs.TreeJudging.{TreeImageGood, TreeImageJudged}
-use Rattle.judged.specs.declared.trees.TreeJudgement.{TreeJudgement}
-use Rattle.judged.specs.declared.trees.TreeJudged.the-variants as judged
+use Rattle.store.specs.Words.{bindsFrom, bindsOf}
+use Rattle.judged.specs.declared.Judged.the-variants as judged
+use Rattle.judged.specs.Judging.{readOwned, treeKind, Good, Judges}
+use Rattle.judged.proofs.Answers.{bad-image, too-long, good-image}
 use Rattle.judged.proofs.BehindHeads.{then-whole}
-use Rattle.judged.proofs.Heads.{bytes-of, image-short, image-long, HeadHere, head-here, head-fault, name-count, scope-count, symbol-count, names-from, names-to, scopes-to, headed-by, headed-words, behind-head}
-
--- ---- the answer
-
-module _ (s : List ℕ) where
-  bad-image : {f : Refusal} → readImage readTreeImage s ≡ fault (refusalOf f) → TreeImageJudged s (judged.Fault f)
-  bad-image {f} g = record {
-    good = λ j e. (let z : _≡_ {A = ℕ} 0 1 = cc in absurd (omega arith));
-    bad = λ f′ e. (let i : f ≡ f′ = cc in subst (λ (x : Refusal). readImage readTreeImage s ≡ fault (refusalOf x)) i g);
-  }
-
-  good-image : {j : TreeJudgement} → TreeImageGood s j → TreeImageJudged s (judged.Good j)
-  good-image {j} g = record {
-    good = λ j′ e. (let i : j ≡ j′ = cc in subst (TreeImageGood s) i g);
-    bad = λ f e. (let z : _≡_ {A = ℕ} 0 1 = cc in absurd (omega arith));
-  }
-
-pub too-long : (s : List ℕ) → 65536 < length s → TreeImageJudged s (judged.Fault refusal.OverLimit)
-too-long s h = bad-image s (image-long readTreeImage s h)
+use Rattle.judged.proofs.Heads.{bytes-of, image-short, HeadHere, head-here, head-fault, name-count, scope-count, symbol-count, names-from, names-to, scopes-to, headed-by, headed-words, behind-head}
 
 -- ---- behind the head h
 
@@ -73,12 +58,26 @@ root-is : (h : m.Head) (t : List ℕ) → behind h t ≡ kept (imageOf h) (thenE
 unfolding mostNesting thenEnd
 root-is h t = rooted h (readTree 64 h 0 t)
 
+-- ---- code 3
+
+owned-stops : (s : List ℕ) {f : r.Refusal} → readTreeImage s ≡ fault f → readOwned s ≡ fault f
+unfolding readOwned
+owned-stops s e = rw e
+
+owned-goes : (s : List ℕ) {i : Image Tree} → readTreeImage s ≡ got i [] → closed [] (i .root) ≡ true → readOwned s ≡ got i []
+unfolding readOwned
+owned-goes s e o = rw (e, o)
+
+owned-not : (s : List ℕ) {i : Image Tree} → readTreeImage s ≡ got i [] → closed [] (i .root) ≡ false → readOwned s ≡ fault r.unowned
+unfolding readOwned
+owned-not s e o = rw (e, o)
+
 -- ---- the ways out
 
 module _ (s : List ℕ) (known : (i : ℕ) → Fits w8 (getD s i 0)) (short : length s ≤ 65536) {q : HeadRead} (a : q ≡ headAt (length s) (readHead 2 s)) where
-  pub head-stops : {f : Refusal} → q ≡ hd.Fault f → TreeImageJudged s (judged.Fault f)
+  pub head-stops : {f : Refusal} → q ≡ hd.Fault f → Judges treeKind s [] (judged.Fault f)
   unfolding readTreeImage
-  head-stops {f} e = bad-image s (image-short readTreeImage s short ∙ rw (head-fault 2 s a e))
+  head-stops {f} e = bad-image treeKind s [] (image-short readOwned s short ∙ owned-stops s (rw (head-fault 2 s a e)))
 
   module _ {h : Head} {c : Cursor} (e : q ≡ hd.Read h c) where
     H : HeadHere 2 s h (c .at)
@@ -91,19 +90,16 @@ module _ (s : List ℕ) (known : (i : ℕ) → Fits w8 (getD s i 0)) (short : le
     unfolding readTreeImage
     from-head = ap (λ (g : Read m.Head). next g behind) (H .reads) ∙ root-is (H .head) (drop (c .at) s)
 
-    module _ {u : List ℕ} (i : u ≡ drop (c .at - 0) s) {x : TreeRead} (w : x ≡ treeAt (c .at + length u) (wholeTree (record { symbols = h .words + 4; names = h .names; scopes = h .scopes }) u)) where
-      here : u ≡ drop (c .at) s
-      here = behind-head s (c .at) i
-
+    module _ {u : List ℕ} (i : u ≡ drop (c .at - 0) s) {n : Counts} (ne : n ≡ declares h) {x : TreeRead} (w : x ≡ treeAt (c .at + length u) (wholeTree n u)) where
       measured : x ≡ treeAt (c .at + length (drop (c .at) s)) (wholeTree (countsOf (H .head)) (drop (c .at) s))
       measured =
-          w ∙ ap (λ (n : Counts). treeAt (c .at + length u) (wholeTree n u)) (λ k. record { symbols = symbol-count H k; names = name-count H k; scopes = scope-count H k })
-          ∙ ap (λ (v : List ℕ). treeAt (c .at + length v) (wholeTree (countsOf (H .head)) v)) here
+          w ∙ ap (λ (k : Counts). treeAt (c .at + length u) (wholeTree k u)) (ne ∙ (λ k. record { symbols = symbol-count H k; names = name-count H k; scopes = scope-count H k }))
+          ∙ ap (λ (v : List ℕ). treeAt (c .at + length v) (wholeTree (countsOf (H .head)) v)) (behind-head s (c .at) i)
 
-      pub root-stops : {f : Refusal} → x ≡ tree.Fault f → TreeImageJudged s (judged.Fault f)
+      pub root-stops : {f : Refusal} → x ≡ tree.Fault f → Judges treeKind s [] (judged.Fault f)
       root-stops {f} d =
           let g : thenEnd (readTree 64 (H .head) 0) (drop (c .at) s) ≡ fault (refusalOf f) = tree-refused (H .head) few (c .at) (drop (c .at) s) measured d in
-          bad-image s (image-short readTreeImage s short ∙ from-head ∙ ap (kept (imageOf (H .head))) g)
+          bad-image treeKind s [] (image-short readOwned s short ∙ owned-stops s (from-head ∙ ap (kept (imageOf (H .head))) g))
 
       module _ {y : Extent} {past : Cursor} (d : x ≡ tree.Read y past) where
         K : Kept (extentOf []) (thenEnd (readTree 64 (H .head) 0) (drop (c .at) s)) y (drop (past .at - c .at) (drop (c .at) s))
@@ -116,9 +112,11 @@ module _ (s : List ℕ) (known : (i : ℕ) → Fits w8 (getD s i 0)) (short : le
         unfolding root thenEnd
         root-reads = then-whole (readTree 64 (H .head) 0 (drop (c .at) s)) (K .value) (drop (past .at - c .at) (drop (c .at) s)) (K .is)
 
-        nothing-left : thenEnd (readTree 64 (H .head) 0) (drop (c .at) s) ≡ got root []
+        all-read : readTreeImage s ≡ got (imageOf (H .head) root) []
         unfolding thenEnd atEnd
-        nothing-left = rw root-reads
+        all-read =
+            let g : thenEnd (readTree 64 (H .head) 0) (drop (c .at) s) ≡ got root [] = rw root-reads in
+            from-head ∙ ap (kept (imageOf (H .head))) g
 
         size-is : y .size ≡ loadSize root
         unfolding root
@@ -139,11 +137,14 @@ module _ (s : List ℕ) (known : (i : ℕ) → Fits w8 (getD s i 0)) (short : le
         one-byte : 2 < 128
         one-byte = omega arith
 
-        pub all-good : TreeImageJudged s (judged.Good (record { head = h; end = c .at; size = y .size; owned = y .owned }))
-        unfolding mostNesting
-        all-good = good-image s (record {
+        pub unowned : y .owned ≡ false → Judges treeKind s [] (judged.Fault refusal.Unowned)
+        unowned o = bad-image treeKind s [] (image-short readOwned s short ∙ owned-not s all-read (sym owned-is ∙ o))
+
+        good : y .owned ≡ true → Good treeKind s [] (record { front = record { head = h; end = c .at }; root = c .at; size = y .size; bindings = 0 })
+        unfolding mostNesting bindsOf bindsFrom
+        good o = record {
           image = imageOf (H .head) root;
-          reads = image-short readTreeImage s short ∙ from-head ∙ ap (kept (imageOf (H .head))) nothing-left;
+          reads = image-short readOwned s short ∙ owned-goes s all-read (sym owned-is ∙ o);
           bytes = bytes-of s known;
           short = short;
           head-is = H .is;
@@ -153,12 +154,16 @@ module _ (s : List ℕ) (known : (i : ℕ) → Fits w8 (getD s i 0)) (short : le
           names-from = names-from H;
           names-to = names-to H;
           scopes-to = scopes-to H;
-          no-binds = refl;
+          binds-are = refl;
+          few-binds = omega arith;
           root-within = H .within;
           root-reads = root-reads;
           size-is = size-is;
           size-to = size-to;
-          owned-is = owned-is;
-        })
+        }
 
-pub ruleset tree-image-laws = (too-long, head-stops, root-stops, all-good)
+        pub all-good : y .owned ≡ true → Judges treeKind s [] (judged.Good (record { front = record { head = h; end = c .at }; root = c .at; size = y .size; bindings = 0 }))
+        unfolding good
+        all-good o = good-image treeKind s [] (good o) (H .reads)
+
+pub ruleset tree-image-laws = (too-long, head-stops, root-stops, unowned, all-good)

@@ -1,28 +1,25 @@
-// A syntax image judged whole before any work on it: its head, bindings and root, and that it ends there. Only the bindings are stored.
-pub mod trees;
-
+// An image judged whole before any work on it: its head, bindings and root, and that it ends there. Only the bindings are stored.
 use bindings::loading;
-use head::Counts;
+use head::Front;
 use head::Head;
 use head::HeadRead;
+use image::TreeRead;
 use numbers::Cursor;
 use numbers::Number;
 use numbers::Place;
 use refusals::Refusal;
-use scopes::Name;
 ghost use Prim.Native.Nat.{_+_, _≤_};
 ghost use lib.ListN.{length};
-ghost use Rattle.judged.specs.Judging.{BehindHead, SyntaxJudged};
+ghost use mathlib.Core.List.{[]};
 ghost use Rattle.store.specs.Sizes.{storeSize};
+ghost use Rattle.judged.specs.Judging.{BehindHead, syntaxKind, treeKind, Judges};
 
 // What the jobs know of an image without fault.
 pub struct Judgement {
-    pub head: Head,
-    // The place past the head.
-    pub end: usize,
+    pub front: Front,
     // Where the root begins.
     pub root: usize,
-    // The root's size.
+    // The charge for loading the root.
     pub size: u32,
     // How many bindings stand in the store.
     pub bindings: u32,
@@ -33,69 +30,78 @@ pub enum Judged {
     Fault(Refusal),
 }
 
-// What stands behind the head.
-struct Rest {
-    root: usize,
-    size: u32,
-    bindings: u32,
-}
+const MOST_IMAGE: usize = 65536;
 
-enum RestJudged {
-    Good(Rest),
-    Fault(Refusal),
-}
-
-// The bindings, into the store from its start, and the root.
-fn judge_rest(c: Cursor, s: &[u8], counts: Counts, store: &mut [u64]) -> RestJudged
-    requires image { ⌜ (c .at + length (now s) ≤ 65536) × (counts .scopes ≤ 256) ⌝ }
+// The bindings behind the front f, into the store from its start, and the root; `s` is the image from there on.
+fn judge_rest(f: Front, s: &[u8], store: &mut [u64]) -> Judged
+    requires image { ⌜ (f .end + length (now s) ≤ 65536) × (f .head .scopes ≤ 256) × (f .head .words ≤ 1020) ⌝ }
     requires held { ⌜ storeSize ≤ length (now store) ⌝ }
-    ensures { λ r. ⌜ BehindHead counts (c .at) (now (s .entry)) (now (store .exit)) r ⌝ }
+    ensures { λ r. ⌜ BehindHead f (now (s .entry)) (now (store .exit)) r ⌝ }
 {
+    let c = Cursor { at: f.end };
+    let h = f.head;
+    let counts = h.counts();
     let read = loading::read_bindings(c, s, counts, store);
     let bindings = read.count as u32;
     let end = read.end;
     match end {
-        Place::At(past) => {
-            match image::measure_syntax_root(past, c.after(s, past), counts) {
-                Number::Read(size, _) => RestJudged::Good(Rest {
-                    root: past.at,
-                    size,
-                    bindings,
-                }),
-                Number::Fault(f) => RestJudged::Fault(f),
-            }
-        }
-        Place::Fault(f) => RestJudged::Fault(f),
+        Place::At(past) => match image::measure_syntax_root(past, c.after(s, past), counts) {
+            Number::Read(size, _) => Judged::Good(Judgement {
+                front: f,
+                root: past.at,
+                size,
+                bindings,
+            }),
+            Number::Fault(x) => Judged::Fault(x),
+        },
+        Place::Fault(x) => Judged::Fault(x),
     }
 }
 
-// The syntax image, whose bindings are in the store afterwards.
+// A syntax image, whose bindings are in the store afterwards.
 pub fn judge_syntax(image: &[u8], store: &mut [u64]) -> Judged
     requires { ⌜ storeSize ≤ length (now store) ⌝ }
-    ensures { λ r. ⌜ SyntaxJudged (now (image .entry)) (now (store .exit)) r ⌝ }
+    ensures { λ r. ⌜ Judges syntaxKind (now (image .entry)) (now (store .exit)) r ⌝ }
 {
-    if 65536 < image.len() {
+    if MOST_IMAGE < image.len() {
         return Judged::Fault(Refusal::OverLimit);
     }
     match head::read_head(image, Head::SYNTAX) {
         HeadRead::Read(h, c) => {
-            let counts = Counts {
-                symbols: h.words + Name::CORE,
-                names: h.names,
-                scopes: h.scopes,
-            };
             let front = Cursor { at: 0 };
-            match judge_rest(c, front.after(image, c), counts, store) {
-                RestJudged::Good(rest) => Judged::Good(Judgement {
-                    head: h,
-                    end: c.at,
-                    root: rest.root,
-                    size: rest.size,
-                    bindings: rest.bindings,
-                }),
-                RestJudged::Fault(f) => Judged::Fault(f),
+            let f = Front { head: h, end: c.at };
+            judge_rest(f, front.after(image, c), store)
+        }
+        HeadRead::Fault(x) => Judged::Fault(x),
+    }
+}
+
+// A tree image, each variable of which has an enclosing function of its name.
+pub fn judge_tree(image: &[u8]) -> Judged
+    ensures { λ r. ⌜ Judges treeKind (now (image .entry)) [] r ⌝ }
+{
+    if MOST_IMAGE < image.len() {
+        return Judged::Fault(Refusal::OverLimit);
+    }
+    match head::read_head(image, Head::TREE) {
+        HeadRead::Read(h, c) => {
+            let front = Cursor { at: 0 };
+            match image::measure_tree_root(c, front.after(image, c), h.counts()) {
+                TreeRead::Read(extent, _) => {
+                    if extent.owned {
+                        let f = Front { head: h, end: c.at };
+                        return Judged::Good(Judgement {
+                            front: f,
+                            root: c.at,
+                            size: extent.size,
+                            bindings: 0,
+                        });
+                    }
+                    Judged::Fault(Refusal::Unowned)
+                }
+                TreeRead::Fault(x) => Judged::Fault(x),
             }
         }
-        HeadRead::Fault(f) => Judged::Fault(f),
+        HeadRead::Fault(x) => Judged::Fault(x),
     }
 }

@@ -17,11 +17,13 @@ use Rattle.model.specs.Jobs.{answerOf, outputAfter, cleared, budgetFits, lent, 
 use Rattle.refusals.specs.declared.Refusal.{Refusal}
 use Rattle.refusals.specs.Refusing.{refusalOf}
 use Rattle.table.specs.Lending.{Lent}
-use Rattle.endings.specs.declared.Ending.{Ending}
-use Rattle.endings.specs.declared.Ending.the-variants.{Refused, Written}
-use Rattle.endings.specs.Ends.{EndsAs, refuses, writes}
+use Rattle.scopes.specs.declared.Name.{Name}
+use Rattle.finish.specs.declared.Ending.{Ending}
+use Rattle.finish.specs.declared.Ending.the-variants.{Refused, Named, Written}
+use Rattle.finish.specs.Ends.{lengthOf, EndsAs}
+use Rattle.finish.proofs.Ends.{and-no}
 use Rattle.meirhuppa.specs.Endings.{answerIs}
-use Rattle.meirhuppa.specs.Written.{answerFor, Short, no-image, an-image}
+use Rattle.meirhuppa.specs.Written.{answerFor}
 
 -- ---- answers
 
@@ -35,34 +37,24 @@ refused-answer {u = u} e q = ap (λ (k : ℕ). record { code = k; units = u; nam
 pub written-answer : {e : Ending} {n u : ℕ} → e ≡ Written n u → record { code = 0; units = u; name = 0; len = n } ≡ answerFor e
 written-answer e = sym (ap answerFor e)
 
-short-length : {e : Ending} {n u : ℕ} → Short e → e ≡ Written n u → n ≤ 65536
-short-length no-image e = let z : _≡_ {A = ℕ} 0 1 = cc in absurd (omega arith)
-short-length {n = n} (an-image {n = k} h) e = let i : k ≡ n = cc in omega arith
+pub named-answer : {e : Ending} {n : Name} {u : ℕ} → e ≡ Named n u → record { code = 0; units = u; name = n .0; len = 0 } ≡ answerFor e
+named-answer e = sym (ap answerFor e)
 
-pub length-fits : {e : Ending} {n u : ℕ} → Short e → e ≡ Written n u → Fits w32 n
-length-fits s e = let h = short-length s e in omega arith
+pub length-fits : {e : Ending} {n u : ℕ} → lengthOf e ≤ 65536 → e ≡ Written n u → Fits w32 n
+length-fits s e = let h = subst (λ (x : Ending). lengthOf x ≤ 65536) e s in omega arith
 
-pub ruleset answer-laws = (small-answer, refused-answer, written-answer, length-fits)
+pub ruleset answer-laws = (small-answer, refused-answer, named-answer, written-answer, length-fits)
 
 -- ---- the whole
 
-pub ends-short : {q : m.Ending} {out out′ : List ℕ} {e : Ending} → EndsAs q out out′ e → Short e
-ends-short (refuses i o) = no-image
-ends-short (writes i j k o) = an-image (subst (λ (n : ℕ). n ≤ 65536) (sym j) k)
+pub ends-short : {q : m.Ending} {out out′ : List ℕ} {e : Ending} → EndsAs q out out′ e → lengthOf e ≤ 65536
+ends-short w = w .short
 
-answer-is : {q : m.Ending} {out out′ : List ℕ} {e : Ending} → EndsAs q out out′ e → answerFor e ≡ answerOf q
+answer-is : {q : m.Ending} {out out′ : List ℕ} (e : Ending) → EndsAs q out out′ e → answerFor e ≡ answerOf q
 unfolding answerOf
-answer-is (refuses i o) = sym (ap answerOf i)
-answer-is (writes {u = u} i j k o) = ap (λ (n : ℕ). record { code = 0; units = u; name = 0; len = n }) j ∙ sym (ap answerOf i)
-
-output-is : {q : m.Ending} {out out′ : List ℕ} {e : Ending} → EndsAs q out out′ e → out′ ≡ outputAfter q out
-unfolding outputAfter
-output-is {out = out} (refuses i o) = o ∙ sym (ap (λ (x : m.Ending). outputAfter x out) i)
-output-is {out = out} (writes i j k o) = o ∙ sym (ap (λ (x : m.Ending). outputAfter x out) i)
-
-and-no : (a : Bool) → (a && false) ≡ false
-and-no true = refl
-and-no false = refl
+answer-is (Refused f u) w = ap answerOf (w .is)
+answer-is (Named n u) w = ap answerOf (w .is)
+answer-is {out′ = out′} (Written n u) w = ap (λ (k : ℕ). record { code = 0; units = u; name = 0; len = k }) (sym (length-take-le n out′ (w .inside))) ∙ ap answerOf (w .is)
 
 module _ (budget : ℕ) (table out : List ℕ) (q : m.Ending) {a : m.Answer} where
   lent-no : budgetFits budget (length table) ≡ false → a ≡ answerOf (m.refused smallTable 0) → record { answer = a; output = out; table = table } ≡ lent budget table out q
@@ -89,7 +81,7 @@ module _ (budget : ℕ) (table out : List ℕ) (q : m.Ending) {a : m.Answer} whe
       let rest : drop (40 * budget) (p ++ drop (budget * 40) table) ≡ drop (40 * budget) table =
       drop-at p (drop (budget * 40) table) (40 * budget) (long ∙ sym turn) ∙ ap (λ (n : ℕ). drop n table) (sym turn) in
       rw (le-leb budget 4096 h, le-leb (40 * budget) (length table) l)
-      (λ i. record { answer = (e ∙ answer-is w) i; output = output-is w i; table = (c ∙ ap (λ (x : List ℕ). replicate (40 * budget) 0 ++ x) rest) i })
+      (λ i. record { answer = (e ∙ answer-is _ w) i; output = w .left i; table = (c ∙ ap (λ (x : List ℕ). replicate (40 * budget) 0 ++ x) rest) i })
 
 -- the part of the table that is lent for the work
 pub part-long : (budget : ℕ) (table : List ℕ) → budget * 40 ≤ length table → budget * 40 ≡ length (take (budget * 40) table)

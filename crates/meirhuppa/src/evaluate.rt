@@ -2,6 +2,7 @@
 use crate::answers::Answer;
 use crate::limits;
 use crate::writing;
+use jobs::evaluating;
 ghost use Rattle.model.specs.Jobs.{evaluateJob};
 ghost use Rattle.meirhuppa.specs.Endings.{Answered};
 
@@ -22,7 +23,7 @@ pub extern "C" fn meirhuppa_evaluate(
     if table.len() < words {
         return writing::small_table();
     }
-    let ending = evaluate_job::evaluate_work(out, image, &mut table[..words], budget);
+    let ending = evaluating::evaluate_work(out, image, &mut table[..words], budget);
     table::clear(table, budget);
     writing::written(ending)
 }

@@ -2,6 +2,7 @@
 use crate::answers::Answer;
 use crate::limits;
 use crate::writing;
+use jobs::expanding;
 ghost use Rattle.model.specs.Jobs.{expandJob};
 ghost use Rattle.meirhuppa.specs.Endings.{Answered};
 
@@ -23,7 +24,7 @@ pub extern "C" fn meirhuppa_expand(
     if table.len() < words {
         return writing::small_table();
     }
-    let ending = expand_job::expand_work(out, image, &mut table[..words], phase, budget);
+    let ending = expanding::expand_work(out, image, &mut table[..words], phase, budget);
     table::clear(table, budget);
     writing::written(ending)
 }

@@ -2,6 +2,7 @@
 use crate::answers::Answer;
 use crate::limits;
 use crate::writing;
+use jobs::parsing;
 ghost use Rattle.model.specs.Jobs.{parseJob};
 ghost use Rattle.meirhuppa.specs.Endings.{Answered};
 
@@ -22,7 +23,7 @@ pub extern "C" fn meirhuppa_parse(
     if table.len() < words {
         return writing::small_table();
     }
-    let ending = parse_job::parse_work(out, image, &mut table[..words], budget);
+    let ending = parsing::parse_work(out, image, &mut table[..words], budget);
     table::clear(table, budget);
     writing::written(ending)
 }

@@ -1,12 +1,14 @@
 // What the jobs that write have in common.
 use crate::answers::Answer;
-use endings::Ending;
+use finish::Ending;
 use refusals::Refusal;
 ghost use mathlib.Core.Path.{_≡_};
+ghost use Prim.Native.Nat.{_≤_};
 ghost use Rattle.model.specs.Refusals.{smallTable};
 ghost use Rattle.model.specs.Jobs.{answerOf, refused};
 ghost use Rattle.meirhuppa.specs.Endings.{answerIs};
-ghost use Rattle.meirhuppa.specs.Written.{answerFor, Short};
+ghost use Rattle.finish.specs.Ends.{lengthOf};
+ghost use Rattle.meirhuppa.specs.Written.{answerFor};
 
 // Code 5.
 pub fn small_table() -> Answer
@@ -22,9 +24,9 @@ pub fn small_table() -> Answer
     }
 }
 
-// A refusal with its code and units, or the length of the image that was written.
+// A refusal with its code and units, a name, or the length of the image that was written.
 pub fn written(ending: Ending) -> Answer
-    requires { ⌜ Short ending ⌝ }
+    requires { ⌜ lengthOf ending ≤ 65536 ⌝ }
     ensures { λ r. ⌜ answerIs r ≡ answerFor ending ⌝ }
 {
     match ending {
@@ -37,6 +39,12 @@ pub fn written(ending: Ending) -> Answer
                 length: 0,
             }
         }
+        Ending::Named(n, units) => Answer {
+            code: 0,
+            units,
+            name: n.0,
+            length: 0,
+        },
         Ending::Written(n, units) => Answer {
             code: 0,
             units,

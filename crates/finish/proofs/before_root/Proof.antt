@@ -6,6 +6,9 @@ use Rattle.finish.proofs.before_root.Tie as tie
 head-len-requires : tie.Need-head-len-requires
 head-len-requires c κs = search (front-laws, needs)
 
+cast-bindings-len : tie.Need-cast-bindings-len
+cast-bindings-len c = search (front-laws, needs)
+
 bindings-len-requires : tie.Need-bindings-len-requires
 bindings-len-requires c κs = search (front-laws, needs)
 
@@ -26,6 +29,7 @@ before-root-spec =
     tie.close
     (tie.spec
     head-len-requires
+    cast-bindings-len
     bindings-len-requires
     number-len-requires
     add-result

@@ -3,6 +3,9 @@ use borrow.Author.Needs.{needs}
 use Rattle.finish.proofs.finish_syntax.Statement.{statement}
 use Rattle.finish.proofs.finish_syntax.Tie as tie
 
+sub-units : tie.Need-sub-units
+sub-units c = search (finish-syntax-laws, needs)
+
 most-for-requires : tie.Need-most-for-requires
 most-for-requires c κs = search (finish-syntax-laws, needs)
 
@@ -19,7 +22,7 @@ returns : tie.Need-returns
 returns c = search (finish-syntax-laws, needs)
 
 put-syntax-image-requires : tie.Need-put-syntax-image-requires
-put-syntax-image-requires c κs = search (finish-syntax-laws, needs)
+put-syntax-image-requires c κs = (search (finish-syntax-laws, needs), search (finish-syntax-laws, needs))
 
 same-length : tie.Need-same-length
 same-length c = search (finish-syntax-laws, needs)
@@ -31,6 +34,7 @@ pub finish-syntax-spec : {M : Type 1} → statement M
 finish-syntax-spec =
     tie.close
     (tie.spec
+    sub-units
     most-for-requires
     before-root-requires
     capped-requires

@@ -3,6 +3,9 @@ use borrow.Author.Needs.{needs}
 use Rattle.finish.proofs.finish_tree.Statement.{statement}
 use Rattle.finish.proofs.finish_tree.Tie as tie
 
+sub-units : tie.Need-sub-units
+sub-units c = search (finish-laws, needs)
+
 most-for-requires : tie.Need-most-for-requires
 most-for-requires c κs = search (finish-laws, needs)
 
@@ -31,6 +34,7 @@ pub finish-tree-spec : {M : Type 1} → statement M
 finish-tree-spec =
     tie.close
     (tie.spec
+    sub-units
     most-for-requires
     head-len-requires
     capped-requires

@@ -9,6 +9,9 @@ put-head-requires c κs = search (put-syntax-laws, needs)
 put-number-requires : tie.Need-put-number-requires
 put-number-requires c κs = search (put-syntax-laws, needs)
 
+cast-put-bindings : tie.Need-cast-put-bindings
+cast-put-bindings c = search (put-syntax-laws, needs)
+
 put-bindings-requires : tie.Need-put-bindings-requires
 put-bindings-requires c κs = search (put-syntax-laws, needs)
 
@@ -27,6 +30,7 @@ put-syntax-image-spec =
     (tie.spec
     put-head-requires
     put-number-requires
+    cast-put-bindings
     put-bindings-requires
     put-object-requires
     same-length

@@ -1,9 +1,11 @@
--- The bindings, then the root.
-use Rattle.numbers.proofs.Answering.{answering}
 use Rattle.judged.proofs.BehindHeads.{behind-laws}
+use Rattle.numbers.proofs.Answering.{answering}
 use borrow.Author.Needs.{needs}
 use Rattle.judged.proofs.judge_rest.Statement.{statement}
 use Rattle.judged.proofs.judge_rest.Tie as tie
+
+counts-requires : tie.Need-counts-requires
+counts-requires c κs = search (behind-laws, answering, needs)
 
 read-bindings-requires : tie.Need-read-bindings-requires
 read-bindings-requires c κs = search (behind-laws, answering, needs)
@@ -23,8 +25,8 @@ measure-syntax-root-requires c κs = search (behind-laws, answering, needs)
 enum-known-size : tie.Need-enum-known-size
 enum-known-size c = search (behind-laws, answering, needs)
 
-enum-known-f : tie.Need-enum-known-f
-enum-known-f c = search (behind-laws, answering, needs)
+enum-known-x : tie.Need-enum-known-x
+enum-known-x c = search (behind-laws, answering, needs)
 
 enum-known-end-2 : tie.Need-enum-known-end-2
 enum-known-end-2 c = search (behind-laws, answering, needs)
@@ -51,13 +53,14 @@ pub judge-rest-spec : {M : Type 1} → statement M
 judge-rest-spec =
     tie.close
     (tie.spec
+    counts-requires
     read-bindings-requires
     cast-bindings
     enum-known-end
     after-requires
     measure-syntax-root-requires
     enum-known-size
-    enum-known-f
+    enum-known-x
     enum-known-end-2
     same-length
     returns

@@ -12,8 +12,11 @@ code-requires c κs = search (answer-laws, needs)
 enum-known-ending-2 : tie.Need-enum-known-ending-2
 enum-known-ending-2 c = search (answer-laws, needs)
 
-cast-t8 : tie.Need-cast-t8
-cast-t8 c = search (answer-laws, needs)
+enum-known-ending-3 : tie.Need-enum-known-ending-3
+enum-known-ending-3 c = search (answer-laws, needs)
+
+cast-t10 : tie.Need-cast-t10
+cast-t10 c = search (answer-laws, needs)
 
 returns : tie.Need-returns
 returns c = search (answer-laws, needs)
@@ -21,7 +24,18 @@ returns c = search (answer-laws, needs)
 returns-2 : tie.Need-returns-2
 returns-2 c = search (answer-laws, needs)
 
+returns-3 : tie.Need-returns-3
+returns-3 c = search (answer-laws, needs)
+
 pub written-spec : {M : Type 1} → statement M
 written-spec =
     tie.close
-    (tie.spec enum-known-ending code-requires enum-known-ending-2 cast-t8 returns returns-2)
+    (tie.spec
+    enum-known-ending
+    code-requires
+    enum-known-ending-2
+    enum-known-ending-3
+    cast-t10
+    returns
+    returns-2
+    returns-3)

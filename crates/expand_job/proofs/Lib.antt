@@ -1,3 +1,0 @@
-pub mod Worked
-pub mod Loads
-pub mod Fronts

@@ -1,0 +1,4 @@
+pub mod Charging
+pub mod Endings
+pub mod Roots
+pub mod Definitions

@@ -1,0 +1,209 @@
+-- The root built in the table, and the work on it.
+use Prim.Native.Nat.{ℕ, _+_, _-_, _≤_}
+use mathlib.Core.Path.{_≡_, refl, sym, ap, _∙_, subst}
+use mathlib.Core.List.{List, []}
+use native.Mathlib.Omega.{arith}
+use lib.ListN.{length, drop}
+use Rattle.model.specs.Scopes.{Scopes}
+use Rattle.model.specs.Objects.{Stx}
+use Rattle.model.specs.Trees.{Tree, stx, loadSize}
+use Rattle.model.specs.Steps.{Step}
+use Rattle.model.specs.Evaluating.{evaluate}
+use Rattle.model.specs.Parsing.{parse}
+use Rattle.model.specs.Expanding.{expand, coreOnly}
+use Rattle.laws.proofs.Units.{NoRise, evaluate-no-rise, parse-no-rise, expand-no-rise, names-after, left-after-refusal}
+use Rattle.scopes.specs.declared.ScopeSet.{ScopeSet}
+use Rattle.scopes.specs.Sets.{scopesOf}
+use Rattle.store.specs.Words.{bindsOf}
+use Rattle.store.specs.Sizes.{storeSize}
+use Rattle.steps.specs.declared.State.{State}
+use Rattle.steps.specs.declared.Out.{Out}
+use Rattle.steps.specs.declared.Answer.{Answer}
+use Rattle.steps.specs.declared.Answer.the-variants.{Done, Refused}
+use Rattle.steps.specs.States.{stateOf, raisedTo, Room}
+use Rattle.steps.specs.Agreement as agreement
+use Rattle.steps.specs.Agreement.{placed, ended, Agrees}
+use Rattle.steps.proofs.Laws.{room-later, on-done, on-refused}
+use Rattle.table.specs.Sizes.{twoCells}
+use Rattle.things.specs.Rep.{Rep}
+use Rattle.environment.specs.Meanings.{is-core}
+use Rattle.scoping.specs.Changing.{ShownObject, objects}
+use Rattle.head.specs.declared.Head.{Head}
+use Rattle.builder.specs.Reads.{ObjectRead, object-read, TreeRead, tree-read}
+use Rattle.builder.specs.Building as built
+use Rattle.builder.specs.Building.{Builds}
+use Rattle.builder.specs.declared.Built.{Built}
+use Rattle.builder.proofs.Sizes.{load-stx, load-some}
+use Rattle.evaluate.specs.Evaluation.{Evaluates}
+use Rattle.parse.specs.Shown.{ShownTree}
+use Rattle.parse.specs.Parsing as parsing
+use Rattle.parse.specs.Parsing.{Parsed}
+use Rattle.expand.specs.declared.Context.{Context}
+use Rattle.expand.specs.Cycle as expanding
+use Rattle.expand.specs.Cycle.{Expanded}
+use Rattle.judged.specs.declared.Judgement.{Judgement}
+use Rattle.judged.specs.Judging.{Kind, syntaxKind, treeKind, Good}
+use Rattle.jobs.specs.Working as w
+use Rattle.jobs.specs.Working.{Loaded, itself, cameTo, Worked, FewBindings}
+
+-- ---- any root: building it, and what the work on it came to
+
+module _ {A : Type 0} {K : Kind A} {image st : List ℕ} {j : Judgement} {l : List ℕ} {s : State} (d : Loaded K image st j l s) where
+  first : s .top ≡ 1
+  first = ap (λ (x : State). x .top) (d .state-is)
+
+  paid : s .units + j .size ≡ d .budget
+  paid = let u = ap (λ (x : State). x .units) (d .state-is) in omega (arith, d .enough)
+
+module _ {A : Type 0} {K : Kind A} {image st : List ℕ} {j : Judgement} {l : List ℕ} {s : State} (d : Loaded K image st j l s) {R : List ℕ → Tree → List ℕ → Type 0}
+    (t : Tree) (read : R (drop (j .root) image) t []) (sized : j .size ≡ loadSize t) where
+  judged : built.Judged R l (s .top) image (j .root) (j .front .head .scopes)
+  judged = record {
+    thing = t;
+    rest = [];
+    read = read;
+    room = record {
+      fits = omega (arith, first d, paid d, d .lent .room, sized, load-some t);
+      small = d .lent .small;
+      low = omega (arith, first d);
+      place = record { inside = d .good .root-within; short = d .good .short };
+      few = d .good .scopes-to;
+    };
+  }
+
+  room : {l′ : List ℕ} {b : Built} → Builds R l l′ (s .top) image (j .root) (j .root + 1) b → length l′ ≡ length l → Room l′ (raisedTo (b .top) s)
+  room v same = record {
+    fits = omega (arith, first d, paid d, d .lent .room, sized, same, v .means t [] read .grows);
+    small = rw same (d .lent .small);
+    low = omega (arith, first d, v .rises);
+  }
+
+-- whatever is known of the image
+abbrev with-good : {A : Type 0} {K : Kind A} {image st : List ℕ} {j : Judgement} {l : List ℕ} {s : State} → Loaded K image st j l s → Good K image st j → Loaded K image st j l s
+with-good d g = record { budget = d .budget; good = g; lent = d .lent; enough = d .enough; state-is = d .state-is }
+
+-- over any result that lies in the table
+module _ {B : Type 0} (thing : B → Tree) (Shows : List ℕ → Out → B → Type 0) (rep : (l : List ℕ) (o : Out) (x : B) → Shows l o x → Rep l (o .state .top) (o .at) (thing x)) (work : Step B) (calm : NoRise work) where
+  agreed : {n v top : ℕ} {l l′ : List ℕ} (s : State) (st st′ : List ℕ) (a : Answer) → Room l (raisedTo top s) → length l′ ≡ length l
+      → Agrees (record { shows = Shows; state = λ o. o .state }) n v l l′ (raisedTo top s) (bindsOf st′) (work (stateOf s (bindsOf st))) (ended a) → cameTo thing s st′ l′ (work (stateOf s (bindsOf st))) a
+  agreed s st st′ (Done o) fits same g =
+      let y = on-done g refl in
+      record {
+        value = y .value;
+        is = y .is;
+        shown = rep _ o (y .value) (y .shown);
+        room = room-later fits (y .later) same;
+        names-from = names-after work calm (y .value) _ _ (y .is);
+        within = omega (arith, y .later .spent);
+      }
+  agreed s st st′ (Refused f) fits same g = let y = on-refused g refl in record { is = y; within = left-after-refusal work calm _ _ _ y }
+
+-- ---- a tree, evaluated
+
+module _ {image : List ℕ} {j : Judgement} {l : List ℕ} {s : State} (d : Loaded treeKind image [] j l s) where
+  tree-reads : TreeRead (j .front .head .scopes) (drop (j .root) image) (d .good .image .root) []
+  tree-reads = tree-read _ (d .good .image .head) 0 (ap (λ (y : Head). y .scopes) (sym (d .good .head-is))) (d .good .root-reads)
+
+  pub tree-judged : built.Judged (TreeRead (j .front .head .scopes)) l (s .top) image (j .root) (j .front .head .scopes)
+  tree-judged = judged d (d .good .image .root) tree-reads (d .good .size-is)
+
+  module _ {l′ : List ℕ} {b : Built} (v : Builds (TreeRead (j .front .head .scopes)) l l′ (s .top) image (j .root) (j .root + 1) b) (same : length l′ ≡ length l) {t : State} (te : t ≡ raisedTo (b .top) s) where
+    tree-shown : Rep l′ (b .top) (b .at) (d .good .image .root)
+    tree-shown = v .means (d .good .image .root) [] tree-reads .shown
+
+    tree-room : Room l′ (raisedTo (b .top) s)
+    tree-room = room d (d .good .image .root) tree-reads (d .good .size-is) v same
+
+    pub tree-ready : agreement.Ready Rep l′ t (b .at)
+    tree-ready = subst (λ (z : State). agreement.Ready Rep l′ z (b .at)) (sym te) (record { thing = d .good .image .root; shown = tree-shown; room = tree-room })
+
+    tree-came : {l″ : List ℕ} (a : Answer) → Evaluates 128 l′ l″ t (b .at) a → length l″ ≡ length l′ → cameTo itself s [] l″ (evaluate 128 (d .good .image .root) (stateOf s (bindsOf []))) a
+    tree-came {l″} a e more =
+        let e′ = subst (λ (z : State). Evaluates 128 l′ l″ z (b .at) a) te e in
+        agreed itself (λ k o x. Rep k (o .state .top) (o .at) x) (λ k o x r. r) (evaluate 128 (d .good .image .root)) (evaluate-no-rise 128 (d .good .image .root)) s [] [] a tree-room more
+        (e′ .means (bindsOf []) (d .good .image .root) tree-shown)
+
+pub tree-worked : {image : List ℕ} {j : Judgement} {l l′ l″ : List ℕ} {s t : State} {b : Built} {a : Answer} → Loaded treeKind image [] j l s
+    → Builds (TreeRead (j .front .head .scopes)) l l′ (s .top) image (j .root) (j .root + 1) b → length l′ ≡ length l → t ≡ raisedTo (b .top) s → Evaluates 128 l′ l″ t (b .at) a → length l″ ≡ length l′
+    → Worked w.evaluating itself image [] j s [] l″ a
+tree-worked {a = a} d v same te e more = record {
+  means = λ g. tree-came (with-good d g) v same te a e more;
+}
+
+pub ruleset tree-laws = (tree-judged, tree-ready, tree-worked)
+
+-- ---- an object
+
+module _ {image st : List ℕ} {j : Judgement} {l : List ℕ} {s : State} (d : Loaded syntaxKind image st j l s) where
+  abbrev object : Stx
+  object = d .good .image .root
+
+  object-reads : ObjectRead (j .front .head .scopes) (drop (j .root) image) (stx object) []
+  object-reads = object-read _ (d .good .image .head) (ap (λ (y : Head). y .scopes) (sym (d .good .head-is))) (d .good .root-reads)
+
+  object-sized : j .size ≡ loadSize (stx object)
+  object-sized = d .good .size-is ∙ sym (load-stx object)
+
+  pub object-judged : built.Judged (ObjectRead (j .front .head .scopes)) l (s .top) image (j .root) (j .front .head .scopes)
+  object-judged = judged d (stx object) object-reads object-sized
+
+  few : s .bindings ≤ 512
+  few = let n = ap (λ (x : State). x .bindings) (d .state-is) in omega (arith, d .good .few-binds)
+
+  module _ {l′ : List ℕ} {b : Built} (v : Builds (ObjectRead (j .front .head .scopes)) l l′ (s .top) image (j .root) (j .root + 1) b) (same : length l′ ≡ length l) {t : State} (te : t ≡ raisedTo (b .top) s) where
+    object-shown : Rep l′ (b .top) (b .at) (stx object)
+    object-shown = v .means (stx object) [] object-reads .shown
+
+    object-room : Room l′ (raisedTo (b .top) s)
+    object-room = room d (stx object) object-reads object-sized v same
+
+    -- ---- parsed
+
+    pub parse-ready : storeSize ≤ length st → parsing.Ready l′ st t (b .at)
+    parse-ready wide =
+        subst (λ (z : State). parsing.Ready l′ st z (b .at)) (sym te) (record { thing = object; shown = object-shown; room = object-room; held = record { few = few; wide = wide } })
+
+    parse-came : {l″ : List ℕ} (a : Answer) → Parsed 128 0 st l′ l″ t (b .at) a → length l″ ≡ length l′ → cameTo itself s st l″ (parse 128 0 object (stateOf s (bindsOf st))) a
+    parse-came {l″} a e more =
+        let e′ = subst (λ (z : State). Parsed 128 0 st l′ l″ z (b .at) a) te e in
+        agreed itself ShownTree (λ k o x r. r .rep) (parse 128 0 object) (parse-no-rise 128 0 object) s st st a object-room more (e′ .means object object-shown)
+
+    -- ---- expanded, with the core meanings and nothing prunable
+
+    module _ {at : Context} (core : at .meanings ≡ 0) where
+      pub expand-ready : storeSize ≤ length st → expanding.Ready l′ st t (b .at) at
+      expand-ready wide =
+          subst (λ (z : State). expanding.Ready l′ st z (b .at) at) (sym te)
+          (record { thing = object; shown = object-shown; within = record { meant = coreOnly; known = rw core is-core; room = object-room; held = record { few = few; wide = wide } } })
+
+      expand-agrees : {st′ l″ : List ℕ} {a : Answer} → scopesOf (at .prunable) ≡ 0 → Expanded 128 at st st′ l′ l″ t (b .at) a
+          → Agrees objects 1 twoCells l′ l″ (raisedTo (b .top) s) (bindsOf st′) (expand 128 (at .phase) coreOnly 0 object (stateOf s (bindsOf st))) (ended a)
+      expand-agrees {st′} {l″} {a} none e =
+          let e′ = subst (λ (z : State). Expanded 128 at st st′ l′ l″ z (b .at) a) te e in
+          subst (λ (p : Scopes). Agrees objects 1 twoCells l′ l″ (raisedTo (b .top) s) (bindsOf st′) (expand 128 (at .phase) coreOnly p object (stateOf s (bindsOf st))) (ended a)) none
+          (e′ .means object coreOnly object-shown (rw core is-core))
+
+      expand-came : {st′ l″ : List ℕ} (a : Answer) → scopesOf (at .prunable) ≡ 0 → Expanded 128 at st st′ l′ l″ t (b .at) a → length l″ ≡ length l′
+          → cameTo stx s st′ l″ (expand 128 (at .phase) coreOnly 0 object (stateOf s (bindsOf st))) a
+      expand-came {st′} a none e more =
+          agreed stx ShownObject (λ k o x r. r .rep) (expand 128 (at .phase) coreOnly 0 object) (expand-no-rise 128 (at .phase) coreOnly 0 object) s st st′ a object-room more (expand-agrees none e)
+
+      expand-few : {st′ l″ : List ℕ} (a : Answer) → scopesOf (at .prunable) ≡ 0 → Expanded 128 at st st′ l′ l″ t (b .at) a → FewBindings a
+      expand-few (Done o) none e = on-done (expand-agrees none e) refl .shown .few
+      expand-few (Refused f) none e = tt
+
+module _ {image st : List ℕ} {j : Judgement} {l l′ : List ℕ} {s t : State} {b : Built} (d : Loaded syntaxKind image st j l s)
+    (v : Builds (ObjectRead (j .front .head .scopes)) l l′ (s .top) image (j .root) (j .root + 1) b) (same : length l′ ≡ length l) (te : t ≡ raisedTo (b .top) s) where
+  pub parse-worked : {l″ : List ℕ} {a : Answer} → Parsed 128 0 st l′ l″ t (b .at) a → length l″ ≡ length l′ → Worked w.parsing itself image st j s st l″ a
+  parse-worked {a = a} e more = record { means = λ g. parse-came (with-good d g) v same te a e more }
+
+  module _ {ph : ℕ} {none : ScopeSet} (ne : scopesOf none ≡ 0) {st′ l″ : List ℕ} {a : Answer} (e : Expanded 128 (record { phase = ph; meanings = 0; prunable = none }) st st′ l′ l″ t (b .at) a) where
+    pub expand-worked : length l″ ≡ length l′ → Worked (w.expanding ph) stx image st j s st′ l″ a
+    expand-worked more = record { means = λ g. expand-came (with-good d g) v same te refl a ne e more }
+
+    pub expand-held : FewBindings a
+    expand-held = expand-few d v same te refl a ne e
+
+pub ruleset parse-laws = (object-judged, parse-ready, parse-worked)
+
+pub ruleset expand-laws = (object-judged, expand-ready, expand-worked, expand-held)

@@ -1,0 +1,36 @@
+// Before and after the work: the charge for loading, and what a refusal of the work has cost.
+use finish::Ending;
+use judged::Judgement;
+use steps::Charged;
+use steps::State;
+use steps::Stop;
+ghost use mathlib.Core.Path.{_≡_};
+ghost use Prim.Native.Nat.{_-_, _≤_};
+ghost use Rattle.steps.specs.States.{chargeOf};
+ghost use Rattle.finish.specs.declared.Ending.the-variants.{Refused};
+ghost use Rattle.jobs.specs.Working.{begun};
+
+// The state in which the work on a judged image begins: its root is charged for.
+pub fn begin(j: Judgement, budget: u32) -> Charged
+    ensures { λ r. ⌜ r ≡ chargeOf (j .size) (begun j budget) ⌝ }
+{
+    let f = j.front;
+    let h = f.head;
+    let s = State {
+        top: 1,
+        units: budget,
+        names: h.names,
+        scopes: h.scopes,
+        bindings: j.bindings,
+    };
+    s.charge(j.size)
+}
+
+// A refusal, after the units charged.
+pub fn stopped(f: Stop, budget: u32) -> Ending
+    requires { ⌜ f .units ≤ budget ⌝ }
+    ensures { λ r. ⌜ r ≡ Refused (f .refusal) (budget - f .units) ⌝ }
+{
+    let refusal = f.refusal;
+    Ending::Refused(refusal, budget - f.units)
+}

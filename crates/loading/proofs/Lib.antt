@@ -1,2 +1,0 @@
-pub mod Charging
-pub mod Building
