@@ -14,7 +14,8 @@ use Rattle.model.specs.Objects.{symbol, tagOf, Sets, Stx, atom, list, Stxs, con
 use Rattle.model.specs.Trees.{Tree, stx, fromStxs}
 use Rattle.model.specs.Steps as ms
 use Rattle.model.specs.Steps.{ok, after, parts2, parts3, identifier}
-use Rattle.model.specs.Expanding.{variable, Env, coreOnly, expandAll, expandApplication, expandLambda, expandLetSyntax, expandMacro, expandEntry, expand, bindFresh}
+use Rattle.model.specs.Expanding as m
+use Rattle.model.specs.Expanding.{ofRightHandSide, variable, Env, coreOnly, expandAll, expandApplication, expandLambda, expandLetSyntax, expandMacro, expandEntry, expand, bindFresh}
 use Rattle.refusals.specs.declared.Refusal.the-variants.{Ambiguous, NoRule, NoPhase}
 use Rattle.scopes.specs.Sets.{scopesOf, Declared}
 use Rattle.scopes.specs.declared.ScopeSet.{ScopeSet}
@@ -51,14 +52,14 @@ use Rattle.environment.specs.declared.Meaning.the-variants as meant
 use Rattle.environment.proofs.Frame.{carryE}
 use Rattle.environment.proofs.Laws.{on-lambda, on-let-syntax, on-quote, on-syntax, on-variable, on-macro, on-unknown, on-meaning-unclear}
 use Rattle.scoping.specs.Changing.{objects}
-use Rattle.scoping.specs.Fresh.{ReadyBinder, binders, boundOf, BindsFresh}
+use Rattle.scoping.specs.Fresh.{ShownBinder, ReadyBinder, binders, boundOf, BindsFresh}
 use Rattle.scoping.specs.declared.Binder.{Binder}
 use Rattle.scoping.specs.declared.Bound.{Bound}
 use Rattle.scoping.specs.declared.Bound.the-variants as bounds
 use Rattle.expand.specs.Making.{ReadyList, Lists, ReadyThree, ThreeLists}
-use Rattle.expand.specs.Leaves.{Within, ReadyName, ExpandedName, ReadyTail, ExpandedQuote, ExpandedSyntax}
-use Rattle.expand.specs.InPlace.{ShownNext, nexts, onwardOf, ReadyScoped, scopedRule, Scoped, ReadyDefined, definedRule, Defined, ReadyMacro, rewrittenRule, Rewritten, rhsRule, bindingRule}
-use Rattle.expand.specs.Cycle.{entries, partsOf, Ready, ReadyParts, ReadyChain, ReadyForm, ReadyLet, ReadyFunction, ReadyAbstraction, ReadyOnward, ReadyBinding, ReadyRhs, furtherRule, abstractionRule, Expanded, ExpandedOnward, ExpandedEntry, ExpandedList, ExpandedApplication, ExpandedParts, ExpandedLambda, ExpandedFunction, ExpandedAbstraction, ExpandedLetSyntax, OnwardBinding, OnwardRhs, ExpandedMacro}
+use Rattle.expand.specs.Leaves.{around, Within, ReadyName, ExpandedName, ReadyTail, ExpandedQuote, ExpandedSyntax}
+use Rattle.expand.specs.InPlace.{furtherRule, Named, ShownNext, nexts, onwardOf, ReadyScoped, scopedRule, Scoped, ReadyDefined, definedRule, Defined, ReadyMacro, rewrittenRule, Rewritten, rhsRule, bindingRule}
+use Rattle.expand.specs.Cycle.{entries, partsOf, Ready, ReadyParts, ReadyChain, ReadyForm, ReadyLet, ReadyFunction, ReadyAbstraction, ReadyOnward, ReadyBinding, ReadyRhs, abstractionRule, Expanded, ExpandedOnward, ExpandedEntry, ExpandedList, ExpandedApplication, ExpandedParts, ExpandedLambda, ExpandedFunction, ExpandedAbstraction, ExpandedLetSyntax, OnwardBinding, OnwardRhs, ExpandedMacro}
 use Rattle.expand.specs.declared.Surroundings.{Surroundings}
 use Rattle.expand.specs.declared.Next.{Next}
 use Rattle.expand.specs.declared.Onward.{Onward}
@@ -126,14 +127,14 @@ module _ (at : Surroundings) (s : State) {u : State} {x : Charged} (h : x ≡ en
       record {
         means = λ y g q k.
             let a = f .means y g (rw (top-is w) q) (rw (top-is w) k) in
-            let d : Agrees objects 1 twoCells l l1 s (bindsOf st1) (expandEntry (entries (at .left - 1)) (at .left - 1) (at .phase) g (scopesOf (at .prunable)) y (stateOf u (bindsOf st))) (ended r) = rw (unpaid-is w) at a in
-            rw (entry-goes (expand-entry (at .phase) g (scopesOf (at .prunable)) y) (at .left) s (bindsOf st) h e) d;
+            let d : Agrees objects 1 twoCells l l1 s (bindsOf st1) (expandEntry (entries (at .left - 1)) (at .left - 1) (around g at) y (stateOf u (bindsOf st))) (ended r) = rw (unpaid-is w) at a in
+            rw (entry-goes (expand-entry (around g at) y) (at .left) s (bindsOf st) h e) d;
       }
 
 pub enter-stops : {at : Surroundings} {st : List ℕ} {s : State} {x : Charged} {f : Stop} {l : List ℕ} {i : ℕ} → x ≡ enterOf (at .left) s → x ≡ charged.Refused f
     → Expanded at st st l l s i (Refused f)
 enter-stops {at} {st} {s} {f = f} h e =
-    record { means = λ y g q k. stops f (entry-refused (expand-entry (at .phase) g (scopesOf (at .prunable)) y) (at .left) s (bindsOf st) h e) }
+    record { means = λ y g q k. stops f (entry-refused (expand-entry (around g at) y) (at .left) s (bindsOf st) h e) }
 
 -- ---- an entry by its tag
 
@@ -172,7 +173,7 @@ module _ {st l : List ℕ} (s : State) {i : ℕ} {at : Surroundings} {o : Node} 
         means = λ x g w k.
             let q = symbol-at w e h in
             let w2 : Rep l (s .top) i (stx (atom (q .0) (symbol (q .1 .0)))) = rw (q .1 .1) at w in
-            rw (q .1 .1, entry-symbol (entries (at .left)) (at .left) (at .phase) g (scopesOf (at .prunable)) (stateOf s (bindsOf st)) (q .0) (q .1 .0)) (a .means (q .0) (q .1 .0) g w2 k);
+            rw (q .1 .1, entry-symbol (entries (at .left)) (at .left) (around g at) (stateOf s (bindsOf st)) (q .0) (q .1 .0)) (a .means (q .0) (q .1 .0) g w2 k);
       }
 
   pub entry-other : Ready l st (unpaid s) i at → ¬ (o .tag ≡ listTag) → ¬ (o .tag ≡ 0) → ExpandedEntry at st st l l s i (Done (record { at = i; state = s }))
@@ -181,9 +182,9 @@ module _ {st l : List ℕ} (s : State) {i : ℕ} {at : Surroundings} {o : Node} 
       record {
         means = λ x g w k.
             let q = atom-at w e (omega (arith, stx-tag w e, n5)) in
-            let rule : expandEntry (entries (at .left)) (at .left) (at .phase) g (scopesOf (at .prunable)) x (stateOf s (bindsOf st)) ≡ ok x (stateOf s (bindsOf st)) =
-            ap (λ (v : Stx). expandEntry (entries (at .left)) (at .left) (at .phase) g (scopesOf (at .prunable)) v (stateOf s (bindsOf st))) (stx-is (q .is))
-            ∙ entry-atom (entries (at .left)) (at .left) (at .phase) g (scopesOf (at .prunable)) (stateOf s (bindsOf st)) (q .sets) (q .value) (λ t. n0 (q .tag ∙ t))
+            let rule : expandEntry (entries (at .left)) (at .left) (around g at) x (stateOf s (bindsOf st)) ≡ ok x (stateOf s (bindsOf st)) =
+            ap (λ (v : Stx). expandEntry (entries (at .left)) (at .left) (around g at) v (stateOf s (bindsOf st))) (stx-is (q .is))
+            ∙ entry-atom (entries (at .left)) (at .left) (around g at) (stateOf s (bindsOf st)) (q .sets) (q .value) (λ t. n0 (q .tag ∙ t))
             ∙ ap (λ (v : Stx). ok v (stateOf s (bindsOf st))) (sym (stx-is (q .is))) in
             gives _ (record {
               value = x;
@@ -196,12 +197,12 @@ module _ {st l : List ℕ} (s : State) {i : ℕ} {at : Surroundings} {o : Node} 
 -- ---- a list by its head's meaning
 
 same-form : (at : Surroundings) (g : Env) (y : ms.State) {l l1 : List ℕ} {s : State} {b : Store} {x : Ended Out} (t : Tree) (k : Sets) {ps qs : Stxs} → ps ≡ qs
-    → Agrees objects 1 twoCells l l1 s b (expandMacro (entries (at .left)) (at .left) (at .phase) g (scopesOf (at .prunable)) t (list k ps) y) x → Agrees objects 1 twoCells l l1 s b (expandMacro (entries (at .left)) (at .left) (at .phase) g (scopesOf (at .prunable)) t (list k qs) y) x
+    → Agrees objects 1 twoCells l l1 s b (expandMacro (entries (at .left)) (at .left) (around g at) t (list k ps) y) x → Agrees objects 1 twoCells l l1 s b (expandMacro (entries (at .left)) (at .left) (around g at) t (list k qs) y) x
 same-form at g y t k e a = rw e at a
 
 pub list-empty : {at : Surroundings} {st l : List ℕ} {s : State} {i c : ℕ} → c ≡ 0 → ExpandedList at st st l l s i c (Refused (record { refusal = NoRule; units = s .units }))
 list-empty {at} {st} {l} {s} h =
-    record { means = λ k ps g u w z. rw (nil-at ps w h) (stops _ (entry-empty (entries (at .left)) (at .left) (at .phase) g (scopesOf (at .prunable)) (stateOf s (bindsOf st)) k)) }
+    record { means = λ k ps g u w z. rw (nil-at ps w h) (stops _ (entry-empty (entries (at .left)) (at .left) (around g at) (stateOf s (bindsOf st)) k)) }
 
 module _ {st l : List ℕ} (s : State) {i c : ℕ} {at : Surroundings} where
   pub list-inside : ReadyChain l st (unpaid s) i c at → ¬ (c ≡ 0) → c + cellSize ≤ length l
@@ -256,7 +257,7 @@ module _ {st l : List ℕ} (s : State) {i c : ℕ} {at : Surroundings} where
               means = λ k ps g u v y.
                   let q = first-at ps v h e in
                   let m = on-lambda (p .means (s .top) (q .first) g (q .cell .shown) y) z in
-                  rw (q .is, list-means (entries (at .left)) (at .left) (at .phase) g (scopesOf (at .prunable)) (stateOf s (bindsOf st)) k (q .first) (q .others) m, form-lambda (entries (at .left)) (at .left) (at .phase) g (scopesOf (at .prunable)) (stateOf s (bindsOf st)) k (q .first) (q .others))
+                  rw (q .is, list-means (entries (at .left)) (at .left) (around g at) (stateOf s (bindsOf st)) k (q .first) (q .others) m, form-lambda (entries (at .left)) (at .left) (around g at) (stateOf s (bindsOf st)) k (q .first) (q .others))
                   (a .means k (q .first) (q .others) g (rw (q .is) at u) (q .cell .shown) (q .cell .shown-others) y);
             }
 
@@ -266,7 +267,7 @@ module _ {st l : List ℕ} (s : State) {i c : ℕ} {at : Surroundings} where
               means = λ k ps g u v y.
                   let q = first-at ps v h e in
                   let m = on-let-syntax (p .means (s .top) (q .first) g (q .cell .shown) y) z in
-                  rw (q .is, list-means (entries (at .left)) (at .left) (at .phase) g (scopesOf (at .prunable)) (stateOf s (bindsOf st)) k (q .first) (q .others) m, form-let-syntax (entries (at .left)) (at .left) (at .phase) g (scopesOf (at .prunable)) (stateOf s (bindsOf st)) k (q .first) (q .others))
+                  rw (q .is, list-means (entries (at .left)) (at .left) (around g at) (stateOf s (bindsOf st)) k (q .first) (q .others) m, form-let-syntax (entries (at .left)) (at .left) (around g at) (stateOf s (bindsOf st)) k (q .first) (q .others))
                   (a .means (q .others) g (q .cell .shown-others) y);
             }
 
@@ -277,7 +278,7 @@ module _ {st l : List ℕ} (s : State) {i c : ℕ} {at : Surroundings} where
                   let q = first-at ps v h e in
                   let m = on-variable (p .means (s .top) (q .first) g (q .cell .shown) y) z in
                   let d = a .means k ps g u v y in
-                  rw (q .is, list-means (entries (at .left)) (at .left) (at .phase) g (scopesOf (at .prunable)) (stateOf s (bindsOf st)) k (q .first) (q .others) (m .is), form-variable (entries (at .left)) (at .left) (at .phase) g (scopesOf (at .prunable)) (stateOf s (bindsOf st)) k (q .first) (q .others) (m .sets) (m .symb))
+                  rw (q .is, list-means (entries (at .left)) (at .left) (around g at) (stateOf s (bindsOf st)) k (q .first) (q .others) (m .is), form-variable (entries (at .left)) (at .left) (around g at) (stateOf s (bindsOf st)) k (q .first) (q .others) (m .sets) (m .symb))
                   (rw (q .is) at d);
             }
 
@@ -288,7 +289,7 @@ module _ {st l : List ℕ} (s : State) {i c : ℕ} {at : Surroundings} where
                   let q = first-at ps v h e in
                   let m = on-unknown (p .means (s .top) (q .first) g (q .cell .shown) y) z in
                   let d = a .means k ps g u v y in
-                  rw (q .is, list-means (entries (at .left)) (at .left) (at .phase) g (scopesOf (at .prunable)) (stateOf s (bindsOf st)) k (q .first) (q .others) m, form-unknown (entries (at .left)) (at .left) (at .phase) g (scopesOf (at .prunable)) (stateOf s (bindsOf st)) k (q .first) (q .others))
+                  rw (q .is, list-means (entries (at .left)) (at .left) (around g at) (stateOf s (bindsOf st)) k (q .first) (q .others) m, form-unknown (entries (at .left)) (at .left) (around g at) (stateOf s (bindsOf st)) k (q .first) (q .others))
                   (rw (q .is) at d);
             }
 
@@ -299,7 +300,7 @@ module _ {st l : List ℕ} (s : State) {i c : ℕ} {at : Surroundings} where
                   let q = first-at ps v h e in
                   let m = on-macro (p .means (s .top) (q .first) g (q .cell .shown) y) z in
                   let d = a .means (list k ps) (m .value) g u (m .shown) y in
-                  rw (q .is, list-means (entries (at .left)) (at .left) (at .phase) g (scopesOf (at .prunable)) (stateOf s (bindsOf st)) k (q .first) (q .others) (m .is), form-macro (entries (at .left)) (at .left) (at .phase) g (scopesOf (at .prunable)) (stateOf s (bindsOf st)) k (q .first) (q .others) (m .value))
+                  rw (q .is, list-means (entries (at .left)) (at .left) (around g at) (stateOf s (bindsOf st)) k (q .first) (q .others) (m .is), form-macro (entries (at .left)) (at .left) (around g at) (stateOf s (bindsOf st)) k (q .first) (q .others) (m .value))
                   (same-form at g (stateOf s (bindsOf st)) (m .value) k (q .is) (beyond 1 twoCells 0 1 (later-refl l s) (owes-none s) (owes-one s) (omega arith) (omega arith) refl d));
             }
 
@@ -309,7 +310,7 @@ module _ {st l : List ℕ} (s : State) {i c : ℕ} {at : Surroundings} where
             means = λ k ps g u v y.
                 let q = first-at ps v h e in
                 let m = on-quote (p .means (s .top) (q .first) g (q .cell .shown) y) z in
-                rw (q .is, list-means (entries (at .left)) (at .left) (at .phase) g (scopesOf (at .prunable)) (stateOf s (bindsOf st)) k (q .first) (q .others) m, form-quote (entries (at .left)) (at .left) (at .phase) g (scopesOf (at .prunable)) (stateOf s (bindsOf st)) k (q .first) (q .others))
+                rw (q .is, list-means (entries (at .left)) (at .left) (around g at) (stateOf s (bindsOf st)) k (q .first) (q .others) m, form-quote (entries (at .left)) (at .left) (around g at) (stateOf s (bindsOf st)) k (q .first) (q .others))
                 (a .means (bindsOf st) (list k (cons (q .first) (q .others))) (q .others) (rw (q .is) at u) (q .cell .shown-others));
           }
 
@@ -319,8 +320,8 @@ module _ {st l : List ℕ} (s : State) {i c : ℕ} {at : Surroundings} where
             means = λ k ps g u v y.
                 let q = first-at ps v h e in
                 let m = on-syntax (p .means (s .top) (q .first) g (q .cell .shown) y) z in
-                rw (q .is, list-means (entries (at .left)) (at .left) (at .phase) g (scopesOf (at .prunable)) (stateOf s (bindsOf st)) k (q .first) (q .others) m, form-syntax (entries (at .left)) (at .left) (at .phase) g (scopesOf (at .prunable)) (stateOf s (bindsOf st)) k (q .first) (q .others))
-                (a .means (bindsOf st) k (q .first) (q .others) (rw (q .is) at u) (q .cell .shown) (q .cell .shown-others));
+                rw (q .is, list-means (entries (at .left)) (at .left) (around g at) (stateOf s (bindsOf st)) k (q .first) (q .others) m, form-syntax (entries (at .left)) (at .left) (around g at) (stateOf s (bindsOf st)) k (q .first) (q .others))
+                (a .means (bindsOf st) g k (q .first) (q .others) (rw (q .is) at u) (q .cell .shown) (q .cell .shown-others));
           }
 
       pub list-is-unclear : w ≡ meant.Unclear → ExpandedList at st st l l s i c (Refused (record { refusal = Ambiguous; units = s .units }))
@@ -328,7 +329,7 @@ module _ {st l : List ℕ} (s : State) {i c : ℕ} {at : Surroundings} where
           record {
             means = λ k ps g u v y.
                 let q = first-at ps v h e in
-                rw (q .is) (stops _ (list-unclear (entries (at .left)) (at .left) (at .phase) g (scopesOf (at .prunable)) (stateOf s (bindsOf st)) k (q .first) (q .others) (on-meaning-unclear (p .means (s .top) (q .first) g (q .cell .shown) y) z)));
+                rw (q .is) (stops _ (list-unclear (entries (at .left)) (at .left) (around g at) (stateOf s (bindsOf st)) k (q .first) (q .others) (on-meaning-unclear (p .means (s .top) (q .first) g (q .cell .shown) y) z)));
           }
 
 -- ---- application
@@ -344,7 +345,7 @@ module _ {at : Surroundings} {st st1 l l1 : List ℕ} (s : State) {c : ℕ} {a :
 
   module _ {o : Out} (e : a ≡ Done o) where
     parts-gave : (ps : Stxs) (g : Env) → RepP l (s .top) c (fromStxs ps) → RepE l (s .top) (at .meanings) g
-        → Gave partsOf 0 0 l l1 s (bindsOf st1) (expandAll (entries (at .left) (at .phase) g (scopesOf (at .prunable))) ps (stateOf s (bindsOf st))) o
+        → Gave partsOf 0 0 l l1 s (bindsOf st1) (expandAll (entries (at .left) (around g at)) ps (stateOf s (bindsOf st))) o
     parts-gave ps g w y = on-done (v .means ps g w y) (ap ended e)
 
     pub application-list : {i : ℕ} → ReadyChain l st (unpaid s) i c at → length l1 ≡ length l → ReadyList l1 (o .state) i (o .at)
@@ -373,14 +374,14 @@ module _ {at : Surroundings} {st st1 l l1 : List ℕ} (s : State) {c : ℕ} {a :
 
 -- ---- what is expanded next
 
-module _ {l st : List ℕ} {x : Onward} (r : ReadyOnward l st x) {o : Next} (e : x ≡ onward.Done o) where
+module _ {l st : List ℕ} {x : Onward} {at : Surroundings} (r : ReadyOnward l st x at) {o : Next} (e : x ≡ onward.Done o) where
   pub in-place-declared : Declared (o .scope)
   in-place-declared = r .next o e .shown .declared
 
   pub in-place-ready : {left ph : ℕ} {p : ScopeSet} → Ready l st (o .state) (o .at) (record { left = left; phase = ph; meanings = o .meanings; prunable = p })
   in-place-ready =
       let q = r .next o e in
-      record { thing = q .further .object; shown = q .shown .rep; within = record { meant = q .further .meant; known = q .shown .known; room = q .room; held = q .held } }
+      record { thing = q .further .object; shown = q .shown .rep; within = record { meant = q .shown .meant; known = q .shown .known; room = q .room; held = q .held } }
 
 pub in-place-less : {x : Onward} {o : Next} {T : ℕ} → x ≡ onward.Done o → unitsOf x * 32 + 1 ≡ T → o .state .units * 32 < T
 in-place-less e z = omega (arith, ap unitsOf e)
@@ -396,9 +397,10 @@ pub in-place-expanded : {at : Surroundings} {st st1 l l1 : List ℕ} {x : Onward
 in-place-expanded {at} {st} {st1} {l} {l1} {x} {o} {p} {r} e wider a = record {
   means = λ n k h w.
       let same : o ≡ n = cc in
-      let v : ShownNext l o k = rw same w in
-      let pruned : scopesOf p ≡ add (k .scope) (scopesOf (at .prunable)) = wider ∙ ap (λ (c : ℕ). add c (scopesOf (at .prunable))) (v .scope) in
-      rw same at (rw pruned at (a .means (k .object) (k .meant) (v .rep) (v .known)));
+      let v : ShownNext at l o k = rw same w in
+      let there : k .there ≡ record { phase = at .phase; meanings = v .meant; prunable = scopesOf p } = v .there ∙ (λ i. record { phase = at .phase; meanings = v .meant; prunable = (sym wider) i }) in
+      let d : Agrees objects 1 twoCells l l1 (o .state) (bindsOf st1) (expand (at .left) (k .there) (k .object) (stateOf (o .state) (bindsOf st))) (ended r) = rw there (a .means (k .object) (v .meant) (v .rep) (v .known)) in
+      rw same at d;
   refused = λ g h. let z : _≡_ {A = ℕ} 0 1 = cc in absurd (omega arith);
 }
 
@@ -470,113 +472,106 @@ module _ {st l : List ℕ} (s : State) {i head id body : ℕ} {at : Surroundings
   module _ {st1 l1 : List ℕ} {z : Bound} (v : BindsFresh (at .phase) st st1 l l1 s id z) where
     pub function-refused : {f : Stop} → z ≡ bounds.Refused f → ExpandedFunction at st st1 l l1 s i head id body (Refused f)
     function-refused e =
-        record { means = λ k qs h c x y g u w a b t. stops _ (function-split (entries (at .left)) (at .left) (at .phase) g (scopesOf (at .prunable)) (stateOf s (bindsOf st)) k h c x y ∙ then-no _ (on-refused (v .means c x a) (ap boundOf e))) }
+        record { means = λ k qs h c x y g u w a b t. stops _ (function-split (entries (at .left)) (at .left) (around g at) (stateOf s (bindsOf st)) k h c x y ∙ then-no _ (on-refused (v .means c x a) (ap boundOf e))) }
 
     module _ {o : Binder} (e : z ≡ bounds.Done o) where
       bound-to : (c : Sets) (x : ℕ) → Rep l (s .top) id (stx (atom c (symbol x))) → Gave (binders x) 1 nodeSpare l l1 s (bindsOf st1) (bindFresh (at .phase) c x (stateOf s (bindsOf st))) o
       bound-to c x a = on-done (v .means c x a) (ap boundOf e)
 
-      pub function-declared : Declared (o .scope)
-      unfolding unpaid
-      function-declared = bound-to (r .binder) (r .symb) (r .shown-id) .shown .declared
-
       pub function-less : {T : ℕ} → s .units * 32 + 17 ≡ T → o .state .units * 32 + 16 < T
       unfolding unpaid
       function-less t = omega (arith, bound-to (r .binder) (r .symb) (r .shown-id) .later .spent)
 
-      pub function-abstraction-ready : length l1 ≡ length l → length st1 ≡ length st → ReadyAbstraction l1 st1 (o .state) i head (o .at) body at
+      pub function-abstraction-ready : length l1 ≡ length l → length st1 ≡ length st → ReadyAbstraction l1 st1 o i head body at
       unfolding unpaid
       function-abstraction-ready len len2 =
           let g = bound-to (r .binder) (r .symb) (r .shown-id) in
           record {
-            function = record {
-              sets = r .sets;
-              old = r .old;
-              first = r .first;
-              binder = g .value .sets;
-              symb = r .symb;
-              thing = r .thing;
-              shown = carry (r .shown) (g .later .kept) (g .later .grows);
-              shown-first = carry (r .shown-first) (g .later .kept) (g .later .grows);
-              shown-id = g .shown .rep;
-              shown-body = carry (r .shown-body) (g .later .kept) (g .later .grows);
-              within = within-later (within-paid s (r .within)) (g .later) (g .shown .few) len len2;
-            };
+            sets = r .sets;
+            old = r .old;
+            first = r .first;
+            binder = g .value;
+            symb = r .symb;
+            thing = r .thing;
+            shown = carry (r .shown) (g .later .kept) (g .later .grows);
+            shown-first = carry (r .shown-first) (g .later .kept) (g .later .grows);
+            shown-binder = g .shown;
+            shown-body = carry (r .shown-body) (g .later .kept) (g .later .grows);
+            within = within-later (within-paid s (r .within)) (g .later) (g .shown .few) len len2;
             free = omega (arith, g .later .fits, r .within .room .fits, len);
           }
 
       pub function-abstraction : {st2 l2 : List ℕ} {q : Answer} → ExpandedAbstraction at st1 st2 l1 l2 o i head body q → ExpandedFunction at st st2 l l2 s i head id body q
-      function-abstraction {st2} {l2} {q} f =
+      function-abstraction f =
           record {
             means = λ k qs h c x y g u w a b t.
                 let j = bound-to c x a in
-                let d = f .means k qs h (j .value .sets) x y g (carry u (j .later .kept) (j .later .grows)) (carry w (j .later .kept) (j .later .grows)) (j .shown .rep) (carry b (j .later .kept) (j .later .grows)) (carryE t (j .later .kept) (j .later .grows)) in
-                let named : abstractionRule (entries (at .left)) (at .phase) g (scopesOf (at .prunable)) k h (j .value .name) (j .value .scope) (j .value .sets) x y (stateOf (o .state) (bindsOf st1))
-                ≡ abstractionRule (entries (at .left)) (at .phase) g (scopesOf (at .prunable)) k h (o .name .0) (o .scope .0) (j .value .sets) x y (stateOf (o .state) (bindsOf st1)) =
-                λ n. abstractionRule (entries (at .left)) (at .phase) g (scopesOf (at .prunable)) k h ((sym (j .shown .name)) n) ((sym (j .shown .scope)) n) (j .value .sets) x y (stateOf (o .state) (bindsOf st1)) in
                 beyond 1 twoCells 2 1 (j .later) (owes-two (o .state)) (owes-one s) (omega arith) (omega arith)
-                (function-split (entries (at .left)) (at .left) (at .phase) g (scopesOf (at .prunable)) (stateOf s (bindsOf st)) k h c x y ∙ then-ok _ (j .is) ∙ named) d;
+                (function-split (entries (at .left)) (at .left) (around g at) (stateOf s (bindsOf st)) k h c x y ∙ then-ok _ (j .is))
+                (f .means k qs h (j .value) x y g (carry u (j .later .kept) (j .later .grows)) (carry w (j .later .kept) (j .later .grows)) (j .shown) (carry b (j .later .kept) (j .later .grows)) (carryE t (j .later .kept) (j .later .grows)));
           }
 
 -- ---- abstraction
 
-pub abstraction-scoped-ready : {l st : List ℕ} {s : State} {i head id body : ℕ} {at : Surroundings} → ReadyAbstraction l st s i head id body at → ReadyScoped l s 0 id body at
+by-name : {x : ℕ} {l : List ℕ} {b : Binder} {k : m.Binder} → ShownBinder x l b k → Named b k
+by-name w = record { name = w .name; scope = w .scope; declared = w .declared }
+
+pub abstraction-scoped-ready : {l st : List ℕ} {b : Binder} {i head body : ℕ} {at : Surroundings} → ReadyAbstraction l st b i head body at → ReadyScoped l (b .state) b 0 (b .at) body at
 abstraction-scoped-ready r =
-    let f = r .function in
     record {
-      meaning = variable (f .binder) (f .symb);
-      object = f .thing;
-      meant = f .within .meant;
-      shown = meant-variable (f .shown-id);
-      shown-body = f .shown-body;
-      known = f .within .known;
-      room = f .within .room;
-      few = f .within .held .few;
+      binder = r .binder;
+      meaning = variable (r .binder .sets) (r .symb);
+      object = r .thing;
+      meant = r .within .meant;
+      named = by-name (r .shown-binder);
+      shown = meant-variable (r .shown-binder .rep);
+      shown-body = r .shown-body;
+      known = r .within .known;
+      room = r .within .room;
+      few = r .within .held .few;
     }
 
 module _ {at : Surroundings} {l l1 : List ℕ} {b : Binder} {body : ℕ} {x : Onward} (v : Scoped at l l1 (b .state) b 0 (b .at) body x) where
-  module _ {st : List ℕ} {i head : ℕ} (r : ReadyAbstraction l st (b .state) i head (b .at) body at) where
-    inside : Agrees nexts 1 cellSize l l1 (b .state) (bindsOf st) (scopedRule (at .phase) (r .function .within .meant) (b .name .0) (b .scope .0) (variable (r .function .binder) (r .function .symb)) (r .function .thing) (stateOf (b .state) (bindsOf st))) (onwardOf x)
-    inside = let f = r .function in v .means (bindsOf st) (variable (f .binder) (f .symb)) (f .thing) (f .within .meant) (meant-variable (f .shown-id)) (f .shown-body) (f .within .known)
+  inside : (st : List ℕ) (k : m.Binder) (n : ℕ) (y : Stx) (g : Env) → ShownBinder n l b k → Rep l (b .state .top) body (stx y) → RepE l (b .state .top) (at .meanings) g
+      → Agrees (nexts at) 1 cellSize l l1 (b .state) (bindsOf st) (scopedRule (around g at) k (variable (k .sets) n) y (stateOf (b .state) (bindsOf st))) (onwardOf x)
+  inside st k n y g p q t = v .means (bindsOf st) k (variable (k .sets) n) y g (by-name p) (meant-variable (p .rep)) q t
 
-    pub abstraction-next-ready : length l1 ≡ length l → ReadyOnward l1 st x
-    abstraction-next-ready len = onward-ready inside (r .function .within .room) (r .function .within .held) len refl
+  module _ {st : List ℕ} {i head : ℕ} (r : ReadyAbstraction l st b i head body at) where
+    pub abstraction-next-ready : length l1 ≡ length l → ReadyOnward l1 st x at
+    abstraction-next-ready len = onward-ready (inside st (r .binder) (r .symb) (r .thing) (r .within .meant) (r .shown-binder) (r .shown-body) (r .within .known)) (r .within .room) (r .within .held) len refl
 
     pub abstraction-less : {T : ℕ} → b .state .units * 32 + 16 ≡ T → unitsOf x * 32 + 1 < T
-    abstraction-less z = omega (arith, onward-less x inside)
+    abstraction-less z = omega (arith, onward-less x (inside st (r .binder) (r .symb) (r .thing) (r .within .meant) (r .shown-binder) (r .shown-body) (r .within .known)))
 
   module _ {st st1 l2 : List ℕ} {a : Answer} (w : ExpandedOnward at st st1 l1 l2 x a) where
-    abstraction-goes : (c : Sets) (n : ℕ) (y : Stx) (g : Env) → Rep l (b .state .top) (b .at) (stx (atom c (symbol n))) → Rep l (b .state .top) body (stx y) → RepE l (b .state .top) (at .meanings) g
-        → Agrees objects 2 nodeSpare l l2 (b .state) (bindsOf st1)
-        (after (scopedRule (at .phase) g (b .name .0) (b .scope .0) (variable c n) y (stateOf (b .state) (bindsOf st))) (furtherRule (entries (at .left)) (at .phase) (scopesOf (at .prunable)))) (ended a)
-    abstraction-goes c n y g p q t = onward-goes x (v .means (bindsOf st) (variable c n) y g (meant-variable p) q t) w
+    abstraction-goes : (k : m.Binder) (n : ℕ) (y : Stx) (g : Env) → ShownBinder n l b k → Rep l (b .state .top) body (stx y) → RepE l (b .state .top) (at .meanings) g
+        → Agrees objects 2 nodeSpare l l2 (b .state) (bindsOf st1) (after (scopedRule (around g at) k (variable (k .sets) n) y (stateOf (b .state) (bindsOf st))) (furtherRule (entries (at .left)))) (ended a)
+    abstraction-goes k n y g p q t = onward-goes x (inside st k n y g p q t) w
 
     pub abstraction-refused : {i head : ℕ} {f : Stop} → a ≡ Refused f → ExpandedAbstraction at st st1 l l2 b i head body (Refused f)
     unfolding abstractionRule
-    abstraction-refused e = record { means = λ k qs h c n y g u w2 p q t. stops _ (then-no _ (on-refused (abstraction-goes c n y g p q t) (ap ended e))) }
+    abstraction-refused e = record { means = λ c qs h k n y g u w2 p q t. stops _ (then-no _ (on-refused (abstraction-goes k n y g p q t) (ap ended e))) }
 
     module _ {o : Out} (e : a ≡ Done o) where
-      scoped-to : (c : Sets) (n : ℕ) (y : Stx) (g : Env) → Rep l (b .state .top) (b .at) (stx (atom c (symbol n))) → Rep l (b .state .top) body (stx y) → RepE l (b .state .top) (at .meanings) g
-          → Gave objects 2 nodeSpare l l2 (b .state) (bindsOf st1)
-          (after (scopedRule (at .phase) g (b .name .0) (b .scope .0) (variable c n) y (stateOf (b .state) (bindsOf st))) (furtherRule (entries (at .left)) (at .phase) (scopesOf (at .prunable)))) o
-      scoped-to c n y g p q t = on-done (abstraction-goes c n y g p q t) (ap ended e)
+      scoped-to : (k : m.Binder) (n : ℕ) (y : Stx) (g : Env) → ShownBinder n l b k → Rep l (b .state .top) body (stx y) → RepE l (b .state .top) (at .meanings) g
+          → Gave objects 2 nodeSpare l l2 (b .state) (bindsOf st1) (after (scopedRule (around g at) k (variable (k .sets) n) y (stateOf (b .state) (bindsOf st))) (furtherRule (entries (at .left)))) o
+      scoped-to k n y g p q t = on-done (abstraction-goes k n y g p q t) (ap ended e)
 
-      pub abstraction-three-ready : {i head : ℕ} → ReadyAbstraction l st (b .state) i head (b .at) body at → length l1 ≡ length l → length l2 ≡ length l1 → ReadyThree l2 (o .state) i head (b .at) (o .at)
+      pub abstraction-three-ready : {i head : ℕ} → ReadyAbstraction l st b i head body at → length l1 ≡ length l → length l2 ≡ length l1 → ReadyThree l2 (o .state) i head (b .at) (o .at)
       abstraction-three-ready r len1 len2 =
           let len = len2 ∙ len1 in
-          let f = r .function in
-          let g = scoped-to (f .binder) (f .symb) (f .thing) (f .within .meant) (f .shown-id) (f .shown-body) (f .within .known) in
+          let g = scoped-to (r .binder) (r .symb) (r .thing) (r .within .meant) (r .shown-binder) (r .shown-body) (r .within .known) in
           record {
-            sets = f .sets;
-            old = f .old;
-            first = f .first;
-            second = atom (f .binder) (symbol (f .symb));
+            sets = r .sets;
+            old = r .old;
+            first = r .first;
+            second = atom (r .binder .sets) (symbol (r .symb));
             third = g .value;
-            shown = carry (f .shown) (g .later .kept) (g .later .grows);
-            shown-first = carry (f .shown-first) (g .later .kept) (g .later .grows);
-            shown-second = carry (f .shown-id) (g .later .kept) (g .later .grows);
+            shown = carry (r .shown) (g .later .kept) (g .later .grows);
+            shown-first = carry (r .shown-first) (g .later .kept) (g .later .grows);
+            shown-second = carry (r .shown-binder .rep) (g .later .kept) (g .later .grows);
             shown-third = g .shown .rep;
-            room = room-later (f .within .room) (g .later) len;
+            room = room-later (r .within .room) (g .later) len;
             free = omega (arith, g .later .fits, r .free, len);
             few = g .shown .few;
           }
@@ -585,10 +580,10 @@ module _ {at : Surroundings} {l l1 : List ℕ} {b : Binder} {body : ℕ} {x : On
       unfolding abstractionRule
       abstraction-made f =
           record {
-            means = λ k qs h c n y g u w2 p q t.
-                let j = scoped-to c n y g p q t in
+            means = λ c qs h k n y g u w2 p q t.
+                let j = scoped-to k n y g p q t in
                 beyond 2 (nodeSpare + tripleSpare) 2 2 (j .later) (owes-two (o .state)) (owes-two (b .state)) (omega arith) (omega arith) (then-ok _ (j .is))
-                (f .means (bindsOf st1) k qs h (atom c (symbol n)) (j .value) (carry u (j .later .kept) (j .later .grows)) (carry w2 (j .later .kept) (j .later .grows)) (carry p (j .later .kept) (j .later .grows)) (j .shown .rep));
+                (f .means (bindsOf st1) c qs h (atom (k .sets) (symbol n)) (j .value) (carry u (j .later .kept) (j .later .grows)) (carry w2 (j .later .kept) (j .later .grows)) (carry (p .rep) (j .later .kept) (j .later .grows)) (j .shown .rep));
           }
 
 -- ---- let-syntax
@@ -629,10 +624,10 @@ module _ {st l : List ℕ} (s : State) {tail : ℕ} {at : Surroundings} where
               record { binder = n .sets; symb = n .symb; thing = q .second; object = q .third; shown = rw (n .is) at (q .shown); shown-right = q .shown-second; shown-body = q .shown-third; within = within-paid s (r .within) }
 
           module _ {st1 l1 : List ℕ} {x : Onward} (v : OnwardBinding at st st1 l l1 s a b c x) where
-            let-inside : (r : ReadyBinding l st s a b c at) → Agrees nexts 1 cellSize l l1 s (bindsOf st1) (bindingRule (entries (at .left)) (at .left) (at .phase) (r .within .meant) (r .binder) (r .symb) (r .thing) (r .object) (stateOf s (bindsOf st))) (onwardOf x)
+            let-inside : (r : ReadyBinding l st s a b c at) → Agrees (nexts at) 1 cellSize l l1 s (bindsOf st1) (bindingRule (entries (at .left)) (at .left) (around (r .within .meant) at) (r .binder) (r .symb) (r .thing) (r .object) (stateOf s (bindsOf st))) (onwardOf x)
             let-inside r = v .means (r .binder) (r .symb) (r .thing) (r .object) (r .within .meant) (r .shown) (r .shown-right) (r .shown-body) (r .within .known)
 
-            pub let-next-ready : ReadyLet l st (unpaid s) tail at → length l1 ≡ length l → length st1 ≡ length st → ReadyOnward l1 st1 x
+            pub let-next-ready : ReadyLet l st (unpaid s) tail at → length l1 ≡ length l → length st1 ≡ length st → ReadyOnward l1 st1 x at
             let-next-ready r len len2 = let q = let-binding-ready r in onward-ready (let-inside q) (q .within .room) (q .within .held) len len2
 
             pub let-less : {T : ℕ} → ReadyLet l st (unpaid s) tail at → s .units * 32 + 18 ≡ T → unitsOf x * 32 + 1 < T
@@ -646,7 +641,7 @@ module _ {st l : List ℕ} (s : State) {tail : ℕ} {at : Surroundings} where
                       let q = on-three (h .means (s .top) ps w) e in
                       let n = is-identifier (q .first) (sym (f .means (s .top) (q .first) (q .shown)) ∙ t) in
                       let y = onward-goes x (v .means (n .sets) (n .symb) (q .second) (q .third) g (rw (n .is) at (q .shown)) (q .shown-second) (q .shown-third) k) p in
-                      rw (q .is, n .is) (beyond 1 twoCells 0 1 (later-refl l s) (owes-none s) (owes-one s) (omega arith) (omega arith) (binding-split (entries (at .left)) (at .left) (at .phase) g (scopesOf (at .prunable)) (stateOf s (bindsOf st)) (n .sets) (n .symb) (q .second) (q .third)) y);
+                      rw (q .is, n .is) (beyond 1 twoCells 0 1 (later-refl l s) (owes-none s) (owes-one s) (omega arith) (omega arith) (binding-split (entries (at .left)) (at .left) (around g at) (stateOf s (bindsOf st)) (n .sets) (n .symb) (q .second) (q .third)) y);
                 }
 
 -- ---- binding
@@ -664,18 +659,17 @@ module _ {st l : List ℕ} {s : State} {id right body : ℕ} {at : Surroundings}
       let-bound : (c : Sets) (x : ℕ) → Rep l (s .top) id (stx (atom c (symbol x))) → Gave (binders x) 1 nodeSpare l l1 s (bindsOf st1) (bindFresh (at .phase) c x (stateOf s (bindsOf st))) o
       let-bound c x a = on-done (v .means c x a) (ap boundOf e)
 
-      pub binding-declared : Declared (o .scope)
-      binding-declared = let-bound (r .binder) (r .symb) (r .shown) .shown .declared
-
       pub binding-less : {T : ℕ} → s .units * 32 + 17 ≡ T → o .state .units * 32 + 18 < T
       binding-less t = omega (arith, let-bound (r .binder) (r .symb) (r .shown) .later .spent)
 
-      pub binding-rhs-ready : length l1 ≡ length l → length st1 ≡ length st → ReadyRhs l1 st1 (o .state) right body at
+      pub binding-rhs-ready : length l1 ≡ length l → length st1 ≡ length st → ReadyRhs l1 st1 o right body at
       binding-rhs-ready len len2 =
           let g = let-bound (r .binder) (r .symb) (r .shown) in
           record {
+            binder = g .value;
             thing = r .thing;
             object = r .object;
+            named = by-name (g .shown);
             shown = carry (r .shown-right) (g .later .kept) (g .later .grows);
             shown-body = carry (r .shown-body) (g .later .kept) (g .later .grows);
             within = within-later (r .within) (g .later) (g .shown .few) len len2;
@@ -683,15 +677,12 @@ module _ {st l : List ℕ} {s : State} {id right body : ℕ} {at : Surroundings}
 
       pub binding-rhs : {st2 l2 : List ℕ} {q : Onward} → OnwardRhs at st1 st2 l1 l2 o right body q → OnwardBinding at st st2 l l2 s id right body q
       unfolding bindingRule
-      binding-rhs {st2} {l2} {q} f =
+      binding-rhs f =
           record {
             means = λ c x u y g a b w k.
                 let j = let-bound c x a in
-                let d = f .means u y g (carry b (j .later .kept) (j .later .grows)) (carry w (j .later .kept) (j .later .grows)) (carryE k (j .later .kept) (j .later .grows)) in
-                let named : rhsRule (entries (at .left)) (at .left) (at .phase) g (j .value .name) (j .value .scope) u y (stateOf (o .state) (bindsOf st1))
-                ≡ rhsRule (entries (at .left)) (at .left) (at .phase) g (o .name .0) (o .scope .0) u y (stateOf (o .state) (bindsOf st1)) =
-                λ n. rhsRule (entries (at .left)) (at .left) (at .phase) g ((sym (j .shown .name)) n) ((sym (j .shown .scope)) n) u y (stateOf (o .state) (bindsOf st1)) in
-                since 1 cellSize (j .later) (omega arith) (omega arith) (then-ok _ (j .is) ∙ named) d;
+                since 1 cellSize (j .later) (omega arith) (omega arith) (then-ok _ (j .is))
+                (f .means (j .value) u y g (by-name (j .shown)) (carry b (j .later .kept) (j .later .grows)) (carry w (j .later .kept) (j .later .grows)) (carryE k (j .later .kept) (j .later .grows)));
           }
 
 -- ---- the right-hand side
@@ -701,58 +692,63 @@ rhs-up at h = omega arith
 
 pub rhs-phase : {st l : List ℕ} {b : Binder} {right body : ℕ} {at : Surroundings} → 2 ≤ at .phase → OnwardRhs at st st l l b right body (onward.Refused (record { refusal = NoPhase; units = b .state .units }))
 unfolding rhsRule lastPhase
-rhs-phase {st} {b = b} {at = at} h = record { means = λ u y g w z k. stops _ (then-no _ (unless-no ref.noPhase (stateOf (b .state) (bindsOf st)) (lt-leb (at .phase + 1) 2 (omega arith)))) }
+rhs-phase {st} {b = b} {at = at} h = record { means = λ n u y g d w z k. stops _ (then-no _ (unless-no ref.noPhase (stateOf (b .state) (bindsOf st)) (lt-leb (at .phase + 1) 2 (omega arith)))) }
 
-module _ {st l : List ℕ} {s : State} {right : ℕ} (at : Surroundings) (h : at .phase < 2) {p : ScopeSet} where
-  pub rhs-expand-ready : {body : ℕ} → ReadyRhs l st s right body at → Ready l st s right (record { left = at .left; phase = at .phase + 1; meanings = 0; prunable = p })
+-- of the right-hand side
+abbrev aboveOf : Surroundings → ScopeSet → Surroundings
+aboveOf at p = record { left = at .left; phase = at .phase + 1; meanings = 0; prunable = p }
+
+module _ {st l : List ℕ} {s : State} {right : ℕ} (at : Surroundings) (h : at .phase < 2) {p : ScopeSet} (f : scopesOf p ≡ 0) {st1 l1 : List ℕ} {a : Answer} (v : Expanded (aboveOf at p) st st1 l l1 s right a) where
+  above : (g : Env) (u : Stx) → Rep l (s .top) right (stx u) → Agrees objects 1 twoCells l l1 s (bindsOf st1) (expand (at .left) (ofRightHandSide (around g at)) u (stateOf s (bindsOf st))) (ended a)
+  above g u w = rw f at (v .means u coreOnly w is-core)
+
+  starts : (g : Env) (k : m.Binder) (u y : Stx) → rhsRule (entries (at .left)) (at .left) (around g at) k u y (stateOf s (bindsOf st))
+      ≡ after (expand (at .left) (ofRightHandSide (around g at)) u (stateOf s (bindsOf st))) (λ t. definedRule (at .left) (around g at) k t y)
+  unfolding rhsRule lastPhase
+  starts g k u y = then-ok _ (unless-ok ref.noPhase (stateOf s (bindsOf st)) (le-leb (at .phase + 1) 2 (omega arith)))
+
+  right-to : {o : Out} → a ≡ Done o → (g : Env) (u : Stx) → Rep l (s .top) right (stx u) → Gave objects 1 twoCells l l1 s (bindsOf st1) (expand (at .left) (ofRightHandSide (around g at)) u (stateOf s (bindsOf st))) o
+  right-to e g u w = on-done (above g u w) (ap ended e)
+
+module _ {st l : List ℕ} {b : Binder} {right body : ℕ} {at : Surroundings} (h : at .phase < 2) {p : ScopeSet} where
+  pub rhs-expand-ready : ReadyRhs l st b right body at → Ready l st (b .state) right (aboveOf at p)
   rhs-expand-ready r = record { thing = r .thing; shown = r .shown; within = record { meant = coreOnly; known = is-core; room = r .within .room; held = r .within .held } }
 
-  module _ (f : scopesOf p ≡ 0) {st1 l1 : List ℕ} {a : Answer} (v : Expanded (record { left = at .left; phase = at .phase + 1; meanings = 0; prunable = p }) st st1 l l1 s right a) where
-    above : (u : Stx) → Rep l (s .top) right (stx u) → Agrees objects 1 twoCells l l1 s (bindsOf st1) (expand (at .left) (at .phase + 1) coreOnly 0 u (stateOf s (bindsOf st))) (ended a)
-    above u w = rw f at (v .means u coreOnly w is-core)
-
-    starts : (g : Env) (n d : ℕ) (u y : Stx) → rhsRule (entries (at .left)) (at .left) (at .phase) g n d u y (stateOf s (bindsOf st))
-        ≡ after (expand (at .left) (at .phase + 1) coreOnly 0 u (stateOf s (bindsOf st))) (λ t. definedRule (at .left) (at .phase) g n d t y)
-    unfolding rhsRule lastPhase
-    starts g n d u y = then-ok _ (unless-ok ref.noPhase (stateOf s (bindsOf st)) (le-leb (at .phase + 1) 2 (omega arith)))
+  module _ (f : scopesOf p ≡ 0) {st1 l1 : List ℕ} {a : Answer} (v : Expanded (aboveOf at p) st st1 l l1 (b .state) right a) where
+    pub rhs-refused : {q : Stop} → a ≡ Refused q → OnwardRhs at st st1 l l1 b right body (onward.Refused q)
+    rhs-refused e = record { means = λ n u y g d w z k. stops _ (starts at h f v g n u y ∙ then-no _ (on-refused (above at h f v g u w) (ap ended e))) }
 
     module _ {o : Out} (e : a ≡ Done o) where
-      right-to : (u : Stx) → Rep l (s .top) right (stx u) → Gave objects 1 twoCells l l1 s (bindsOf st1) (expand (at .left) (at .phase + 1) coreOnly 0 u (stateOf s (bindsOf st))) o
-      right-to u w = on-done (above u w) (ap ended e)
-
-      pub rhs-defined-ready : {body : ℕ} → ReadyRhs l st s right body at → length l1 ≡ length l → length st1 ≡ length st → ReadyDefined l1 st1 (o .state) (o .at) body at
+      pub rhs-defined-ready : ReadyRhs l st b right body at → length l1 ≡ length l → length st1 ≡ length st → ReadyDefined l1 st1 (o .state) b (o .at) body at
       rhs-defined-ready r len len2 =
-          let g = right-to (r .thing) (r .shown) in
+          let g = right-to at h f v e (r .within .meant) (r .thing) (r .shown) in
           record {
+            binder = r .binder;
             thing = g .value;
             object = r .object;
+            named = r .named;
             shown = g .shown .rep;
             shown-body = carry (r .shown-body) (g .later .kept) (g .later .grows);
             within = within-later (r .within) (g .later) (g .shown .few) len len2;
             low = omega arith;
           }
 
-module _ {st l : List ℕ} {b : Binder} {right body : ℕ} {at : Surroundings} (h : at .phase < 2) {p : ScopeSet} (f : scopesOf p ≡ 0) {st1 l1 : List ℕ} {a : Answer}
-    (v : Expanded (record { left = at .left; phase = at .phase + 1; meanings = 0; prunable = p }) st st1 l l1 (b .state) right a) where
-  pub rhs-refused : {q : Stop} → a ≡ Refused q → OnwardRhs at st st1 l l1 b right body (onward.Refused q)
-  rhs-refused e = record { means = λ u y g w z k. stops _ (starts at h f v g (b .name .0) (b .scope .0) u y ∙ then-no _ (on-refused (above at h f v u w) (ap ended e))) }
-
-  pub rhs-defined : {o : Out} {l2 : List ℕ} {q : Onward} → a ≡ Done o → Defined at st1 l1 l2 (o .state) b (o .at) body q → OnwardRhs at st st1 l l2 b right body q
-  rhs-defined e c =
-      record {
-        means = λ u y g w z k.
-            let j = right-to at h f v e u w in
-            since 1 cellSize (j .later) (omega arith) (omega arith) (starts at h f v g (b .name .0) (b .scope .0) u y ∙ then-ok _ (j .is))
-            (c .means (j .value) y g (j .shown .rep) (carry z (j .later .kept) (j .later .grows)) (carryE k (j .later .kept) (j .later .grows)));
-      }
+      pub rhs-defined : {l2 : List ℕ} {q : Onward} → Defined at st1 l1 l2 (o .state) b (o .at) body q → OnwardRhs at st st1 l l2 b right body q
+      rhs-defined c =
+          record {
+            means = λ n u y g d w z k.
+                let j = right-to at h f v e g u w in
+                since 1 cellSize (j .later) (omega arith) (omega arith) (starts at h f v g n u y ∙ then-ok _ (j .is))
+                (c .means n (j .value) y g d (j .shown .rep) (carry z (j .later .kept) (j .later .grows)) (carryE k (j .later .kept) (j .later .grows)));
+          }
 
 -- ---- a macro's use
 
 module _ {at : Surroundings} {l l1 : List ℕ} {s : State} {i w : ℕ} {x : Onward} (v : Rewritten at l l1 s i w x) where
-  made-of : (r : ReadyMacro l s i w at) (q : Store) → Agrees nexts 1 cellSize l l1 s q (rewrittenRule (at .left) (at .phase) (r .meant) (r .value) (r .thing) (stateOf s q)) (onwardOf x)
+  made-of : (r : ReadyMacro l s i w at) (q : Store) → Agrees (nexts at) 1 cellSize l l1 s q (rewrittenRule (at .left) (around (r .meant) at) (r .value) (r .thing) (stateOf s q)) (onwardOf x)
   made-of r q = v .means q (r .thing) (r .value) (r .meant) (r .shown) (r .shown-value) (r .known)
 
-  pub macro-next-ready : {st : List ℕ} → ReadyMacro l s i w at → Held st s → length l1 ≡ length l → ReadyOnward l1 st x
+  pub macro-next-ready : {st : List ℕ} → ReadyMacro l s i w at → Held st s → length l1 ≡ length l → ReadyOnward l1 st x at
   macro-next-ready r h len = onward-ready (made-of r (λ n. [])) (r .room) h len refl
 
   pub macro-less : {T : ℕ} → ReadyMacro l s i w at → s .units * 32 + 18 ≡ T → unitsOf x * 32 + 1 < T
@@ -762,7 +758,7 @@ module _ {at : Surroundings} {l l1 : List ℕ} {s : State} {i w : ℕ} {x : Onwa
   macro-expanded {st} p =
       record {
         means = λ y t g a b k.
-            since 1 twoCells (later-refl l s) (omega arith) (omega arith) (macro-split (entries (at .left)) (at .left) (at .phase) g (scopesOf (at .prunable)) (stateOf s (bindsOf st)) t y)
+            since 1 twoCells (later-refl l s) (omega arith) (omega arith) (macro-split (entries (at .left)) (at .left) (around g at) (stateOf s (bindsOf st)) t y)
             (onward-goes x (v .means (bindsOf st) y t g a b k) p);
       }
 
@@ -813,7 +809,6 @@ pub ruleset laws = (
   lambda-function,
   function-binder-ready,
   function-refused,
-  function-declared,
   function-less,
   function-abstraction-ready,
   function-abstraction,
@@ -833,7 +828,6 @@ pub ruleset laws = (
   let-expanded,
   binding-binder-ready,
   binding-refused,
-  binding-declared,
   binding-less,
   binding-rhs-ready,
   binding-rhs,

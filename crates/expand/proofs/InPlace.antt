@@ -9,7 +9,8 @@ use Rattle.model.specs.Trees.{Tree, stx}
 use Rattle.model.specs.Steps as ms
 use Rattle.model.specs.Steps.{after, addTo}
 use Rattle.model.specs.Expanding as m
-use Rattle.model.specs.Expanding.{macro}
+use Rattle.model.specs.Expanding.{macro, ofBody, ofResult}
+use Rattle.model.specs.Scopes.{add}
 use Rattle.scopes.specs.Sets.{Declared}
 use Rattle.store.specs.Words.{bindsOf}
 use Rattle.table.proofs.Laws.{same-trans}
@@ -34,9 +35,9 @@ use Rattle.scoping.specs.declared.Binder.{Binder}
 use Rattle.scoping.specs.declared.Mark.{Mark}
 use Rattle.scoping.specs.declared.Marking.{Marking}
 use Rattle.scoping.specs.declared.Marking.the-variants as marking
-use Rattle.expand.specs.Leaves.{ReadyValue, valueRule, Values, ReadyTranscribed, transcribeRule, Transcribes}
-use Rattle.expand.specs.InPlace.{Further, nexts, onwardOf, ReadyScoped, scopedRule, Scoped, ReadyDefined, definedRule, Defined, ReadyMacro, rewrittenRule, Rewritten}
-use Rattle.expand.specs.Cycle.{entries, furtherRule, ReadyOnward, ExpandedOnward}
+use Rattle.expand.specs.Leaves.{around, ReadyValue, valueRule, Values, ReadyTranscribed, transcribeRule, Transcribes}
+use Rattle.expand.specs.InPlace.{Further, furtherRule, Named, nexts, onwardOf, ReadyScoped, scopedRule, Scoped, ReadyDefined, definedRule, Defined, ReadyMacro, rewrittenRule, Rewritten}
+use Rattle.expand.specs.Cycle.{entries, ReadyOnward, ExpandedOnward}
 use Rattle.expand.specs.declared.Surroundings.{Surroundings}
 use Rattle.expand.specs.declared.Onward.{Onward}
 use Rattle.expand.specs.declared.Onward.the-variants as onward
@@ -45,38 +46,45 @@ use Rattle.table.specs.Sizes.{cellSize, twoCells, nodeSpare}
 
 -- ---- the body, in a new scope
 
-pub scoped-add-ready : {l : List ℕ} {s : State} {kind thing body : ℕ} {at : Surroundings} → ReadyScoped l s kind thing body at → ReadyObject l s body
+pub scoped-add-ready : {l : List ℕ} {s : State} {b : Binder} {kind thing body : ℕ} {at : Surroundings} → ReadyScoped l s b kind thing body at → ReadyObject l s body
 scoped-add-ready r = record { thing = r .object; shown = r .shown-body; room = r .room; few = r .few }
 
+pub scoped-declared : {l : List ℕ} {s : State} {b : Binder} {kind thing body : ℕ} {at : Surroundings} → ReadyScoped l s b kind thing body at → Declared (b .scope)
+scoped-declared r = r .named .declared
+
 module _ (at : Surroundings) (b : Binder) {l l1 : List ℕ} {s : State} {body : ℕ} {a : Answer} (v : Changes (addScope (b .scope .0) (at .phase)) l l1 s body a) where
+  changed : {k : m.Binder} → Named b k → (q : Store) (y : Stx) → Rep l (s .top) body (stx y) → Agrees objects 1 nodeSpare l l1 s q (changeRule (addScope (k .scope) (at .phase)) y (stateOf s q)) (ended a)
+  changed n q y u = rw (n .scope) at (v .means q y u)
+
   pub scoped-refused : {kind thing : ℕ} {f : Stop} → a ≡ Refused f → Scoped at l l1 s b kind thing body (onward.Refused f)
   unfolding scopedRule addTo changeRule
-  scoped-refused e = record { means = λ q w y g p u k. stops _ (then-no _ (on-refused (v .means q y u) (ap ended e))) }
+  scoped-refused e = record { means = λ q k w y g n p u c. stops _ (then-no _ (on-refused (changed n q y u) (ap ended e))) }
 
   module _ {o : Out} (e : a ≡ Done o) where
-    added : (q : Store) (y : Stx) → Rep l (s .top) body (stx y) → Gave objects 1 nodeSpare l l1 s q (changeRule (addScope (b .scope .0) (at .phase)) y (stateOf s q)) o
-    added q y u = on-done (v .means q y u) (ap ended e)
+    added : {k : m.Binder} → Named b k → (q : Store) (y : Stx) → Rep l (s .top) body (stx y) → Gave objects 1 nodeSpare l l1 s q (changeRule (addScope (k .scope) (at .phase)) y (stateOf s q)) o
+    added n q y u = on-done (changed n q y u) (ap ended e)
 
-    pub scoped-roomy : {kind thing : ℕ} → ReadyScoped l s kind thing body at → length l1 ≡ length l → Roomy l1 (o .state .top) cellSize
+    pub scoped-roomy : {kind thing : ℕ} → ReadyScoped l s b kind thing body at → length l1 ≡ length l → Roomy l1 (o .state .top) cellSize
     scoped-roomy r len =
-        let g = added (λ n. []) (r .object) (r .shown-body) in
+        let g = added (r .named) (λ n. []) (r .object) (r .shown-body) in
         record { fits = omega (arith, g .later .fits, r .room .fits, len); small = omega (arith, r .room .small, len); low = omega (arith, r .room .low, g .later .grows) }
 
-    pub scoped-next : {kind thing : ℕ} {l2 : List ℕ} {k : Made} {t : State} → Declared (b .scope) → Extended l1 l2 (o .state .top) (b .name .0) kind thing (at .meanings) (k .at) (k .top) → t ≡ raisedTo (k .top) (o .state)
+    pub scoped-next : {kind thing : ℕ} {l2 : List ℕ} {k : Made} {t : State} → Extended l1 l2 (o .state .top) (b .name .0) kind thing (at .meanings) (k .at) (k .top) → t ≡ raisedTo (k .top) (o .state)
         → Scoped at l l2 s b kind thing body (onward.Done (record { at = o .at; scope = b .scope; meanings = k .at; state = t }))
     unfolding scopedRule addTo changeRule
-    scoped-next {l2 = l2} {k = k} d x z =
+    scoped-next {l2 = l2} {k = k} x z =
         rw z (record {
-          means = λ q w y g p u c.
-              let j = added q y u in
+          means = λ q c w y g n p u d.
+              let j = added n q y u in
               gives (record { at = o .at; scope = b .scope; meanings = k .at; state = raisedTo (k .top) (o .state) }) (record {
-                value = record { object = j .value; scope = b .scope .0; meant = m.extend (b .name .0) w g };
+                value = record { object = j .value; there = ofBody c w (around g at) };
                 is = then-ok _ (j .is);
                 shown = record {
+                  meant = m.extend (b .name .0) w g;
                   rep = carry (j .shown .rep) (x .kept) (omega (arith, x .grows));
-                  scope = refl;
-                  declared = d;
-                  known = x .means w g (carryM p (j .later .kept) (j .later .grows)) (carryE c (j .later .kept) (j .later .grows));
+                  known = x .means w g (carryM p (j .later .kept) (j .later .grows)) (carryE d (j .later .kept) (j .later .grows));
+                  there = λ i. record { phase = at .phase; meanings = m.extend ((sym (n .name)) i) w g; prunable = add ((sym (n .scope)) i) (scopesOf (at .prunable)) };
+                  declared = n .declared;
                   few = j .shown .few;
                 };
                 later = record {
@@ -90,7 +98,7 @@ module _ (at : Surroundings) (b : Binder) {l l1 : List ℕ} {s : State} {body : 
 
 -- ---- the body, with the value of an expanded right-hand side
 
-module _ {st l : List ℕ} {s : State} {right body : ℕ} {at : Surroundings} (r : ReadyDefined l st s right body at) where
+module _ {st l : List ℕ} {s : State} {b : Binder} {right body : ℕ} {at : Surroundings} (r : ReadyDefined l st s b right body at) where
   pub defined-up : at .phase + 1 < 2 ^ 32
   defined-up = omega (arith, r .low)
 
@@ -100,19 +108,21 @@ module _ {st l : List ℕ} {s : State} {right body : ℕ} {at : Surroundings} (r
 module _ (at : Surroundings) {st l l1 : List ℕ} {s : State} {right : ℕ} {a : Answer} (v : Values (at .left) (at .phase + 1) st l l1 s right a) where
   pub defined-refused : {b : Binder} {body : ℕ} {f : Stop} → a ≡ Refused f → Defined at st l l1 s b right body (onward.Refused f)
   unfolding definedRule
-  defined-refused e = record { means = λ u y g w z k. stops _ (then-no _ (on-refused (v .means u w) (ap ended e))) }
+  defined-refused e = record { means = λ k u y g n w z c. stops _ (then-no _ (on-refused (v .means u w) (ap ended e))) }
 
   module _ {o : Out} (e : a ≡ Done o) where
     value-to : (u : Stx) → Rep l (s .top) right (stx u) → Gave trees 1 twoCells l l1 s (bindsOf st) (valueRule (at .left) (at .phase + 1) u (stateOf s (bindsOf st))) o
     value-to u w = on-done (v .means u w) (ap ended e)
 
-    pub defined-scoped-ready : {body : ℕ} → ReadyDefined l st s right body at → length l1 ≡ length l → ReadyScoped l1 (o .state) 1 (o .at) body at
+    pub defined-scoped-ready : {b : Binder} {body : ℕ} → ReadyDefined l st s b right body at → length l1 ≡ length l → ReadyScoped l1 (o .state) b 1 (o .at) body at
     defined-scoped-ready r len =
         let g = value-to (r .thing) (r .shown) in
         record {
+          binder = r .binder;
           meaning = macro (g .value);
           object = r .object;
           meant = r .within .meant;
+          named = r .named;
           shown = meant-macro (g .shown .rep);
           shown-body = carry (r .shown-body) (g .later .kept) (g .later .grows);
           known = carryE (r .within .known) (g .later .kept) (g .later .grows);
@@ -124,10 +134,10 @@ module _ (at : Surroundings) {st l l1 : List ℕ} {s : State} {right : ℕ} {a :
     unfolding definedRule
     defined-scoped c =
         record {
-          means = λ u y g w z k.
+          means = λ n u y g h w z k.
               let j = value-to u w in
               since 1 cellSize (j .later) (omega arith) (omega arith) (then-ok _ (j .is))
-              (c .means (bindsOf st) (macro (j .value)) y g (meant-macro (j .shown .rep)) (carry z (j .later .kept) (j .later .grows)) (carryE k (j .later .kept) (j .later .grows)));
+              (c .means (bindsOf st) n (macro (j .value)) y g h (meant-macro (j .shown .rep)) (carry z (j .later .kept) (j .later .grows)) (carryE k (j .later .kept) (j .later .grows)));
         }
 
 -- ---- what a macro makes of its use
@@ -176,11 +186,12 @@ module _ (at : Surroundings) {l l1 : List ℕ} {s : State} {i : ℕ} {z : Markin
                 let j = marked-to q x p in
                 let y = on-done (transcribed q x t p u) (ap ended h) in
                 gives _ (record {
-                  value = record { object = y .value; scope = j .value .uses; meant = g };
+                  value = record { object = y .value; there = ofResult (j .value .uses) (around g at) };
                   is = then-ok _ (j .is) ∙ then-ok _ (y .is);
                   shown = record {
+                    meant = g;
                     rep = y .shown .rep;
-                    scope = j .shown .uses;
+                    there = λ c. record { phase = at .phase; meanings = g; prunable = add ((sym (j .shown .uses)) c) (scopesOf (at .prunable)) };
                     declared = j .shown .uses-declared;
                     known = carryE (carryE k (j .later .kept) (j .later .grows)) (y .later .kept) (y .later .grows);
                     few = y .shown .few;
@@ -196,11 +207,11 @@ abbrev pub unitsOf : Onward → ℕ
 unitsOf (onward.Done o) = o .state .units
 unitsOf (onward.Refused f) = 0
 
-pub onward-less : {n v : ℕ} {l l1 : List ℕ} {s : State} {b : Store} {q : ms.Out Further} (x : Onward) → Agrees nexts n v l l1 s b q (onwardOf x) → unitsOf x ≤ s .units
+pub onward-less : {at : Surroundings} {n v : ℕ} {l l1 : List ℕ} {s : State} {b : Store} {q : ms.Out Further} (x : Onward) → Agrees (nexts at) n v l l1 s b q (onwardOf x) → unitsOf x ≤ s .units
 onward-less (onward.Done o) a = omega (arith, on-done a refl .later .spent)
 onward-less (onward.Refused f) a = omega arith
 
-pub onward-ready : {n v : ℕ} {st st1 l l1 : List ℕ} {s : State} {b : Store} {q : ms.Out Further} {x : Onward} → Agrees nexts n v l l1 s b q (onwardOf x) → Room l s → Held st s → length l1 ≡ length l → length st1 ≡ length st → ReadyOnward l1 st1 x
+pub onward-ready : {at : Surroundings} {n v : ℕ} {st st1 l l1 : List ℕ} {s : State} {b : Store} {q : ms.Out Further} {x : Onward} → Agrees (nexts at) n v l l1 s b q (onwardOf x) → Room l s → Held st s → length l1 ≡ length l → length st1 ≡ length st → ReadyOnward l1 st1 x at
 onward-ready a r h len len2 =
     record {
       next = λ o e.
@@ -208,13 +219,14 @@ onward-ready a r h len len2 =
           record { further = g .value; shown = g .shown; room = room-later r (g .later) len; held = record { few = g .shown .few; wide = omega (arith, h .wide, len2) } };
     }
 
-pub onward-goes : {at : Surroundings} {st st1 l l1 l2 : List ℕ} {s : State} {q : ms.Out Further} {r : Answer} (x : Onward) → Agrees nexts 1 cellSize l l1 s (bindsOf st) q (onwardOf x) → ExpandedOnward at st st1 l1 l2 x r
-    → Agrees objects 2 nodeSpare l l2 s (bindsOf st1) (after q (furtherRule (entries (at .left)) (at .phase) (scopesOf (at .prunable)))) (ended r)
+pub onward-goes : {at : Surroundings} {st st1 l l1 l2 : List ℕ} {s : State} {q : ms.Out Further} {r : Answer} (x : Onward) → Agrees (nexts at) 1 cellSize l l1 s (bindsOf st) q (onwardOf x) → ExpandedOnward at st st1 l1 l2 x r
+    → Agrees objects 2 nodeSpare l l2 s (bindsOf st1) (after q (furtherRule (entries (at .left)))) (ended r)
 onward-goes (onward.Done o) a e = let j = on-done a refl in since 2 nodeSpare (j .later) (omega arith) (omega arith) (then-ok _ (j .is)) (e .means o (j .value) refl (j .shown))
 onward-goes (onward.Refused f) a e = rw (e .refused f refl) (stops f (then-no _ (on-refused a refl)))
 
 pub ruleset laws = (
   scoped-add-ready,
+  scoped-declared,
   scoped-refused,
   scoped-roomy,
   scoped-next,

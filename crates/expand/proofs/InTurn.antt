@@ -9,7 +9,6 @@ use Rattle.model.specs.Trees.{stx, fromStxs}
 use Rattle.model.specs.Steps as m
 use Rattle.model.specs.Steps.{ok, after}
 use Rattle.model.specs.Expanding.{Env, expandAll, expand}
-use Rattle.scopes.specs.Sets.{scopesOf}
 use Rattle.store.specs.Words.{bindsOf}
 use Rattle.steps.specs.States.{stateOf, raisedTo, end}
 use Rattle.steps.specs.Agreement.{Later, ended, Gave, gives, stops}
@@ -34,7 +33,7 @@ use Rattle.environment.specs.Meanings.{RepE}
 use Rattle.environment.proofs.Frame.{carryE}
 use Rattle.scoping.specs.Changing.{objects}
 use Rattle.expand.specs.declared.Surroundings.{Surroundings}
-use Rattle.expand.specs.Leaves.{Within}
+use Rattle.expand.specs.Leaves.{around, Within}
 use Rattle.expand.specs.Cycle.{entries, Ready, ReadyParts, Expanded, ExpandedParts}
 use Rattle.expand.proofs.Cycle.{within-later}
 
@@ -54,7 +53,7 @@ handedOn done us = λ y. ok (turnObjects done us) y
 
 -- the rule for the parts
 abbrev pub all : Surroundings → Env → Stxs → m.Step Stxs
-all at e ps = expandAll (entries (at .left) (at .phase) e (scopesOf (at .prunable))) ps
+all at e ps = expandAll (entries (at .left) (around e at)) ps
 
 -- `from` is left of the chain of ps, and `turned` is what the parts before it became, the last first
 pub record Half (at : Surroundings) (st st′ l : List ℕ) (s t : State) (from turned : ℕ) (ps : Stxs) (e : Env) : Type 0 where
@@ -130,7 +129,7 @@ module _ {at : Surroundings} {st l : List ℕ} {s : State} {c : ℕ} (r : ReadyP
 
         module _ {o : Out} (k : a ≡ Done o) where
           gave : (z : Stx) (d : Env) → Rep l1 (t .top) (x .head) (stx z) → RepE l1 (t .top) (at .meanings) d
-              → Gave objects 1 twoCells l1 l2 t (bindsOf st2) (expand (at .left) (at .phase) d (scopesOf (at .prunable)) z (stateOf t (bindsOf st1))) o
+              → Gave objects 1 twoCells l1 l2 t (bindsOf st2) (expand (at .left) (around d at) z (stateOf t (bindsOf st1))) o
           gave z d w y = on-done (v .means z d w y) (ap ended k)
 
           linkable : {i : ℕ} {z : Stx} → length l2 ≡ length l1 → Rep l2 (o .state .top) i (stx z) → Linkable l2 (o .state .top) i turned

@@ -9,7 +9,7 @@ use Rattle.model.specs.Refusals.{Refusal, tooDeep, notApplicable, tooManyEntrie
 use Rattle.model.specs.Objects.{symbol, number, point, prim, rung}
 use Rattle.model.specs.Trees.{Tree, var, app, fun, datum, lst, stx, Trees, tnil, tcons, tcount, tsize, tnesting, substitute}
 use Rattle.model.specs.Steps.{State, ok, no, Step, after, done, refuse, unless, charge, madeTree}
-use Rattle.model.specs.Evaluating.{evaluate, evalEntry, applicable, eachTree, argument, apply, primitive, orWrongKind}
+use Rattle.model.specs.Evaluating.{Primitive, primitiveOf, applyPrimitive, evaluate, evalEntry, applicable, eachTree, argument, apply, primitive, orWrongKind}
 use Rattle.laws.proofs.StepLaws.{no≢ok, ok-state, both-ok, spend, charge-ok}
 
 pub record Keeps {A : Type 0} (m : Step A) : Type 0 where
@@ -47,6 +47,11 @@ unfolding orWrongKind
 wrong-keeps none = refuse-keeps wrongArgument
 wrong-keeps (some v) = made-keeps v
 
+primitive-keeps : (p : Option Primitive) (l : Trees) → Keeps (applyPrimitive p l)
+unfolding applyPrimitive
+primitive-keeps none l = refuse-keeps notApplicable
+primitive-keeps (some p) l = then-keeps (charge-keeps 1) (λ u. wrong-keeps (primitive p (argument l 0) (argument l 1) (argument l 2)))
+
 apply-keeps : (self : Tree → Step Tree) → ((t : Tree) → Keeps (self t)) → (f : Tree) (l : Trees) → Keeps (apply self f l)
 unfolding apply
 apply-keeps self h (var m) l = refuse-keeps notApplicable
@@ -55,7 +60,7 @@ apply-keeps self h (fun n b) l = then-keeps (charge-keeps (tsize b)) (λ u. then
 apply-keeps self h (datum (symbol x)) l = refuse-keeps notApplicable
 apply-keeps self h (datum (number x)) l = refuse-keeps notApplicable
 apply-keeps self h (datum (point x)) l = refuse-keeps notApplicable
-apply-keeps self h (datum (prim p)) l = then-keeps (charge-keeps 1) (λ u. wrong-keeps (primitive p (argument l 0) (argument l 1) (argument l 2)))
+apply-keeps self h (datum (prim p)) l = primitive-keeps (primitiveOf p) l
 apply-keeps self h (datum (rung x)) l = refuse-keeps notApplicable
 apply-keeps self h (lst k) l = refuse-keeps notApplicable
 apply-keeps self h (stx s) l = refuse-keeps notApplicable

@@ -11,7 +11,8 @@ use Rattle.model.specs.Steps as ms
 use Rattle.model.specs.Steps.{ok, after, resolveAt, parts1, flipIn, pruneFrom}
 use Rattle.model.specs.Evaluating.{evaluate}
 use Rattle.model.specs.Parsing.{parse}
-use Rattle.model.specs.Expanding.{Env, headMeaning, expandName, expandSyntax, orNoSyntax}
+use Rattle.model.specs.Expanding as m
+use Rattle.model.specs.Expanding.{headMeaning, expandName, expandSyntax, orNoSyntax}
 use Rattle.refusals.specs.declared.Refusal.the-variants.{Ambiguous, NoMeaning, NoRule, NoSyntax}
 use Rattle.scopes.specs.Sets.{scopesOf}
 use Rattle.store.specs.Words.{bindsOf}
@@ -47,7 +48,7 @@ use Rattle.scoping.specs.Changing.{objects, ReadyObject, changeRule, Changes}
 use Rattle.steps.proofs.Laws.{after-after}
 use Rattle.scoping.proofs.Fresh.{binds-length}
 use Rattle.expand.specs.Making.{ReadyTwo, TwoLists}
-use Rattle.expand.specs.Leaves.{ReadyName, nameRule, ExpandedName, ReadyTail, quoteRule, ExpandedQuote, ExpandedSyntax, ReadyPruned, prunedRule, Pruned, ReadyValue, valueRule, Values, ReadyBack, backRule, Backs, ReadyTranscribed, transcribeRule, Transcribes}
+use Rattle.expand.specs.Leaves.{around, ReadyName, nameRule, ExpandedName, ReadyTail, quoteRule, ExpandedQuote, ExpandedSyntax, ReadyPruned, prunedRule, Pruned, ReadyValue, valueRule, Values, ReadyBack, backRule, Backs, ReadyTranscribed, transcribeRule, Transcribes}
 use Rattle.expand.specs.declared.Surroundings.{Surroundings}
 use Rattle.expand.proofs.Keeping.{evaluate-keeps}
 use Rattle.expand.proofs.Agreeing.{Owed, beyond}
@@ -72,9 +73,9 @@ owes-two s = record { top = refl; units = omega arith }
 
 -- ---- an identifier
 
-name-split : (ph : ℕ) (e : Env) (c : Sets) (x : ℕ) (y : ms.State) → nameRule ph e c x y ≡ after (headMeaning ph e (atom c (symbol x)) y) expandName
+name-split : (here : m.Surroundings) (c : Sets) (x : ℕ) (y : ms.State) → nameRule here c x y ≡ after (headMeaning (here .phase) (here .meanings) (atom c (symbol x)) y) expandName
 unfolding nameRule headMeaning
-name-split ph e c x y = sym (after-after (resolveAt ph c x y) _ _)
+name-split here c x y = sym (after-after (resolveAt (here .phase) c x y) _ _)
 
 module _ {l st : List ℕ} (s : State) {i : ℕ} {at : Surroundings} (r : ReadyName l st (unpaid s) i at) where
   pub name-seen : Seen l i
@@ -98,7 +99,7 @@ module _ {l st : List ℕ} (s : State) {i : ℕ} {at : Surroundings} (r : ReadyN
               let q = on-variable (p .means (s .top) (atom c (symbol x)) e u k) z in
               gives _ (record {
                 value = atom (q .sets) (symbol (q .symb));
-                is = name-split (at .phase) e c x (stateOf s (bindsOf st)) ∙ then-ok _ (head-means (at .phase) e (stateOf s (bindsOf st)) (atom c (symbol x)) (q .is));
+                is = name-split (around e at) c x (stateOf s (bindsOf st)) ∙ then-ok _ (head-means (at .phase) e (stateOf s (bindsOf st)) (atom c (symbol x)) (q .is));
                 shown = record { rep = q .shown; few = r .within .held .few };
                 later = unmade l s;
               });
@@ -107,36 +108,36 @@ module _ {l st : List ℕ} (s : State) {i : ℕ} {at : Surroundings} (r : ReadyN
     pub name-unknown : w ≡ meant.Unknown → ExpandedName at st l s i (Refused (record { refusal = NoMeaning; units = s .units }))
     unfolding expandName
     name-unknown z =
-        record { means = λ c x e u k. stops _ (name-split (at .phase) e c x (stateOf s (bindsOf st)) ∙ then-ok _ (head-means (at .phase) e (stateOf s (bindsOf st)) (atom c (symbol x)) (on-unknown (p .means (s .top) (atom c (symbol x)) e u k) z))) }
+        record { means = λ c x e u k. stops _ (name-split (around e at) c x (stateOf s (bindsOf st)) ∙ then-ok _ (head-means (at .phase) e (stateOf s (bindsOf st)) (atom c (symbol x)) (on-unknown (p .means (s .top) (atom c (symbol x)) e u k) z))) }
 
     pub name-unclear : w ≡ meant.Unclear → ExpandedName at st l s i (Refused (record { refusal = Ambiguous; units = s .units }))
     name-unclear z =
-        record { means = λ c x e u k. stops _ (name-split (at .phase) e c x (stateOf s (bindsOf st)) ∙ then-no _ (head-unclear (at .phase) e (stateOf s (bindsOf st)) (atom c (symbol x)) (on-meaning-unclear (p .means (s .top) (atom c (symbol x)) e u k) z))) }
+        record { means = λ c x e u k. stops _ (name-split (around e at) c x (stateOf s (bindsOf st)) ∙ then-no _ (head-unclear (at .phase) e (stateOf s (bindsOf st)) (atom c (symbol x)) (on-meaning-unclear (p .means (s .top) (atom c (symbol x)) e u k) z))) }
 
     pub name-lambda : w ≡ meant.Lambda → ExpandedName at st l s i (Refused (record { refusal = NoRule; units = s .units }))
     unfolding expandName
     name-lambda z =
-        record { means = λ c x e u k. stops _ (name-split (at .phase) e c x (stateOf s (bindsOf st)) ∙ then-ok _ (head-means (at .phase) e (stateOf s (bindsOf st)) (atom c (symbol x)) (on-lambda (p .means (s .top) (atom c (symbol x)) e u k) z))) }
+        record { means = λ c x e u k. stops _ (name-split (around e at) c x (stateOf s (bindsOf st)) ∙ then-ok _ (head-means (at .phase) e (stateOf s (bindsOf st)) (atom c (symbol x)) (on-lambda (p .means (s .top) (atom c (symbol x)) e u k) z))) }
 
     pub name-let-syntax : w ≡ meant.LetSyntax → ExpandedName at st l s i (Refused (record { refusal = NoRule; units = s .units }))
     unfolding expandName
     name-let-syntax z =
-        record { means = λ c x e u k. stops _ (name-split (at .phase) e c x (stateOf s (bindsOf st)) ∙ then-ok _ (head-means (at .phase) e (stateOf s (bindsOf st)) (atom c (symbol x)) (on-let-syntax (p .means (s .top) (atom c (symbol x)) e u k) z))) }
+        record { means = λ c x e u k. stops _ (name-split (around e at) c x (stateOf s (bindsOf st)) ∙ then-ok _ (head-means (at .phase) e (stateOf s (bindsOf st)) (atom c (symbol x)) (on-let-syntax (p .means (s .top) (atom c (symbol x)) e u k) z))) }
 
     pub name-quote : w ≡ meant.Quote → ExpandedName at st l s i (Refused (record { refusal = NoRule; units = s .units }))
     unfolding expandName
     name-quote z =
-        record { means = λ c x e u k. stops _ (name-split (at .phase) e c x (stateOf s (bindsOf st)) ∙ then-ok _ (head-means (at .phase) e (stateOf s (bindsOf st)) (atom c (symbol x)) (on-quote (p .means (s .top) (atom c (symbol x)) e u k) z))) }
+        record { means = λ c x e u k. stops _ (name-split (around e at) c x (stateOf s (bindsOf st)) ∙ then-ok _ (head-means (at .phase) e (stateOf s (bindsOf st)) (atom c (symbol x)) (on-quote (p .means (s .top) (atom c (symbol x)) e u k) z))) }
 
     pub name-syntax : w ≡ meant.Syntax → ExpandedName at st l s i (Refused (record { refusal = NoRule; units = s .units }))
     unfolding expandName
     name-syntax z =
-        record { means = λ c x e u k. stops _ (name-split (at .phase) e c x (stateOf s (bindsOf st)) ∙ then-ok _ (head-means (at .phase) e (stateOf s (bindsOf st)) (atom c (symbol x)) (on-syntax (p .means (s .top) (atom c (symbol x)) e u k) z))) }
+        record { means = λ c x e u k. stops _ (name-split (around e at) c x (stateOf s (bindsOf st)) ∙ then-ok _ (head-means (at .phase) e (stateOf s (bindsOf st)) (atom c (symbol x)) (on-syntax (p .means (s .top) (atom c (symbol x)) e u k) z))) }
 
     pub name-macro : {v : ℕ} → w ≡ meant.Macro v → ExpandedName at st l s i (Refused (record { refusal = NoRule; units = s .units }))
     unfolding expandName
     name-macro z =
-        record { means = λ c x e u k. stops _ (name-split (at .phase) e c x (stateOf s (bindsOf st)) ∙ then-ok _ (head-means (at .phase) e (stateOf s (bindsOf st)) (atom c (symbol x)) (on-macro (p .means (s .top) (atom c (symbol x)) e u k) z .is))) }
+        record { means = λ c x e u k. stops _ (name-split (around e at) c x (stateOf s (bindsOf st)) ∙ then-ok _ (head-means (at .phase) e (stateOf s (bindsOf st)) (atom c (symbol x)) (on-macro (p .means (s .top) (atom c (symbol x)) e u k) z .is))) }
 
 -- ---- quote and syntax
 
@@ -161,7 +162,7 @@ module _ {l : List ℕ} (s : State) {i head tail : ℕ} (r : ReadyTail l (unpaid
 
     pub syntax-shape : {at : Surroundings} → d ≡ one.Not → ExpandedSyntax at l l s i head tail (Refused (record { refusal = NoRule; units = s .units }))
     unfolding expandSyntax
-    syntax-shape e = record { means = λ b k x ps u v w. stops _ (not-parts1 ps _ (stateOf s b) (on-not-one (h .means (s .top) ps w) e)) }
+    syntax-shape e = record { means = λ b g k x ps u v w. stops _ (not-parts1 ps _ (stateOf s b) (on-not-one (h .means (s .top) ps w) e)) }
 
     module _ {j : ℕ} (e : d ≡ one.Is j) where
       pub pruned-ready : ReadyPruned l (unpaid s) i head j
@@ -173,9 +174,9 @@ module _ {l : List ℕ} (s : State) {i head tail : ℕ} (r : ReadyTail l (unpaid
       unfolding expandSyntax parts1 prunedRule
       syntax-pruned a =
           record {
-            means = λ b k x ps u v w.
+            means = λ b g k x ps u v w.
                 let q = on-one (h .means (s .top) ps w) e in
-                rw (q .is) (a .means b k (cons x (cons (q .first) nil)) x (q .first) (rw (q .is) at u) v (q .shown));
+                rw (q .is) (a .means b g k (cons x (cons (q .first) nil)) x (q .first) (rw (q .is) at u) v (q .shown));
           }
 
 module _ {l : List ℕ} (s : State) {i head x : ℕ} (r : ReadyPruned l (unpaid s) i head x) where
@@ -186,7 +187,7 @@ module _ {l : List ℕ} (s : State) {i head x : ℕ} (r : ReadyPruned l (unpaid 
   module _ (at : Surroundings) {l1 : List ℕ} {a : Answer} (v : Changes (pruneScopes (scopesOf (at .prunable)) (at .phase)) l l1 s x a) where
     pub prune-refused : {f : Stop} → a ≡ Refused f → Pruned at l l1 s i head x (Refused f)
     unfolding prunedRule pruneFrom changeRule
-    prune-refused e = record { means = λ b k qs h y u w z. stops _ (then-no _ (on-refused (v .means b y z) (ap ended e))) }
+    prune-refused e = record { means = λ b g k qs h y u w z. stops _ (then-no _ (on-refused (v .means b y z) (ap ended e))) }
 
     module _ {o : Out} (e : a ≡ Done o) where
       pruned-to : (b : Store) (y : Stx) → Rep l (s .top) x (stx y) → Gave objects 1 nodeSpare l l1 s b (changeRule (pruneScopes (scopesOf (at .prunable)) (at .phase)) y (stateOf s b)) o
@@ -213,10 +214,10 @@ module _ {l : List ℕ} (s : State) {i head x : ℕ} (r : ReadyPruned l (unpaid 
       unfolding prunedRule pruneFrom changeRule unpaid
       prune-done {l2} {q} d =
           record {
-            means = λ b k qs h y u w z.
-                let g = pruned-to b y z in
-                let t = d .means b k qs h (g .value) (carry u (g .later .kept) (g .later .grows)) (carry w (g .later .kept) (g .later .grows)) (g .shown .rep) in
-                beyond 1 twoCells 2 1 (g .later) (owes-two (o .state)) (owes-one s) (omega arith) (omega arith) (then-ok _ (g .is)) t;
+            means = λ b g k qs h y u w z.
+                let j = pruned-to b y z in
+                let t = d .means b k qs h (j .value) (carry u (j .later .kept) (j .later .grows)) (carry w (j .later .kept) (j .later .grows)) (j .shown .rep) in
+                beyond 1 twoCells 2 1 (j .later) (owes-two (o .state)) (owes-one s) (omega arith) (omega arith) (then-ok _ (j .is)) t;
           }
 
 -- ---- values

@@ -3,12 +3,11 @@ use mathlib.Core.Path.{_≡_}
 use mathlib.Core.List.{List}
 use Prim.Native.Nat.{ℕ, _+_, _≤_}
 use lib.ListN.{length}
-use Rattle.model.specs.Scopes.{Scopes, add}
 use Rattle.model.specs.Objects.{Sets, symbol, Stx, atom, list, Stxs, nil, cons}
 use Rattle.model.specs.Trees.{Tree, stx, fromStxs}
 use Rattle.model.specs.Steps.{Step, _>>=_, made}
+use Rattle.model.specs.Expanding as m
 use Rattle.model.specs.Expanding.{variable, Env, Expander, expandAll, expandApplication, expandFunction, expandLambda, expandLetSyntax, expandMacro, expandEntry, expand}
-use Rattle.scopes.specs.Sets.{scopesOf}
 use Rattle.store.specs.Words.{bindsOf}
 use Rattle.steps.specs.States.{stateOf, end, Room}
 use Rattle.steps.specs.Agreement.{Shape, ended, Agrees}
@@ -22,9 +21,10 @@ use Rattle.parse.specs.Shown.{Held}
 use Rattle.parse.specs.Parsing.{unpaid}
 use Rattle.environment.specs.Meanings.{RepE}
 use Rattle.scoping.specs.Changing.{objects}
+use Rattle.scoping.specs.Fresh.{ShownBinder}
 use Rattle.scoping.specs.declared.Binder.{Binder}
-use Rattle.expand.specs.Leaves.{Within}
-use Rattle.expand.specs.InPlace.{Further, ShownNext, nexts, onwardOf, scopedRule, rhsRule, bindingRule}
+use Rattle.expand.specs.Leaves.{around, Within}
+use Rattle.expand.specs.InPlace.{Further, furtherRule, Named, ShownNext, nexts, onwardOf, scopedRule, rhsRule, bindingRule}
 use Rattle.expand.specs.declared.Surroundings.{Surroundings}
 use Rattle.expand.specs.declared.Next.{Next}
 use Rattle.expand.specs.declared.Onward.{Onward}
@@ -32,7 +32,7 @@ use Rattle.expand.specs.declared.Onward.the-variants as onward
 use Rattle.table.specs.Sizes.{cellSize, twoCells, nodeSpare, tripleSpare, unitSize}
 
 abbrev pub entries : ℕ → Expander
-entries left = λ q f r x. expand left q f r x
+entries left = λ here x. expand left here x
 
 -- ---- chains of objects as results
 
@@ -92,18 +92,28 @@ pub record ReadyFunction (l st : List ℕ) (s : State) (i head id body : ℕ) (a
   pub within : Within l st s at
 
 -- with what the units of the entry and the binder have left
-pub record ReadyAbstraction (l st : List ℕ) (s : State) (i head id body : ℕ) (at : Surroundings) : Type 0 where
-  pub function : ReadyFunction l st s i head id body at
-  pub free : end s + (unitSize + nodeSpare) ≤ length l
+pub record ReadyAbstraction (l st : List ℕ) (b : Binder) (i head body : ℕ) (at : Surroundings) : Type 0 where
+  pub sets : Sets
+  pub old : Stxs
+  pub first : Stx
+  pub binder : m.Binder
+  pub symb : ℕ
+  pub thing : Stx
+  pub shown : Rep l (b .state .top) i (stx (list sets old))
+  pub shown-first : Rep l (b .state .top) head (stx first)
+  pub shown-binder : ShownBinder symb l b binder
+  pub shown-body : Rep l (b .state .top) body (stx thing)
+  pub within : Within l st (b .state) at
+  pub free : end (b .state) + (unitSize + nodeSpare) ≤ length l
 
-pub record ReadyNext (l st : List ℕ) (o : Next) : Type 0 where
+pub record ReadyNext (l st : List ℕ) (o : Next) (at : Surroundings) : Type 0 where
   pub further : Further
-  pub shown : ShownNext l o further
+  pub shown : ShownNext at l o further
   pub room : Room l (o .state)
   pub held : Held st (o .state)
 
-pub record ReadyOnward (l st : List ℕ) (n : Onward) : Type 0 where
-  pub next : (o : Next) → n ≡ onward.Done o → ReadyNext l st o
+pub record ReadyOnward (l st : List ℕ) (n : Onward) (at : Surroundings) : Type 0 where
+  pub next : (o : Next) → n ≡ onward.Done o → ReadyNext l st o at
 
 pub record ReadyBinding (l st : List ℕ) (s : State) (id right body : ℕ) (at : Surroundings) : Type 0 where
   pub binder : Sets
@@ -115,80 +125,79 @@ pub record ReadyBinding (l st : List ℕ) (s : State) (id right body : ℕ) (at 
   pub shown-body : Rep l (s .top) body (stx object)
   pub within : Within l st s at
 
-pub record ReadyRhs (l st : List ℕ) (s : State) (right body : ℕ) (at : Surroundings) : Type 0 where
+pub record ReadyRhs (l st : List ℕ) (b : Binder) (right body : ℕ) (at : Surroundings) : Type 0 where
+  pub binder : m.Binder
   pub thing : Stx
   pub object : Stx
-  pub shown : Rep l (s .top) right (stx thing)
-  pub shown-body : Rep l (s .top) body (stx object)
-  pub within : Within l st s at
+  pub named : Named b binder
+  pub shown : Rep l (b .state .top) right (stx thing)
+  pub shown-body : Rep l (b .state .top) body (stx object)
+  pub within : Within l st (b .state) at
 
--- ---- the rules' parts by themselves
+-- ---- a function with its new binder
 
-abbrev pub furtherRule : Expander → ℕ → Scopes → Further → Step Stx
-furtherRule self ph p k = self ph (k .meant) (add (k .scope) p) (k .object)
-
-unfoldable pub abstractionRule : Expander → ℕ → Env → Scopes → Sets → Stx → ℕ → ℕ → Sets → ℕ → Stx → Step Stx
+unfoldable pub abstractionRule : Expander → m.Surroundings → Sets → Stx → m.Binder → ℕ → Stx → Step Stx
 unfolding scopedRule made
-abstractionRule self ph e p c h n k cb x body = do
-  out ← scopedRule ph e n k (variable cb x) body >>= furtherRule self ph p
-  made (list c (cons h (cons (atom cb (symbol x)) (cons out nil))))
+abstractionRule self here c h b x body = do
+  out ← scopedRule here b (variable (b .sets) x) body >>= furtherRule self
+  made (list c (cons h (cons (atom (b .sets) (symbol x)) (cons out nil))))
 
 -- ---- what is given
 
 module _ (at : Surroundings) (st st′ l l′ : List ℕ) (s : State) where
   pub record Expanded (i : ℕ) (r : Answer) : Type 0 where
     pub means : (x : Stx) (e : Env) → Rep l (s .top) i (stx x) → RepE l (s .top) (at .meanings) e
-        → Agrees objects 1 twoCells l l′ s (bindsOf st′) (expand (at .left) (at .phase) e (scopesOf (at .prunable)) x (stateOf s (bindsOf st))) (ended r)
+        → Agrees objects 1 twoCells l l′ s (bindsOf st′) (expand (at .left) (around e at) x (stateOf s (bindsOf st))) (ended r)
 
   pub record ExpandedEntry (i : ℕ) (r : Answer) : Type 0 where
     pub means : (x : Stx) (e : Env) → Rep l (s .top) i (stx x) → RepE l (s .top) (at .meanings) e
-        → Agrees objects 1 twoCells l l′ (unpaid s) (bindsOf st′) (expandEntry (entries (at .left)) (at .left) (at .phase) e (scopesOf (at .prunable)) x (stateOf s (bindsOf st))) (ended r)
+        → Agrees objects 1 twoCells l l′ (unpaid s) (bindsOf st′) (expandEntry (entries (at .left)) (at .left) (around e at) x (stateOf s (bindsOf st))) (ended r)
 
   pub record ExpandedList (i c : ℕ) (r : Answer) : Type 0 where
     pub means : (k : Sets) (ps : Stxs) (e : Env) → Rep l (s .top) i (stx (list k ps)) → RepP l (s .top) c (fromStxs ps) → RepE l (s .top) (at .meanings) e
-        → Agrees objects 1 twoCells l l′ (unpaid s) (bindsOf st′) (expandEntry (entries (at .left)) (at .left) (at .phase) e (scopesOf (at .prunable)) (list k ps) (stateOf s (bindsOf st))) (ended r)
+        → Agrees objects 1 twoCells l l′ (unpaid s) (bindsOf st′) (expandEntry (entries (at .left)) (at .left) (around e at) (list k ps) (stateOf s (bindsOf st))) (ended r)
 
   pub record ExpandedApplication (i c : ℕ) (r : Answer) : Type 0 where
     pub means : (k : Sets) (ps : Stxs) (e : Env) → Rep l (s .top) i (stx (list k ps)) → RepP l (s .top) c (fromStxs ps) → RepE l (s .top) (at .meanings) e
-        → Agrees objects 1 twoCells l l′ (unpaid s) (bindsOf st′) (expandApplication (entries (at .left)) (at .phase) e (scopesOf (at .prunable)) k ps (stateOf s (bindsOf st))) (ended r)
+        → Agrees objects 1 twoCells l l′ (unpaid s) (bindsOf st′) (expandApplication (entries (at .left)) (around e at) k ps (stateOf s (bindsOf st))) (ended r)
 
   pub record ExpandedParts (c : ℕ) (r : Answer) : Type 0 where
     pub means : (ps : Stxs) (e : Env) → RepP l (s .top) c (fromStxs ps) → RepE l (s .top) (at .meanings) e
-        → Agrees partsOf 0 0 l l′ s (bindsOf st′) (expandAll (entries (at .left) (at .phase) e (scopesOf (at .prunable))) ps (stateOf s (bindsOf st))) (ended r)
+        → Agrees partsOf 0 0 l l′ s (bindsOf st′) (expandAll (entries (at .left) (around e at)) ps (stateOf s (bindsOf st))) (ended r)
 
   pub record ExpandedLambda (i head tail : ℕ) (r : Answer) : Type 0 where
     pub means : (k : Sets) (h : Stx) (ps : Stxs) (e : Env) → Rep l (s .top) i (stx (list k (cons h ps))) → Rep l (s .top) head (stx h) → RepP l (s .top) tail (fromStxs ps) → RepE l (s .top) (at .meanings) e
-        → Agrees objects 1 twoCells l l′ (unpaid s) (bindsOf st′) (expandLambda (entries (at .left)) (at .phase) e (scopesOf (at .prunable)) k h ps (stateOf s (bindsOf st))) (ended r)
+        → Agrees objects 1 twoCells l l′ (unpaid s) (bindsOf st′) (expandLambda (entries (at .left)) (around e at) k h ps (stateOf s (bindsOf st))) (ended r)
 
   pub record ExpandedFunction (i head id body : ℕ) (r : Answer) : Type 0 where
     pub means : (k : Sets) (qs : Stxs) (h : Stx) (c : Sets) (x : ℕ) (y : Stx) (e : Env) → Rep l (s .top) i (stx (list k qs)) → Rep l (s .top) head (stx h) → Rep l (s .top) id (stx (atom c (symbol x))) → Rep l (s .top) body (stx y)
         → RepE l (s .top) (at .meanings) e
-        → Agrees objects 1 twoCells l l′ (unpaid s) (bindsOf st′) (expandFunction (entries (at .left)) (at .phase) e (scopesOf (at .prunable)) k h c x y (stateOf s (bindsOf st))) (ended r)
+        → Agrees objects 1 twoCells l l′ (unpaid s) (bindsOf st′) (expandFunction (entries (at .left)) (around e at) k h c x y (stateOf s (bindsOf st))) (ended r)
 
   pub record ExpandedLetSyntax (tail : ℕ) (r : Answer) : Type 0 where
     pub means : (ps : Stxs) (e : Env) → RepP l (s .top) tail (fromStxs ps) → RepE l (s .top) (at .meanings) e
-        → Agrees objects 1 twoCells l l′ (unpaid s) (bindsOf st′) (expandLetSyntax (entries (at .left)) (at .left) (at .phase) e (scopesOf (at .prunable)) ps (stateOf s (bindsOf st))) (ended r)
+        → Agrees objects 1 twoCells l l′ (unpaid s) (bindsOf st′) (expandLetSyntax (entries (at .left)) (at .left) (around e at) ps (stateOf s (bindsOf st))) (ended r)
 
   pub record OnwardBinding (id right body : ℕ) (r : Onward) : Type 0 where
     pub means : (c : Sets) (x : ℕ) (u y : Stx) (e : Env) → Rep l (s .top) id (stx (atom c (symbol x))) → Rep l (s .top) right (stx u) → Rep l (s .top) body (stx y) → RepE l (s .top) (at .meanings) e
-        → Agrees nexts 1 cellSize l l′ s (bindsOf st′) (bindingRule (entries (at .left)) (at .left) (at .phase) e c x u y (stateOf s (bindsOf st))) (onwardOf r)
+        → Agrees (nexts at) 1 cellSize l l′ s (bindsOf st′) (bindingRule (entries (at .left)) (at .left) (around e at) c x u y (stateOf s (bindsOf st))) (onwardOf r)
 
   pub record ExpandedMacro (i v : ℕ) (r : Answer) : Type 0 where
     pub means : (x : Stx) (t : Tree) (e : Env) → Rep l (s .top) i (stx x) → Rep l (s .top) v t → RepE l (s .top) (at .meanings) e
-        → Agrees objects 1 twoCells l l′ s (bindsOf st′) (expandMacro (entries (at .left)) (at .left) (at .phase) e (scopesOf (at .prunable)) t x (stateOf s (bindsOf st))) (ended r)
+        → Agrees objects 1 twoCells l l′ s (bindsOf st′) (expandMacro (entries (at .left)) (at .left) (around e at) t x (stateOf s (bindsOf st))) (ended r)
 
 module _ (at : Surroundings) (st st′ l l′ : List ℕ) (b : Binder) where
   pub record ExpandedAbstraction (i head body : ℕ) (r : Answer) : Type 0 where
-    pub means : (k : Sets) (qs : Stxs) (h : Stx) (c : Sets) (x : ℕ) (y : Stx) (e : Env) → Rep l (b .state .top) i (stx (list k qs)) → Rep l (b .state .top) head (stx h) → Rep l (b .state .top) (b .at) (stx (atom c (symbol x))) → Rep l (b .state .top) body (stx y)
+    pub means : (c : Sets) (qs : Stxs) (h : Stx) (k : m.Binder) (x : ℕ) (y : Stx) (e : Env) → Rep l (b .state .top) i (stx (list c qs)) → Rep l (b .state .top) head (stx h) → ShownBinder x l b k → Rep l (b .state .top) body (stx y)
         → RepE l (b .state .top) (at .meanings) e
-        → Agrees objects 2 (nodeSpare + tripleSpare) l l′ (unpaid (unpaid (b .state))) (bindsOf st′) (abstractionRule (entries (at .left)) (at .phase) e (scopesOf (at .prunable)) k h (b .name .0) (b .scope .0) c x y (stateOf (b .state) (bindsOf st))) (ended r)
+        → Agrees objects 2 (nodeSpare + tripleSpare) l l′ (unpaid (unpaid (b .state))) (bindsOf st′) (abstractionRule (entries (at .left)) (around e at) c h k x y (stateOf (b .state) (bindsOf st))) (ended r)
 
   pub record OnwardRhs (right body : ℕ) (r : Onward) : Type 0 where
-    pub means : (u y : Stx) (e : Env) → Rep l (b .state .top) right (stx u) → Rep l (b .state .top) body (stx y) → RepE l (b .state .top) (at .meanings) e
-        → Agrees nexts 1 cellSize l l′ (b .state) (bindsOf st′) (rhsRule (entries (at .left)) (at .left) (at .phase) e (b .name .0) (b .scope .0) u y (stateOf (b .state) (bindsOf st))) (onwardOf r)
+    pub means : (k : m.Binder) (u y : Stx) (e : Env) → Named b k → Rep l (b .state .top) right (stx u) → Rep l (b .state .top) body (stx y) → RepE l (b .state .top) (at .meanings) e
+        → Agrees (nexts at) 1 cellSize l l′ (b .state) (bindsOf st′) (rhsRule (entries (at .left)) (at .left) (around e at) k u y (stateOf (b .state) (bindsOf st))) (onwardOf r)
 
 -- where nothing is to be expanded next, the refusal is handed on
 pub record ExpandedOnward (at : Surroundings) (st st′ l l′ : List ℕ) (n : Onward) (r : Answer) : Type 0 where
-  pub means : (o : Next) (k : Further) → n ≡ onward.Done o → ShownNext l o k
-      → Agrees objects 1 twoCells l l′ (o .state) (bindsOf st′) (furtherRule (entries (at .left)) (at .phase) (scopesOf (at .prunable)) k (stateOf (o .state) (bindsOf st))) (ended r)
+  pub means : (o : Next) (k : Further) → n ≡ onward.Done o → ShownNext at l o k
+      → Agrees objects 1 twoCells l l′ (o .state) (bindsOf st′) (furtherRule (entries (at .left)) k (stateOf (o .state) (bindsOf st))) (ended r)
   pub refused : (f : Stop) → n ≡ onward.Refused f → r ≡ Refused f

@@ -5,11 +5,13 @@ use Prim.Native.Nat.{ℕ, _+_, _≤_}
 use lib.Dec.{leb}
 use Rattle.model.specs.Limits.{lastPhase}
 use Rattle.model.specs.Refusals.{noPhase}
+use Rattle.model.specs.Scopes.{add}
 use Rattle.model.specs.Objects.{Sets, Stx}
 use Rattle.model.specs.Trees.{Tree, stx}
-use Rattle.model.specs.Steps.{Step, _>>=_, _>>_, done, unless, addTo}
-use Rattle.model.specs.Expanding.{Meaning, macro, Env, coreOnly, extend, bindFresh, Expander}
-use Rattle.scopes.specs.Sets.{Declared}
+use Rattle.model.specs.Steps.{Entries, Step, _>>=_, _>>_, done, unless, addTo}
+use Rattle.model.specs.Expanding as m
+use Rattle.model.specs.Expanding.{Meaning, macro, Env, bindFresh, ofRightHandSide, ofBody, ofResult, Expander}
+use Rattle.scopes.specs.Sets.{scopesOf, Declared}
 use Rattle.store.specs.Words.{bindsOf}
 use Rattle.steps.specs.States.{Store, stateOf, Room}
 use Rattle.steps.specs.Agreement.{Shape, Ended, done as ends, refused, Agrees}
@@ -18,89 +20,103 @@ use Rattle.things.specs.Rep.{Rep}
 use Rattle.environment.specs.Meanings.{Meant, RepE}
 use Rattle.scoping.specs.Fresh.{markRule}
 use Rattle.scoping.specs.declared.Binder.{Binder}
-use Rattle.expand.specs.Leaves.{Within, valueRule, transcribeRule}
+use Rattle.expand.specs.Leaves.{around, Within, valueRule, transcribeRule}
 use Rattle.expand.specs.declared.Surroundings.{Surroundings}
 use Rattle.expand.specs.declared.Next.{Next}
 use Rattle.expand.specs.declared.Onward.{Onward}
 use Rattle.expand.specs.declared.Onward.the-variants as onward
 use Rattle.table.specs.Sizes.{cellSize}
 
--- an object, the scope that is prunable in it, and what names mean there
+-- an object, and where it is expanded
 pub record Further : Type 0 where
   pub object : Stx
-  pub scope : ℕ
-  pub meant : Env
+  pub there : m.Surroundings
 
-pub record ShownNext (l : List ℕ) (o : Next) (k : Further) : Type 0 where
+abbrev pub furtherRule : Expander → Further → Step Stx
+furtherRule self k = self (k .there) (k .object)
+
+-- from where the form is expanded: with a scope more that is prunable, and with other meanings
+pub record ShownNext (at : Surroundings) (l : List ℕ) (o : Next) (k : Further) : Type 0 where
+  pub meant : Env
   pub rep : Rep l (o .state .top) (o .at) (stx (k .object))
-  pub scope : o .scope .0 ≡ k .scope
+  pub known : RepE l (o .state .top) (o .meanings) meant
+  pub there : k .there ≡ record { phase = at .phase; meanings = meant; prunable = add (o .scope .0) (scopesOf (at .prunable)) }
   pub declared : Declared (o .scope)
-  pub known : RepE l (o .state .top) (o .meanings) (k .meant)
   pub few : o .state .bindings ≤ 512
 
-abbrev pub nexts : Shape Further Next
-nexts = record { shows = λ l o k. ShownNext l o k; state = λ o. o .state }
+abbrev pub nexts : Surroundings → Shape Further Next
+nexts at = record { shows = λ l o k. ShownNext at l o k; state = λ o. o .state }
 
 abbrev pub onwardOf : Onward → Ended Next
 onwardOf (onward.Done o) = ends o
 onwardOf (onward.Refused f) = refused f
 
+-- b has the name and the scope of k
+pub record Named (b : Binder) (k : m.Binder) : Type 0 where
+  pub name : b .name .0 ≡ k .name
+  pub scope : b .scope .0 ≡ k .scope
+  pub declared : Declared (b .scope)
+
 -- ---- the body, in a new scope
 
-pub record ReadyScoped (l : List ℕ) (s : State) (kind thing body : ℕ) (at : Surroundings) : Type 0 where
+pub record ReadyScoped (l : List ℕ) (s : State) (b : Binder) (kind thing body : ℕ) (at : Surroundings) : Type 0 where
+  pub binder : m.Binder
   pub meaning : Meaning
   pub object : Stx
   pub meant : Env
+  pub named : Named b binder
   pub shown : Meant l (s .top) kind thing meaning
   pub shown-body : Rep l (s .top) body (stx object)
   pub known : RepE l (s .top) (at .meanings) meant
   pub room : Room l s
   pub few : s .bindings ≤ 512
 
-unfoldable pub scopedRule : ℕ → Env → ℕ → ℕ → Meaning → Stx → Step Further
+unfoldable pub scopedRule : m.Surroundings → m.Binder → Meaning → Stx → Step Further
 unfolding addTo
-scopedRule ph e n k w body = do
-  in-scope ← addTo k ph body
-  done (record { object = in-scope; scope = k; meant = extend n w e })
+scopedRule here b w body = do
+  in-scope ← addTo (b .scope) (here .phase) body
+  done (record { object = in-scope; there = ofBody b w here })
 
 pub record Scoped (at : Surroundings) (l l′ : List ℕ) (s : State) (b : Binder) (kind thing body : ℕ) (r : Onward) : Type 0 where
-  pub means : (q : Store) (w : Meaning) (y : Stx) (e : Env) → Meant l (s .top) kind thing w → Rep l (s .top) body (stx y) → RepE l (s .top) (at .meanings) e
-      → Agrees nexts 1 cellSize l l′ s q (scopedRule (at .phase) e (b .name .0) (b .scope .0) w y (stateOf s q)) (onwardOf r)
+  pub means : (q : Store) (k : m.Binder) (w : Meaning) (y : Stx) (e : Env) → Named b k → Meant l (s .top) kind thing w → Rep l (s .top) body (stx y) → RepE l (s .top) (at .meanings) e
+      → Agrees (nexts at) 1 cellSize l l′ s q (scopedRule (around e at) k w y (stateOf s q)) (onwardOf r)
 
 -- ---- the body, with the value of an expanded right-hand side
 
-pub record ReadyDefined (l st : List ℕ) (s : State) (right body : ℕ) (at : Surroundings) : Type 0 where
+pub record ReadyDefined (l st : List ℕ) (s : State) (b : Binder) (right body : ℕ) (at : Surroundings) : Type 0 where
+  pub binder : m.Binder
   pub thing : Stx
   pub object : Stx
+  pub named : Named b binder
   pub shown : Rep l (s .top) right (stx thing)
   pub shown-body : Rep l (s .top) body (stx object)
   pub within : Within l st s at
   pub low : at .phase + 1 ≤ 2
 
-unfoldable pub definedRule : ℕ → ℕ → Env → ℕ → ℕ → Stx → Stx → Step Further
+unfoldable pub definedRule : Entries → m.Surroundings → m.Binder → Stx → Stx → Step Further
 unfolding valueRule scopedRule
-definedRule d ph e n k r body = do
-  v ← valueRule d (ph + 1) r
-  scopedRule ph e n k (macro v) body
+definedRule d here b r body = do
+  v ← valueRule d (here .phase + 1) r
+  scopedRule here b (macro v) body
 
 pub record Defined (at : Surroundings) (st l l′ : List ℕ) (s : State) (b : Binder) (right body : ℕ) (r : Onward) : Type 0 where
-  pub means : (u y : Stx) (e : Env) → Rep l (s .top) right (stx u) → Rep l (s .top) body (stx y) → RepE l (s .top) (at .meanings) e
-      → Agrees nexts 1 cellSize l l′ s (bindsOf st) (definedRule (at .left) (at .phase) e (b .name .0) (b .scope .0) u y (stateOf s (bindsOf st))) (onwardOf r)
+  pub means : (k : m.Binder) (u y : Stx) (e : Env) → Named b k → Rep l (s .top) right (stx u) → Rep l (s .top) body (stx y) → RepE l (s .top) (at .meanings) e
+      → Agrees (nexts at) 1 cellSize l l′ s (bindsOf st) (definedRule (at .left) (around e at) k u y (stateOf s (bindsOf st))) (onwardOf r)
 
 -- ---- the right-hand side, expanded one phase up, and the binder before it
 
-unfoldable pub rhsRule : Expander → ℕ → ℕ → Env → ℕ → ℕ → Stx → Stx → Step Further
+unfoldable pub rhsRule : Expander → Entries → m.Surroundings → m.Binder → Stx → Stx → Step Further
 unfolding definedRule lastPhase
-rhsRule self d ph e n k right body = do
-  unless noPhase (leb (ph + 1) lastPhase)
-  r ← self (ph + 1) coreOnly 0 right
-  definedRule d ph e n k r body
+rhsRule self d here b right body = do
+  unless noPhase (leb (here .phase + 1) lastPhase)
+  r ← self (ofRightHandSide here) right
+  definedRule d here b r body
 
-unfoldable pub bindingRule : Expander → ℕ → ℕ → Env → Sets → ℕ → Stx → Stx → Step Further
+unfoldable pub bindingRule : Expander → Entries → m.Surroundings → Sets → ℕ → Stx → Stx → Step Further
 unfolding bindFresh rhsRule
-bindingRule self d ph e c x right body = do
-  b ← bindFresh ph c x
-  rhsRule self d ph e (b .name) (b .scope) right body
+bindingRule self d here c x right body = do
+  b ← bindFresh (here .phase) c x
+  rhsRule self d here b right body
 
 -- ---- what a macro makes of its use
 
@@ -114,13 +130,13 @@ pub record ReadyMacro (l : List ℕ) (s : State) (i v : ℕ) (at : Surroundings)
   pub room : Room l s
   pub few : s .bindings ≤ 512
 
-unfoldable pub rewrittenRule : ℕ → ℕ → Env → Tree → Stx → Step Further
+unfoldable pub rewrittenRule : Entries → m.Surroundings → Tree → Stx → Step Further
 unfolding markRule transcribeRule
-rewrittenRule d ph e v x = do
-  k ← markRule ph x
-  y ← transcribeRule d ph (k .intro) v (k .object)
-  done (record { object = y; scope = k .uses; meant = e })
+rewrittenRule d here v x = do
+  k ← markRule (here .phase) x
+  y ← transcribeRule d (here .phase) (k .intro) v (k .object)
+  done (record { object = y; there = ofResult (k .uses) here })
 
 pub record Rewritten (at : Surroundings) (l l′ : List ℕ) (s : State) (i v : ℕ) (r : Onward) : Type 0 where
   pub means : (q : Store) (x : Stx) (t : Tree) (e : Env) → Rep l (s .top) i (stx x) → Rep l (s .top) v t → RepE l (s .top) (at .meanings) e
-      → Agrees nexts 1 cellSize l l′ s q (rewrittenRule (at .left) (at .phase) e t x (stateOf s q)) (onwardOf r)
+      → Agrees (nexts at) 1 cellSize l l′ s q (rewrittenRule (at .left) (around e at) t x (stateOf s q)) (onwardOf r)

@@ -1,12 +1,12 @@
 -- What the functions that expand no part ask and give.
 use mathlib.Core.List.{List}
 use Prim.Native.Nat.{ℕ, _≤_}
-use Rattle.model.specs.Scopes.{Scopes}
 use Rattle.model.specs.Objects.{Sets, symbol, Stx, atom, list, Stxs, nil, cons}
 use Rattle.model.specs.Trees.{Tree, stx, app, tnil, tcons, fromStxs, asStx}
 use Rattle.model.specs.Steps.{Step, _>>=_, _>>_, done, resolveAt, parts1, flipIn, pruneFrom}
 use Rattle.model.specs.Evaluating.{evaluate}
 use Rattle.model.specs.Parsing.{parse}
+use Rattle.model.specs.Expanding as m
 use Rattle.model.specs.Expanding.{Env, meaning, expandName, expandSyntax, orNoSyntax}
 use Rattle.scopes.specs.Sets.{scopesOf}
 use Rattle.store.specs.Words.{bindsOf}
@@ -22,7 +22,11 @@ use Rattle.scoping.specs.Changing.{objects}
 use Rattle.expand.specs.declared.Surroundings.{Surroundings}
 use Rattle.table.specs.Sizes.{twoCells, nodeSpare}
 
--- ---- an identifier
+-- ---- where an object is expanded
+
+-- with these meanings
+abbrev pub around : Env → Surroundings → m.Surroundings
+around e at = record { phase = at .phase; meanings = e; prunable = scopesOf (at .prunable) }
 
 -- meanings, room and the store where an object is expanded
 pub record Within (l st : List ℕ) (s : State) (at : Surroundings) : Type 0 where
@@ -31,21 +35,23 @@ pub record Within (l st : List ℕ) (s : State) (at : Surroundings) : Type 0 whe
   pub room : Room l s
   pub held : Held st s
 
+-- ---- an identifier
+
 pub record ReadyName (l st : List ℕ) (s : State) (i : ℕ) (at : Surroundings) : Type 0 where
   pub sets : Sets
   pub symb : ℕ
   pub shown : Rep l (s .top) i (stx (atom sets (symbol symb)))
   pub within : Within l st s at
 
-unfoldable pub nameRule : ℕ → Env → Sets → ℕ → Step Stx
+unfoldable pub nameRule : m.Surroundings → Sets → ℕ → Step Stx
 unfolding resolveAt meaning expandName
-nameRule ph e c x = do
-  n ← resolveAt ph c x
-  expandName (meaning n e)
+nameRule here c x = do
+  n ← resolveAt (here .phase) c x
+  expandName (meaning n (here .meanings))
 
 pub record ExpandedName (at : Surroundings) (st l : List ℕ) (s : State) (i : ℕ) (r : Answer) : Type 0 where
   pub means : (c : Sets) (x : ℕ) (e : Env) → Rep l (s .top) i (stx (atom c (symbol x))) → RepE l (s .top) (at .meanings) e
-      → Agrees objects 1 twoCells l l (unpaid s) (bindsOf st) (nameRule (at .phase) e c x (stateOf s (bindsOf st))) (ended r)
+      → Agrees objects 1 twoCells l l (unpaid s) (bindsOf st) (nameRule (around e at) c x (stateOf s (bindsOf st))) (ended r)
 
 -- ---- quote and syntax: a list, and its parts after the head
 
@@ -68,8 +74,8 @@ pub record ExpandedQuote (l : List ℕ) (s : State) (i tail : ℕ) (r : Answer) 
       → Agrees objects 1 twoCells l l (unpaid s) b (quoteRule x ps (stateOf s b)) (ended r)
 
 pub record ExpandedSyntax (at : Surroundings) (l l′ : List ℕ) (s : State) (i head tail : ℕ) (r : Answer) : Type 0 where
-  pub means : (b : Store) (k : Sets) (h : Stx) (ps : Stxs) → Rep l (s .top) i (stx (list k (cons h ps))) → Rep l (s .top) head (stx h) → RepP l (s .top) tail (fromStxs ps)
-      → Agrees objects 1 twoCells l l′ (unpaid s) b (expandSyntax (at .phase) (scopesOf (at .prunable)) k h ps (stateOf s b)) (ended r)
+  pub means : (b : Store) (e : Env) (k : Sets) (h : Stx) (ps : Stxs) → Rep l (s .top) i (stx (list k (cons h ps))) → Rep l (s .top) head (stx h) → RepP l (s .top) tail (fromStxs ps)
+      → Agrees objects 1 twoCells l l′ (unpaid s) b (expandSyntax (around e at) k h ps (stateOf s b)) (ended r)
 
 pub record ReadyPruned (l : List ℕ) (s : State) (i head x : ℕ) : Type 0 where
   pub sets : Sets
@@ -82,15 +88,15 @@ pub record ReadyPruned (l : List ℕ) (s : State) (i head x : ℕ) : Type 0 wher
   pub room : Room l s
   pub few : s .bindings ≤ 512
 
-unfoldable pub prunedRule : ℕ → Scopes → Sets → Stx → Stx → Step Stx
+unfoldable pub prunedRule : m.Surroundings → Sets → Stx → Stx → Step Stx
 unfolding pruneFrom
-prunedRule ph p c h s = do
-  t ← pruneFrom p ph s
+prunedRule here c h s = do
+  t ← pruneFrom (here .prunable) (here .phase) s
   done (list c (cons h (cons t nil)))
 
 pub record Pruned (at : Surroundings) (l l′ : List ℕ) (s : State) (i head x : ℕ) (r : Answer) : Type 0 where
-  pub means : (b : Store) (k : Sets) (qs : Stxs) (h y : Stx) → Rep l (s .top) i (stx (list k qs)) → Rep l (s .top) head (stx h) → Rep l (s .top) x (stx y)
-      → Agrees objects 1 twoCells l l′ (unpaid s) b (prunedRule (at .phase) (scopesOf (at .prunable)) k h y (stateOf s b)) (ended r)
+  pub means : (b : Store) (e : Env) (k : Sets) (qs : Stxs) (h y : Stx) → Rep l (s .top) i (stx (list k qs)) → Rep l (s .top) head (stx h) → Rep l (s .top) x (stx y)
+      → Agrees objects 1 twoCells l l′ (unpaid s) b (prunedRule (around e at) k h y (stateOf s b)) (ended r)
 
 -- ---- values
 

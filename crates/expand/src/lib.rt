@@ -274,7 +274,7 @@ fn scoped(
     body: u32,
     at: Surroundings,
 ) -> Onward
-    requires { ⌜ ReadyScoped (now table) s kind thing body at × Declared (b .scope) ⌝ }
+    requires { ⌜ ReadyScoped (now table) s b kind thing body at ⌝ }
     ensures { λ r. ⌜ Scoped at (now (table .entry)) (now (table .exit)) s b kind thing body r ⌝ }
 {
     let scope = b.scope;
@@ -305,7 +305,7 @@ fn defined(
     body: u32,
     at: Surroundings,
 ) -> Onward
-    requires { ⌜ ReadyDefined (now table) (now store) s right body at × Declared (b .scope) ⌝ }
+    requires { ⌜ ReadyDefined (now table) (now store) s b right body at ⌝ }
     ensures { λ r. ⌜ Defined at (now (store .entry)) (now (table .entry)) (now (table .exit)) s b right body r ⌝ }
 {
     match value_of(table, store, s, right, at.phase + 1, at.left) {
@@ -367,7 +367,7 @@ pub fn expand(table: &mut [u32], store: &mut [u64], s: State, i: u32, at: Surrou
 
 // What is expanded next, its scope being prunable there.
 fn in_place(table: &mut [u32], store: &mut [u64], n: Onward, at: Surroundings) -> Answer
-    requires { ⌜ ReadyOnward (now table) (now store) n ⌝ }
+    requires { ⌜ ReadyOnward (now table) (now store) n at ⌝ }
     ensures { λ r. ⌜ ExpandedOnward at (now (store .entry)) (now (store .exit)) (now (table .entry)) (now (table .exit)) n r ⌝ }
 {
     match n {
@@ -543,7 +543,7 @@ fn abstraction(
     body: u32,
     at: Surroundings,
 ) -> Answer
-    requires { ⌜ ReadyAbstraction (now table) (now store) (b .state) i head (b .at) body at × Declared (b .scope) ⌝ }
+    requires { ⌜ ReadyAbstraction (now table) (now store) b i head body at ⌝ }
     ensures { λ r. ⌜ ExpandedAbstraction at (now (store .entry)) (now (store .exit)) (now (table .entry)) (now (table .exit)) b i head body r ⌝ }
 {
     let binder = b.at;
@@ -610,7 +610,7 @@ fn rhs(
     body: u32,
     at: Surroundings,
 ) -> Onward
-    requires { ⌜ ReadyRhs (now table) (now store) (b .state) right body at × Declared (b .scope) ⌝ }
+    requires { ⌜ ReadyRhs (now table) (now store) b right body at ⌝ }
     ensures { λ r. ⌜ OnwardRhs at (now (store .entry)) (now (store .exit)) (now (table .entry)) (now (table .exit)) b right body r ⌝ }
 {
     let phase = at.phase;

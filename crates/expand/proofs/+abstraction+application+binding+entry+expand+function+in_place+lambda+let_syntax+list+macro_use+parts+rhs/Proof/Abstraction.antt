@@ -25,7 +25,7 @@ module _ (t : ℕ) where
   enum-known-o c = search (laws, needs)
 
   three-list-requires : lts.Need-three-list-requires env (abstraction-at t) abstraction.Post
-  three-list-requires c κs = abstraction-three-ready (c .before .before .before .before .before .before .before .before .before .before .before .before .before .before .scoped .ensures) (c .before .before .before .before .before .before .before .before .before .in-place .ensures) (search (needs, c .before .before .known-told2 .given)) (c .before .before .before .before .before .before .before .before .before .before .before .before .before .before .before .before .before .before .before .pre .1 .0) (search (needs, c .before .before .before .before .before .before .before .before .before .before .before .before .before .table)) (search (needs, c .before .before .before .before .before .before .before .before .table2))
+  three-list-requires c κs = abstraction-three-ready (c .before .before .before .before .before .before .before .before .before .before .before .before .before .before .scoped .ensures) (c .before .before .before .before .before .before .before .before .before .in-place .ensures) (search (needs, c .before .before .known-told2 .given)) (c .before .before .before .before .before .before .before .before .before .before .before .before .before .before .before .before .before .before .before .pre .1) (search (needs, c .before .before .before .before .before .before .before .before .before .before .before .before .before .table)) (search (needs, c .before .before .before .before .before .before .before .before .table2))
 
   same-length : lts.Need-same-length env (abstraction-at t) abstraction.Post
   same-length c = search (laws, needs)

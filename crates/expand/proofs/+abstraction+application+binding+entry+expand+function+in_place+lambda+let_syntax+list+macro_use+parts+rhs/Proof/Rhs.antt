@@ -31,7 +31,7 @@ module _ (t : ℕ) where
   enum-known-o c = search (laws, needs)
 
   defined-requires : lts.Need-defined-requires env (rhs-at t) rhs.Post
-  defined-requires c κs = search (rhs-defined-ready, needs, c .before .before .before .before .before .before .before .before .before .before .before .before .before .before .before .before .before .before .pre .1 .0, c .before .before .before .before .before .before .before .before .before .before .before .before .before .before .before .before .before .before .pre .1 .1, c .before .before .before .before .before .before .before .before .before .before .before .before .before .empty .ensures, c .before .before .before .before .before .before .before .before .before .before .before .before .before .before .if1 .left, c .before .before .before .before .before .before .before .before .before .before .expand .ensures, c .before .before .before .known-told2 .given, c .before .before .before .before .before .before .before .before .before .table, c .before .before .before .before .before .before .before .store)
+  defined-requires c κs = search (rhs-defined-ready, needs, c .before .before .before .before .before .before .before .before .before .before .before .before .before .before .before .before .before .before .pre .1, c .before .before .before .before .before .before .before .before .before .before .before .before .before .empty .ensures, c .before .before .before .before .before .before .before .before .before .before .before .before .before .before .if1 .left, c .before .before .before .before .before .before .before .before .before .before .expand .ensures, c .before .before .before .known-told2 .given, c .before .before .before .before .before .before .before .before .before .table, c .before .before .before .before .before .before .before .store)
 
   same-length : lts.Need-same-length env (rhs-at t) rhs.Post
   same-length c = search (laws, needs)
