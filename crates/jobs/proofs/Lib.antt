@@ -2,3 +2,5 @@ pub mod Charging
 pub mod Endings
 pub mod Roots
 pub mod Definitions
+pub mod Naming
+pub mod Resolved

@@ -10,7 +10,7 @@ use Rattle.model.specs.Trees.{Tree, stx, loadSize}
 use Rattle.model.specs.Steps.{Step}
 use Rattle.model.specs.Evaluating.{evaluate}
 use Rattle.model.specs.Parsing.{parse}
-use Rattle.model.specs.Expanding.{expand, coreOnly}
+use Rattle.model.specs.Expanding.{ofRoot, expand, coreOnly}
 use Rattle.laws.proofs.Units.{NoRise, evaluate-no-rise, parse-no-rise, expand-no-rise, names-after, left-after-refusal}
 use Rattle.scopes.specs.declared.ScopeSet.{ScopeSet}
 use Rattle.scopes.specs.Sets.{scopesOf}
@@ -38,7 +38,7 @@ use Rattle.evaluate.specs.Evaluation.{Evaluates}
 use Rattle.parse.specs.Shown.{ShownTree}
 use Rattle.parse.specs.Parsing as parsing
 use Rattle.parse.specs.Parsing.{Parsed}
-use Rattle.expand.specs.declared.Context.{Context}
+use Rattle.expand.specs.declared.Surroundings.{Surroundings}
 use Rattle.expand.specs.Cycle as expanding
 use Rattle.expand.specs.Cycle.{Expanded}
 use Rattle.judged.specs.declared.Judgement.{Judgement}
@@ -170,25 +170,25 @@ module _ {image st : List ℕ} {j : Judgement} {l : List ℕ} {s : State} (d : L
 
     -- ---- expanded, with the core meanings and nothing prunable
 
-    module _ {at : Context} (core : at .meanings ≡ 0) where
+    module _ {at : Surroundings} (core : at .meanings ≡ 0) where
       pub expand-ready : storeSize ≤ length st → expanding.Ready l′ st t (b .at) at
       expand-ready wide =
           subst (λ (z : State). expanding.Ready l′ st z (b .at) at) (sym te)
           (record { thing = object; shown = object-shown; within = record { meant = coreOnly; known = rw core is-core; room = object-room; held = record { few = few; wide = wide } } })
 
-      expand-agrees : {st′ l″ : List ℕ} {a : Answer} → scopesOf (at .prunable) ≡ 0 → Expanded 128 at st st′ l′ l″ t (b .at) a
-          → Agrees objects 1 twoCells l′ l″ (raisedTo (b .top) s) (bindsOf st′) (expand 128 (at .phase) coreOnly 0 object (stateOf s (bindsOf st))) (ended a)
+      expand-agrees : {st′ l″ : List ℕ} {a : Answer} → scopesOf (at .prunable) ≡ 0 → Expanded at st st′ l′ l″ t (b .at) a
+          → Agrees objects 1 twoCells l′ l″ (raisedTo (b .top) s) (bindsOf st′) (expand (at .left) (ofRoot (at .phase)) object (stateOf s (bindsOf st))) (ended a)
       expand-agrees {st′} {l″} {a} none e =
-          let e′ = subst (λ (z : State). Expanded 128 at st st′ l′ l″ z (b .at) a) te e in
-          subst (λ (p : Scopes). Agrees objects 1 twoCells l′ l″ (raisedTo (b .top) s) (bindsOf st′) (expand 128 (at .phase) coreOnly p object (stateOf s (bindsOf st))) (ended a)) none
+          let e′ = subst (λ (z : State). Expanded at st st′ l′ l″ z (b .at) a) te e in
+          subst (λ (p : Scopes). Agrees objects 1 twoCells l′ l″ (raisedTo (b .top) s) (bindsOf st′) (expand (at .left) (record { phase = at .phase; meanings = coreOnly; prunable = p }) object (stateOf s (bindsOf st))) (ended a)) none
           (e′ .means object coreOnly object-shown (rw core is-core))
 
-      expand-came : {st′ l″ : List ℕ} (a : Answer) → scopesOf (at .prunable) ≡ 0 → Expanded 128 at st st′ l′ l″ t (b .at) a → length l″ ≡ length l′
-          → cameTo stx s st′ l″ (expand 128 (at .phase) coreOnly 0 object (stateOf s (bindsOf st))) a
+      expand-came : {st′ l″ : List ℕ} (a : Answer) → scopesOf (at .prunable) ≡ 0 → Expanded at st st′ l′ l″ t (b .at) a → length l″ ≡ length l′
+          → cameTo stx s st′ l″ (expand (at .left) (ofRoot (at .phase)) object (stateOf s (bindsOf st))) a
       expand-came {st′} a none e more =
-          agreed stx ShownObject (λ k o x r. r .rep) (expand 128 (at .phase) coreOnly 0 object) (expand-no-rise 128 (at .phase) coreOnly 0 object) s st st′ a object-room more (expand-agrees none e)
+          agreed stx ShownObject (λ k o x r. r .rep) (expand (at .left) (ofRoot (at .phase)) object) (expand-no-rise (at .left) (ofRoot (at .phase)) object) s st st′ a object-room more (expand-agrees none e)
 
-      expand-few : {st′ l″ : List ℕ} (a : Answer) → scopesOf (at .prunable) ≡ 0 → Expanded 128 at st st′ l′ l″ t (b .at) a → FewBindings a
+      expand-few : {st′ l″ : List ℕ} (a : Answer) → scopesOf (at .prunable) ≡ 0 → Expanded at st st′ l′ l″ t (b .at) a → FewBindings a
       expand-few (Done o) none e = on-done (expand-agrees none e) refl .shown .few
       expand-few (Refused f) none e = tt
 
@@ -197,7 +197,7 @@ module _ {image st : List ℕ} {j : Judgement} {l l′ : List ℕ} {s t : State}
   pub parse-worked : {l″ : List ℕ} {a : Answer} → Parsed 128 0 st l′ l″ t (b .at) a → length l″ ≡ length l′ → Worked w.parsing itself image st j s st l″ a
   parse-worked {a = a} e more = record { means = λ g. parse-came (with-good d g) v same te a e more }
 
-  module _ {ph : ℕ} {none : ScopeSet} (ne : scopesOf none ≡ 0) {st′ l″ : List ℕ} {a : Answer} (e : Expanded 128 (record { phase = ph; meanings = 0; prunable = none }) st st′ l′ l″ t (b .at) a) where
+  module _ {ph : ℕ} {none : ScopeSet} (ne : scopesOf none ≡ 0) {st′ l″ : List ℕ} {a : Answer} (e : Expanded (record { left = 128; phase = ph; meanings = 0; prunable = none }) st st′ l′ l″ t (b .at) a) where
     pub expand-worked : length l″ ≡ length l′ → Worked (w.expanding ph) stx image st j s st′ l″ a
     expand-worked more = record { means = λ g. expand-came (with-good d g) v same te refl a ne e more }
 

@@ -8,10 +8,10 @@ use Rattle.model.specs.Resolving.{Bind}
 use Rattle.model.specs.Reading as m
 use Rattle.model.specs.Reading.{Image, readImage}
 use Rattle.model.specs.Steps as r
-use Rattle.model.specs.Steps.{Step, ok, no, after, charge}
+use Rattle.model.specs.Steps.{Step, ok, no, after, charge, identifier, resolveAt}
 use Rattle.model.specs.Evaluating.{evaluate}
 use Rattle.model.specs.Parsing.{parse}
-use Rattle.model.specs.Expanding.{expand, coreOnly}
+use Rattle.model.specs.Expanding.{ofRoot, expand}
 use Rattle.model.specs.Jobs as j
 use Rattle.model.specs.Jobs.{withImage, worked, start, reached, fitted}
 use Rattle.refusals.specs.Refusing.{refusalOf}
@@ -47,7 +47,11 @@ abbrev pub parsing : Job Stx Tree
 parsing = record { kind = syntaxKind; work = parse 128 0; ends = writes (λ b. treeImages) }
 
 abbrev pub expanding : ℕ → Job Stx Stx
-expanding ph = record { kind = syntaxKind; work = expand 128 ph coreOnly 0; ends = writes syntaxImages }
+expanding ph = record { kind = syntaxKind; work = expand 128 (ofRoot ph); ends = writes syntaxImages }
+
+-- nothing is written
+abbrev pub resolving : ℕ → Job Stx ℕ
+resolving ph = record { kind = syntaxKind; work = λ x. identifier x (λ c n. resolveAt ph c n); ends = λ budget room h n s. j.named n (budget - s .left) }
 
 unfoldable pub jobEnding : {A B : Type 0} → Job A B → ℕ → ℕ → List ℕ → j.Ending
 unfolding withImage readImage worked start charge

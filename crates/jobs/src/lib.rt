@@ -4,3 +4,4 @@ pub mod evaluating;
 pub mod expanding;
 mod loading;
 pub mod parsing;
+pub mod resolving;

@@ -13,7 +13,7 @@ use mir.Val.{Fits}
 use Rattle.model.specs.Limits.{mostBudget, wordsPerUnit}
 use Rattle.model.specs.Refusals.{codeOf, smallTable}
 use Rattle.model.specs.Jobs as m
-use Rattle.model.specs.Jobs.{answerOf, outputAfter, cleared, budgetFits, lent, evaluateEnding, evaluateJob, expandEnding, expandJob, parseEnding, parseJob}
+use Rattle.model.specs.Jobs.{answerOf, outputAfter, cleared, budgetFits, lent}
 use Rattle.refusals.specs.declared.Refusal.{Refusal}
 use Rattle.refusals.specs.Refusing.{refusalOf}
 use Rattle.table.specs.Lending.{Lent}
@@ -22,8 +22,7 @@ use Rattle.finish.specs.declared.Ending.{Ending}
 use Rattle.finish.specs.declared.Ending.the-variants.{Refused, Named, Written}
 use Rattle.finish.specs.Ends.{lengthOf, EndsAs}
 use Rattle.finish.proofs.Ends.{and-no}
-use Rattle.meirhuppa.specs.Endings.{answerIs}
-use Rattle.meirhuppa.specs.Written.{answerFor}
+use Rattle.meirhuppa.specs.Endings.{answerFor}
 
 -- ---- answers
 
@@ -61,27 +60,37 @@ module _ (budget : ℕ) (table out : List ℕ) (q : m.Ending) {a : m.Answer} whe
   unfolding lent
   lent-no n e = rw n (ap (λ (x : m.Answer). record { answer = x; output = out; table = table }) e)
 
-  over : 4096 < budget → a ≡ answerOf (m.refused smallTable 0) → record { answer = a; output = out; table = table } ≡ lent budget table out q
+  pub over : 4096 < budget → a ≡ answerOf (m.refused smallTable 0) → record { answer = a; output = out; table = table } ≡ lent budget table out q
   unfolding budgetFits mostBudget
   over h e = lent-no (rw (lt-leb budget 4096 h) refl) e
 
-  few-words : length table < budget * 40 → a ≡ answerOf (m.refused smallTable 0) → record { answer = a; output = out; table = table } ≡ lent budget table out q
+  pub few-words : length table < budget * 40 → a ≡ answerOf (m.refused smallTable 0) → record { answer = a; output = out; table = table } ≡ lent budget table out q
   unfolding budgetFits wordsPerUnit
   few-words h e =
       let l : length table < 40 * budget = omega arith in
       lent-no (rw (lt-leb (40 * budget) (length table) l) (and-no (leb budget mostBudget))) e
 
-  ended : budget ≤ 4096 → budget * 40 ≤ length table → (p : List ℕ) {t′ out′ : List ℕ} {e : Ending} → length p ≡ length (take (budget * 40) table) → t′ ≡ cleared budget (p ++ drop (budget * 40) table)
+  -- u is the table before it was cleared
+  done : budget ≤ 4096 → budget * 40 ≤ length table → (u : List ℕ) → drop (40 * budget) u ≡ drop (40 * budget) table → {t′ out′ : List ℕ} {e : Ending} → t′ ≡ cleared budget u
       → EndsAs q out out′ e → a ≡ answerFor e → record { answer = a; output = out′; table = t′ } ≡ lent budget table out q
   unfolding lent budgetFits mostBudget wordsPerUnit cleared
-  ended h k p len c w e =
+  done h k u rest c w e =
       let l : 40 * budget ≤ length table = omega arith in
+      rw (le-leb budget 4096 h, le-leb (40 * budget) (length table) l)
+      (λ i. record { answer = (e ∙ answer-is _ w) i; output = w .left i; table = (c ∙ ap (λ (x : List ℕ). replicate (40 * budget) 0 ++ x) rest) i })
+
+  pub named : {t′ : List ℕ} {e : Ending} → budget ≤ 4096 → budget * 40 ≤ length table → t′ ≡ cleared budget table → {out′ : List ℕ} → EndsAs q out out′ e → a ≡ answerFor e
+      → record { answer = a; output = out′; table = t′ } ≡ lent budget table out q
+  named h k c w e = done h k table refl c w e
+
+  pub worked : (p : List ℕ) {t′ out′ : List ℕ} {e : Ending} → budget ≤ 4096 → budget * 40 ≤ length table → length p ≡ length (take (budget * 40) table) → t′ ≡ cleared budget (p ++ drop (budget * 40) table)
+      → EndsAs q out out′ e → a ≡ answerFor e → record { answer = a; output = out′; table = t′ } ≡ lent budget table out q
+  worked p h k len c w e =
       let long : length p ≡ budget * 40 = len ∙ length-take-le (budget * 40) table k in
       let turn : 40 * budget ≡ budget * 40 = omega arith in
       let rest : drop (40 * budget) (p ++ drop (budget * 40) table) ≡ drop (40 * budget) table =
       drop-at p (drop (budget * 40) table) (40 * budget) (long ∙ sym turn) ∙ ap (λ (n : ℕ). drop n table) (sym turn) in
-      rw (le-leb budget 4096 h, le-leb (40 * budget) (length table) l)
-      (λ i. record { answer = (e ∙ answer-is _ w) i; output = w .left i; table = (c ∙ ap (λ (x : List ℕ). replicate (40 * budget) 0 ++ x) rest) i })
+      done h k (p ++ drop (budget * 40) table) rest c w e
 
 -- the part of the table that is lent for the work
 pub part-long : (budget : ℕ) (table : List ℕ) → budget * 40 ≤ length table → budget * 40 ≡ length (take (budget * 40) table)
@@ -90,56 +99,6 @@ part-long budget table k = sym (length-take-le (budget * 40) table k)
 pub part-lent : (budget : ℕ) (table : List ℕ) → budget ≤ 4096 → budget * 40 ≤ length table → Lent (take (budget * 40) table) budget
 part-lent budget table h k = let l = part-long budget table k in record { room = omega arith; small = omega arith }
 
--- ---- evaluate
+pub ruleset lent-laws = (over, few-words, worked, part-long, part-lent, ends-short)
 
-module _ (image : List ℕ) (budget : ℕ) (table out : List ℕ) {a : m.Answer} where
-  pub evaluate-over : 4096 < budget → a ≡ answerOf (m.refused smallTable 0) → record { answer = a; output = out; table = table } ≡ evaluateJob image budget table out
-  unfolding evaluateJob
-  evaluate-over h e = over budget table out (evaluateEnding image budget (length out)) h e
-
-  pub evaluate-few : length table < budget * 40 → a ≡ answerOf (m.refused smallTable 0) → record { answer = a; output = out; table = table } ≡ evaluateJob image budget table out
-  unfolding evaluateJob
-  evaluate-few h e = few-words budget table out (evaluateEnding image budget (length out)) h e
-
-  pub evaluate-ended : (p : List ℕ) {t′ out′ : List ℕ} {e : Ending} → budget ≤ 4096 → budget * 40 ≤ length table → length p ≡ length (take (budget * 40) table) → t′ ≡ cleared budget (p ++ drop (budget * 40) table)
-      → EndsAs (evaluateEnding image budget (length out)) out out′ e → a ≡ answerFor e → record { answer = a; output = out′; table = t′ } ≡ evaluateJob image budget table out
-  unfolding evaluateJob
-  evaluate-ended p h k len c w e = ended budget table out (evaluateEnding image budget (length out)) h k p len c w e
-
-pub ruleset evaluate-laws = (part-long, part-lent, ends-short, evaluate-over, evaluate-few, evaluate-ended)
-
--- ---- expand
-
-module _ (image : List ℕ) (ph budget : ℕ) (table out : List ℕ) {a : m.Answer} where
-  pub expand-over : 4096 < budget → a ≡ answerOf (m.refused smallTable 0) → record { answer = a; output = out; table = table } ≡ expandJob image ph budget table out
-  unfolding expandJob
-  expand-over h e = over budget table out (expandEnding image ph budget (length out)) h e
-
-  pub expand-few : length table < budget * 40 → a ≡ answerOf (m.refused smallTable 0) → record { answer = a; output = out; table = table } ≡ expandJob image ph budget table out
-  unfolding expandJob
-  expand-few h e = few-words budget table out (expandEnding image ph budget (length out)) h e
-
-  pub expand-ended : (p : List ℕ) {t′ out′ : List ℕ} {e : Ending} → budget ≤ 4096 → budget * 40 ≤ length table → length p ≡ length (take (budget * 40) table) → t′ ≡ cleared budget (p ++ drop (budget * 40) table)
-      → EndsAs (expandEnding image ph budget (length out)) out out′ e → a ≡ answerFor e → record { answer = a; output = out′; table = t′ } ≡ expandJob image ph budget table out
-  unfolding expandJob
-  expand-ended p h k len c w e = ended budget table out (expandEnding image ph budget (length out)) h k p len c w e
-
-pub ruleset expand-laws = (part-long, part-lent, ends-short, expand-over, expand-few, expand-ended)
-
--- ---- parse
-
-module _ (image : List ℕ) (budget : ℕ) (table out : List ℕ) {a : m.Answer} where
-  pub parse-over : 4096 < budget → a ≡ answerOf (m.refused smallTable 0) → record { answer = a; output = out; table = table } ≡ parseJob image budget table out
-  unfolding parseJob
-  parse-over h e = over budget table out (parseEnding image budget (length out)) h e
-
-  pub parse-few : length table < budget * 40 → a ≡ answerOf (m.refused smallTable 0) → record { answer = a; output = out; table = table } ≡ parseJob image budget table out
-  unfolding parseJob
-  parse-few h e = few-words budget table out (parseEnding image budget (length out)) h e
-
-  pub parse-ended : (p : List ℕ) {t′ out′ : List ℕ} {e : Ending} → budget ≤ 4096 → budget * 40 ≤ length table → length p ≡ length (take (budget * 40) table) → t′ ≡ cleared budget (p ++ drop (budget * 40) table)
-      → EndsAs (parseEnding image budget (length out)) out out′ e → a ≡ answerFor e → record { answer = a; output = out′; table = t′ } ≡ parseJob image budget table out
-  unfolding parseJob
-  parse-ended p h k len c w e = ended budget table out (parseEnding image budget (length out)) h k p len c w e
-
-pub ruleset parse-laws = (part-long, part-lent, ends-short, parse-over, parse-few, parse-ended)
+pub ruleset named-laws = (over, few-words, named, ends-short)

@@ -1,3 +1,1 @@
 pub mod Endings
-pub mod Stages
-pub mod Written

@@ -1,9 +1,12 @@
-// How a job ends, and the numbers that it gives back.
+// The numbers that a job gives back.
+use finish::Ending;
 use refusals::Refusal;
-use scopes::Name;
 ghost use mathlib.Core.Path.{_≡_};
-ghost use Rattle.model.specs.Jobs.{answerOf};
-ghost use Rattle.meirhuppa.specs.Endings.{endingOf, answerIs};
+ghost use Prim.Native.Nat.{_≤_};
+ghost use Rattle.model.specs.Refusals.{smallTable};
+ghost use Rattle.model.specs.Jobs.{answerOf, refused};
+ghost use Rattle.finish.specs.Ends.{lengthOf};
+ghost use Rattle.meirhuppa.specs.Endings.{answerIs, answerFor};
 
 #[repr(C)]
 pub struct Answer {
@@ -13,32 +16,46 @@ pub struct Answer {
     pub length: u32,
 }
 
-// Each after so many units.
-pub enum Ending {
-    Refused(Refusal, u32),
-    Named(Name, u32),
+// Code 5.
+pub fn small_table() -> Answer
+    ensures { λ r. ⌜ answerIs r ≡ answerOf (refused smallTable 0) ⌝ }
+{
+    let refusal = Refusal::SmallTable;
+    let code = refusal.code();
+    Answer {
+        code,
+        units: 0,
+        name: 0,
+        length: 0,
+    }
 }
 
-impl Ending {
-    pub fn answer(self) -> Answer
-        ensures { λ r. ⌜ answerIs r ≡ answerOf (endingOf self) ⌝ }
-    {
-        match self {
-            Ending::Refused(f, units) => {
-                let code = f.code();
-                Answer {
-                    code,
-                    units,
-                    name: 0,
-                    length: 0,
-                }
-            }
-            Ending::Named(n, units) => Answer {
-                code: 0,
+// A refusal with its code and units, a name, or the length of the image that was written.
+pub fn given_back(ending: Ending) -> Answer
+    requires { ⌜ lengthOf ending ≤ 65536 ⌝ }
+    ensures { λ r. ⌜ answerIs r ≡ answerFor ending ⌝ }
+{
+    match ending {
+        Ending::Refused(f, units) => {
+            let code = f.code();
+            Answer {
+                code,
                 units,
-                name: n.0,
+                name: 0,
                 length: 0,
-            },
+            }
         }
+        Ending::Named(n, units) => Answer {
+            code: 0,
+            units,
+            name: n.0,
+            length: 0,
+        },
+        Ending::Written(n, units) => Answer {
+            code: 0,
+            units,
+            name: 0,
+            length: n as u32,
+        },
     }
 }

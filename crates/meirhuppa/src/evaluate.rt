@@ -1,7 +1,7 @@
 // The job `evaluate`.
+use crate::answers;
 use crate::answers::Answer;
 use crate::limits;
-use crate::writing;
 use jobs::evaluating;
 ghost use Rattle.model.specs.Jobs.{evaluateJob};
 ghost use Rattle.meirhuppa.specs.Endings.{Answered};
@@ -17,13 +17,13 @@ pub extern "C" fn meirhuppa_evaluate(
     ensures { λ r. ⌜ Answered (evaluateJob (now (image .entry)) budget (now (table .entry)) (now (out .entry))) r (now (out .exit)) (now (table .exit)) ⌝ }
 {
     if limits::MOST_BUDGET < budget {
-        return writing::small_table();
+        return answers::small_table();
     }
     let words = budget as usize * limits::WORDS_PER_UNIT;
     if table.len() < words {
-        return writing::small_table();
+        return answers::small_table();
     }
     let ending = evaluating::evaluate_work(out, image, &mut table[..words], budget);
     table::clear(table, budget);
-    writing::written(ending)
+    answers::given_back(ending)
 }

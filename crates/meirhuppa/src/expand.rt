@@ -1,7 +1,7 @@
 // The job `expand`.
+use crate::answers;
 use crate::answers::Answer;
 use crate::limits;
-use crate::writing;
 use jobs::expanding;
 ghost use Rattle.model.specs.Jobs.{expandJob};
 ghost use Rattle.meirhuppa.specs.Endings.{Answered};
@@ -18,13 +18,13 @@ pub extern "C" fn meirhuppa_expand(
     ensures { λ r. ⌜ Answered (expandJob (now (image .entry)) phase budget (now (table .entry)) (now (out .entry))) r (now (out .exit)) (now (table .exit)) ⌝ }
 {
     if limits::MOST_BUDGET < budget {
-        return writing::small_table();
+        return answers::small_table();
     }
     let words = budget as usize * limits::WORDS_PER_UNIT;
     if table.len() < words {
-        return writing::small_table();
+        return answers::small_table();
     }
     let ending = expanding::expand_work(out, image, &mut table[..words], phase, budget);
     table::clear(table, budget);
-    writing::written(ending)
+    answers::given_back(ending)
 }

@@ -5,4 +5,3 @@ pub mod expand;
 pub mod limits;
 pub mod parse;
 pub mod resolve;
-mod writing;

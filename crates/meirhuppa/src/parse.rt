@@ -1,7 +1,7 @@
 // The job `parse`.
+use crate::answers;
 use crate::answers::Answer;
 use crate::limits;
-use crate::writing;
 use jobs::parsing;
 ghost use Rattle.model.specs.Jobs.{parseJob};
 ghost use Rattle.meirhuppa.specs.Endings.{Answered};
@@ -17,13 +17,13 @@ pub extern "C" fn meirhuppa_parse(
     ensures { λ r. ⌜ Answered (parseJob (now (image .entry)) budget (now (table .entry)) (now (out .entry))) r (now (out .exit)) (now (table .exit)) ⌝ }
 {
     if limits::MOST_BUDGET < budget {
-        return writing::small_table();
+        return answers::small_table();
     }
     let words = budget as usize * limits::WORDS_PER_UNIT;
     if table.len() < words {
-        return writing::small_table();
+        return answers::small_table();
     }
     let ending = parsing::parse_work(out, image, &mut table[..words], budget);
     table::clear(table, budget);
-    writing::written(ending)
+    answers::given_back(ending)
 }

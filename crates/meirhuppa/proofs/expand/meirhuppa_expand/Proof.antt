@@ -1,46 +1,50 @@
-use Rattle.meirhuppa.proofs.Wholes.{expand-laws}
+use Rattle.model.specs.Jobs.{expandJob}
+use Rattle.meirhuppa.proofs.Wholes.{lent-laws}
 use borrow.Author.Needs.{needs}
 use Rattle.meirhuppa.proofs.expand.meirhuppa_expand.Statement.{statement}
 use Rattle.meirhuppa.proofs.expand.meirhuppa_expand.Tie as tie
 
 small-table-requires : tie.Need-small-table-requires
-small-table-requires c κs = search (expand-laws, needs)
+small-table-requires c κs = search (lent-laws, needs)
 
 returns : tie.Need-returns
-returns c = search (expand-laws, needs)
+unfolding expandJob
+returns c = search (lent-laws, needs)
 
 mul-words : tie.Need-mul-words
-mul-words c = search (expand-laws, needs)
+mul-words c = search (lent-laws, needs)
 
 small-table-requires-2 : tie.Need-small-table-requires-2
-small-table-requires-2 c κs = search (expand-laws, needs)
+small-table-requires-2 c κs = search (lent-laws, needs)
 
 returns-2 : tie.Need-returns-2
-returns-2 c = search (expand-laws, needs)
+unfolding expandJob
+returns-2 c = search (lent-laws, needs)
 
 slice-relend-prefix-expand-work : tie.Need-slice-relend-prefix-expand-work
-slice-relend-prefix-expand-work c = search (expand-laws, needs)
+slice-relend-prefix-expand-work c = search (lent-laws, needs)
 
 slice-aggregate-expand-work : tie.Need-slice-aggregate-expand-work
-slice-aggregate-expand-work c = search (expand-laws, needs)
+slice-aggregate-expand-work c = search (lent-laws, needs)
 
 expand-work-requires : tie.Need-expand-work-requires
-expand-work-requires c κs = search (expand-laws, needs)
+expand-work-requires c κs = search (lent-laws, needs)
 
 clear-requires : tie.Need-clear-requires
-clear-requires c κs = search (expand-laws, needs)
+clear-requires c κs = search (lent-laws, needs)
 
-written-requires : tie.Need-written-requires
-written-requires c κs = search (expand-laws, needs)
+given-back-requires : tie.Need-given-back-requires
+given-back-requires c κs = search (lent-laws, needs)
 
 same-length : tie.Need-same-length
-same-length c = search (expand-laws, needs)
+same-length c = search (lent-laws, needs)
 
 same-length-2 : tie.Need-same-length-2
-same-length-2 c = search (expand-laws, needs)
+same-length-2 c = search (lent-laws, needs)
 
 returns-3 : tie.Need-returns-3
-returns-3 c = search (expand-laws, needs)
+unfolding expandJob
+returns-3 c = search (lent-laws, needs)
 
 pub meirhuppa-expand-spec : {M : Type 1} → statement M
 meirhuppa-expand-spec =
@@ -55,7 +59,7 @@ meirhuppa-expand-spec =
     slice-aggregate-expand-work
     expand-work-requires
     clear-requires
-    written-requires
+    given-back-requires
     same-length
     same-length-2
     returns-3)

@@ -1,7 +1,7 @@
 use Rattle.meirhuppa.proofs.Wholes.{answer-laws}
 use borrow.Author.Needs.{needs}
-use Rattle.meirhuppa.proofs.writing.written.Statement.{statement}
-use Rattle.meirhuppa.proofs.writing.written.Tie as tie
+use Rattle.meirhuppa.proofs.answers.given_back.Statement.{statement}
+use Rattle.meirhuppa.proofs.answers.given_back.Tie as tie
 
 enum-known-ending : tie.Need-enum-known-ending
 enum-known-ending c = search (answer-laws, needs)
@@ -27,8 +27,8 @@ returns-2 c = search (answer-laws, needs)
 returns-3 : tie.Need-returns-3
 returns-3 c = search (answer-laws, needs)
 
-pub written-spec : {M : Type 1} → statement M
-written-spec =
+pub given-back-spec : {M : Type 1} → statement M
+given-back-spec =
     tie.close
     (tie.spec
     enum-known-ending

@@ -1,36 +1,36 @@
 -- One law for each way out: a root that was read whole is no fault here.
 use Rattle.numbers.proofs.Answering.{number-fits, seen-fits, answering}
-use Rattle.meirhuppa.proofs.Roots.{root-ends, root-laws}
+use Rattle.jobs.proofs.Naming.{root-ends, read-laws}
 use Rattle.sets.proofs.Reading.{sets-tail}
 use Rattle.numbers.proofs.Tails.{up-to-tail}
 use Rattle.model.specs.Objects.{noSets}
 use borrow.Author.Needs.{needs}
-use Rattle.meirhuppa.proofs.resolve.resolve_root.Statement.{statement}
-use Rattle.meirhuppa.proofs.resolve.resolve_root.Tie as tie
+use Rattle.jobs.proofs.resolving.resolve_root.Statement.{statement}
+use Rattle.jobs.proofs.resolving.resolve_root.Tie as tie
 
 number-up-to-requires : tie.Need-number-up-to-requires
-number-up-to-requires c κs = search (root-laws, answering, needs)
+number-up-to-requires c κs = search (read-laws, answering, needs)
 
 enum-known-tag : tie.Need-enum-known-tag
-enum-known-tag c = search (root-laws, answering, needs)
+enum-known-tag c = search (read-laws, answering, needs)
 
 returns : tie.Need-returns
-returns c = search (root-laws, answering, needs)
+returns c = search (read-laws, answering, needs)
 
 after-requires : tie.Need-after-requires
-after-requires c κs = search (root-laws, answering, needs)
+after-requires c κs = search (read-laws, answering, needs)
 
 read-sets-requires : tie.Need-read-sets-requires
-read-sets-requires c κs = search (root-laws, answering, needs)
+read-sets-requires c κs = search (read-laws, answering, needs)
 
 at-phase-requires : tie.Need-at-phase-requires
-at-phase-requires c κs = search (root-laws, answering, needs)
+at-phase-requires c κs = search (read-laws, answering, needs)
 
 enum-known-end : tie.Need-enum-known-end
-enum-known-end c = search (root-laws, answering, needs)
+enum-known-end c = search (read-laws, answering, needs)
 
 after-requires-2 : tie.Need-after-requires-2
-after-requires-2 c κs = search (root-laws, answering, needs)
+after-requires-2 c κs = search (read-laws, answering, needs)
 
 number-below-requires : tie.Need-number-below-requires
 number-below-requires c κs =
@@ -42,20 +42,20 @@ number-below-requires c κs =
     (c .before .before .before .before .before .before .before .before .before .before .before .before .before .before .pre .0 .0))
 
 enum-known-x : tie.Need-enum-known-x
-enum-known-x c = search (root-laws, answering, needs)
+enum-known-x c = search (read-laws, answering, needs)
 
 resolve-name-requires : tie.Need-resolve-name-requires
 resolve-name-requires c κs =
     c .before .before .before .before .before .before .before .before .before .before .before .before .before .before .before .before .before .before .pre .1
 
 enum-known-f : tie.Need-enum-known-f
-enum-known-f c = search (root-laws, answering, needs)
+enum-known-f c = search (read-laws, answering, needs)
 
 enum-known-end-2 : tie.Need-enum-known-end-2
-enum-known-end-2 c = search (root-laws, answering, needs)
+enum-known-end-2 c = search (read-laws, answering, needs)
 
 enum-known-f-2 : tie.Need-enum-known-f-2
-enum-known-f-2 c = search (root-laws, answering, needs)
+enum-known-f-2 c = search (read-laws, answering, needs)
 
 returns-2 : tie.Need-returns-2
 returns-2 c =
@@ -71,13 +71,13 @@ returns-2 c =
     (c .before .before .before .before .before .before .before .before .before .at-phase .ensures) (c .resolve-name .ensures)
 
 returns-3 : tie.Need-returns-3
-returns-3 c = search (root-laws, answering, needs)
+returns-3 c = search (read-laws, answering, needs)
 
 returns-4 : tie.Need-returns-4
-returns-4 c = search (root-laws, answering, needs)
+returns-4 c = search (read-laws, answering, needs)
 
 returns-5 : tie.Need-returns-5
-returns-5 c = search (root-laws, answering, needs)
+returns-5 c = search (read-laws, answering, needs)
 
 pub resolve-root-spec : {M : Type 1} → statement M
 resolve-root-spec =

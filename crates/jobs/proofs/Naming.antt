@@ -1,7 +1,7 @@
--- The root of a resolve job, read again: one law for each way out.
+-- The root of the job resolve, read again: one law for each way out.
 use mathlib.Core.Path.{_≡_, refl, sym, ap, _∙_}
 use mathlib.Core.Bool.{Bool, true, false}
-use mathlib.Core.List.{List}
+use mathlib.Core.List.{List, []}
 use Prim.Native.Nat.{ℕ, zero, suc, _+_, _-_}
 use native.Mathlib.Omega.{arith}
 use lib.Dec.{eqb}
@@ -27,10 +27,10 @@ use Rattle.numbers.proofs.Tails.{below-tail, up-to-tail}
 use Rattle.numbers.proofs.Answering.{Took, took, refused, number-shape, seen-shape, whole, seen-refused}
 use Rattle.sets.proofs.Reading.{sets-tail}
 use Rattle.head.specs.declared.Counts.{Counts}
-use Rattle.meirhuppa.specs.Endings.{endingOf, foundEnding}
-use Rattle.meirhuppa.specs.Stages.{phased, rootEnding, Agree, RootEnds}
-use Rattle.meirhuppa.specs.declared.answers.Ending.{Ending}
-use Rattle.meirhuppa.specs.declared.answers.Ending.the-variants.{Refused}
+use Rattle.finish.specs.Ends.{endingOf}
+use Rattle.jobs.specs.Naming.{foundEnding, phased, rootEnding, Agree, RootEnds}
+use Rattle.finish.specs.declared.Ending.{Ending}
+use Rattle.finish.specs.declared.Ending.the-variants.{Refused}
 
 -- ---- an object behind its tag
 
@@ -162,7 +162,7 @@ module _ (n : Counts) (s : List ℕ) (at ph : ℕ) (bs : List Bind) (u : ℕ) {r
         }
 
         pub root-ends : {y : ℕ} {past2 : Cursor} {set : Scopes} {d : Ending} → r2 ≡ number.Read y past2 → set ≡ phased ph a b c
-            → endingOf d ≡ foundEnding (resolve y set bs) u → RootEnds n s ph bs u d
+            → endingOf [] d ≡ foundEnding (resolve y set bs) u → RootEnds n s ph bs u d
         unfolding rootEnding phased
         root-ends {y} {past2} {set} {d} p sp ed = record {
           means = λ hd ag x rest f.
@@ -175,4 +175,4 @@ module _ (n : Counts) (s : List ℕ) (at ph : ℕ) (bs : List Bind) (u : ℕ) {r
               ed ∙ ap (λ (m : Scopes). foundEnding (resolve y m bs) u) sp ∙ sym (ap (λ (X : Stx). rootEnding ph X bs u) D);
         }
 
-pub ruleset root-laws = (root-stops, root-other, root-sets-stop, root-symbol-stop, root-ends, sets-tail, up-to-tail, below-tail)
+pub ruleset read-laws = (root-stops, root-other, root-sets-stop, root-symbol-stop, root-ends, sets-tail, up-to-tail, below-tail)

@@ -1,7 +1,7 @@
 use Rattle.meirhuppa.proofs.Wholes.{answer-laws}
 use borrow.Author.Needs.{needs}
-use Rattle.meirhuppa.proofs.writing.small_table.Statement.{statement}
-use Rattle.meirhuppa.proofs.writing.small_table.Tie as tie
+use Rattle.meirhuppa.proofs.answers.small_table.Statement.{statement}
+use Rattle.meirhuppa.proofs.answers.small_table.Tie as tie
 
 code-requires : tie.Need-code-requires
 code-requires c κs = search (answer-laws, needs)
