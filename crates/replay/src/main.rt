@@ -16,6 +16,7 @@ ghost use mathlib.Core.List.{_∷_, []};
 ghost use Prim.Native.Nat.{_≤_};
 ghost use lib.ListN.{length};
 ghost use Rattle.text.specs.Placing.{Placed};
+ghost use Rattle.replay.specs.Page.{lastStart};
 
 // The most words of the table that a call may ask for.
 const MOST_WORDS: usize = 170000;
@@ -39,7 +40,7 @@ fn ended(input: Input, count: usize) -> Run
 
 // The run that a stream ends which breaks the format: with the line `cut`.
 fn cut(input: Input, count: usize, page: &mut [u8; PAGE]) -> Run
-    requires { ⌜ count ≤ 65536 ⌝ }
+    requires { ⌜ count ≤ lastStart ⌝ }
     ensures { λ r. ⌜ Placed (now (page .entry)) count (99 ∷ 117 ∷ 116 ∷ 10 ∷ []) (now (page .exit)) (r .count) × (r .ongoing ≡ false) ⌝ }
 {
     let past = text::put_text(page, count, b"cut\n");
@@ -57,7 +58,7 @@ fn exact(
     count: usize,
     page: &mut [u8; PAGE],
 ) -> Run
-    requires { ⌜ (count ≤ 65536) × (length (now output) ≤ 70000) ⌝ }
+    requires { ⌜ (count ≤ lastStart) × (length (now output) ≤ 70000) ⌝ }
 {
     match input.fill(room, image) {
         Place::At(past) => {
@@ -83,7 +84,7 @@ fn sized(
     count: usize,
     page: &mut [u8; PAGE],
 ) -> Run
-    requires { ⌜ (count ≤ 65536) × (length (now output) ≤ 70000) ⌝ }
+    requires { ⌜ (count ≤ lastStart) × (length (now output) ≤ 70000) ⌝ }
 {
     let words = call.words as usize;
     let bytes = call.output as usize;

@@ -1,6 +1,8 @@
 // Standard output, gathered on a page that is written where the next line might not fit.
 use answer_line::MOST_OTHERS;
+ghost use mathlib.Core.Path.{_≡_};
 ghost use Prim.Native.Nat.{_≤_};
+ghost use Rattle.replay.specs.Page.{lastStart, startOf};
 
 // The most that a call may ask for: bytes of image and output.
 pub const MOST_BYTES: usize = 70000;
@@ -22,7 +24,7 @@ pub fn write_front(page: &[u8], count: usize) {
 
 // Where the next line starts, behind so many bytes or, where those have to be written first, on the empty page.
 pub fn next_start(page: &[u8], count: usize) -> usize
-    ensures { λ r. ⌜ r ≤ 65536 ⌝ }
+    ensures { λ r. ⌜ (r ≡ startOf count) × (r ≤ lastStart) ⌝ }
 {
     if count <= LAST_START {
         return count;

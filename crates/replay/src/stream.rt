@@ -1,5 +1,6 @@
 // Standard input, byte by byte out of a room that is filled again where all of it is taken.
 ghost use mathlib.Core.Path.{_≡_};
+ghost use Rattle.replay.specs.Stream.{wholeOf};
 
 // The bytes in the room that are still to be taken: those from `at` to `end`.
 pub struct Input {
@@ -30,7 +31,10 @@ fn wide(b: u8) -> u64
     b as u64
 }
 
-fn whole(value: u64, past: Input) -> Number {
+// What a number's groups come to.
+fn whole(value: u64, past: Input) -> Number
+    ensures { λ r. ⌜ r ≡ wholeOf value past ⌝ }
+{
     if 4294967295 < value {
         return Number::Cut;
     }
