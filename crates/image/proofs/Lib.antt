@@ -1,4 +1,5 @@
-pub mod Spans
-pub mod Trees
-pub mod Kept
-pub mod Roots
+pub mod Heads
+pub mod Answers
+pub mod BehindHeads
+pub mod Images
+pub mod TreeImages

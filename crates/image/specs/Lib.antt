@@ -1,1 +1,1 @@
-pub mod Measuring
+pub mod Judging

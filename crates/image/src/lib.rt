@@ -1,274 +1,107 @@
-// The root of an image, checked and measured: nothing is stored. A tree's variables are held against the functions around them in
-// the same pass.
-use head::Counts;
+// An image judged whole before any work on it: its head, bindings and root, and that it ends there. Only the bindings are stored.
+use bindings::loading;
+use head::Front;
+use head::Head;
+use head::HeadRead;
 use numbers::Cursor;
 use numbers::Number;
+use numbers::Place;
 use refusals::Refusal;
-ghost use mathlib.Core.Path.{_≡_};
-ghost use mathlib.Core.Bool.{_&&_};
-ghost use Prim.Native.Nat.{ℕ, _+_, _≤_};
-ghost use lib.ListN.{length, replicate};
-ghost use Rattle.numbers.specs.Answers.{numberAt};
-ghost use Rattle.image.specs.Measuring.{treeAt, nothing, oneMore, joined, measureVariable, measureAtom, measureObject, measureSeveral, measureAll, measureFunction, measureBody, measureTree, wholeSyntax, wholeTree};
+use roots::TreeRead;
+ghost use Prim.Native.Nat.{_+_, _≤_};
+ghost use lib.ListN.{length};
+ghost use mathlib.Core.List.{[]};
+ghost use Rattle.store.specs.Sizes.{storeSize};
+ghost use Rattle.image.specs.Judging.{BehindHead, syntaxKind, treeKind, Judges};
 
-// The charge for loading a tree, and whether every variable of it, outside syntax values, has an enclosing function of its name.
-pub struct Extent {
+// What the jobs know of an image without fault.
+pub struct Judgement {
+    pub front: Front,
+    // Where the root begins.
+    pub root: usize,
+    // The charge for loading the root.
     pub size: u32,
-    pub owned: bool,
+    // How many bindings stand in the store.
+    pub bindings: u32,
 }
 
-pub enum TreeRead {
-    Read(Extent, Cursor),
+pub enum Judged {
+    Good(Judgement),
     Fault(Refusal),
 }
 
-fn both(a: bool, b: bool) -> bool
-    ensures { λ r. ⌜ r ≡ (a && b) ⌝ }
-{
-    if a { b } else { false }
-}
+const MOST_IMAGE: usize = 65536;
 
-// In `around`, a name of a function around the place is not 0.
-fn measure_variable(c: Cursor, s: &[u8], around: &[u8], names: u32) -> TreeRead
-    requires { ⌜ (c .at + length (now s) ≤ 65536) × (names ≤ length (now around)) ⌝ }
-    ensures { λ r. ⌜ r ≡ treeAt (c .at + length (now (s .entry))) (measureVariable names (now (around .entry)) (now (s .entry))) ⌝ }
+// The bindings behind the front f, into the store from its start, and the root; `s` is the image from there on.
+fn judge_rest(f: Front, s: &[u8], store: &mut [u64]) -> Judged
+    requires image { ⌜ (f .end + length (now s) ≤ 65536) × (f .head .scopes ≤ 256) × (f .head .words ≤ 1020) ⌝ }
+    requires held { ⌜ storeSize ≤ length (now store) ⌝ }
+    ensures { λ r. ⌜ BehindHead f (now (s .entry)) (now (store .exit)) r ⌝ }
 {
-    match c.number_below(s, names) {
-        Number::Read(n, past) => {
-            let i = n as usize;
-            TreeRead::Read(
-                Extent {
-                    size: 1,
-                    owned: around[i] != 0,
-                },
-                past,
-            )
-        }
-        Number::Fault(f) => TreeRead::Fault(f),
-    }
-}
-
-fn measure_atom(c: Cursor, s: &[u8], symbols: u32) -> TreeRead
-    requires { ⌜ c .at + length (now s) ≤ 65536 ⌝ }
-    ensures { λ r. ⌜ r ≡ treeAt (c .at + length (now (s .entry))) (measureAtom symbols (now (s .entry))) ⌝ }
-{
-    match c.number(s) {
-        Number::Read(tag, past) => match objects::read_content(
-            past,
-            c.after(s, past),
-            symbols,
-            tag,
-        ) {
-            Number::Read(_, end) => TreeRead::Read(
-                Extent {
-                    size: 1,
-                    owned: true,
-                },
-                end,
-            ),
-            Number::Fault(f) => TreeRead::Fault(f),
+    let c = Cursor { at: f.end };
+    let h = f.head;
+    let counts = h.counts();
+    let read = loading::read_bindings(c, s, counts, store);
+    let bindings = read.count as u32;
+    let end = read.end;
+    match end {
+        Place::At(past) => match roots::measure_syntax_root(past, c.after(s, past), counts) {
+            Number::Read(size, _) => Judged::Good(Judgement {
+                front: f,
+                root: past.at,
+                size,
+                bindings,
+            }),
+            Number::Fault(x) => Judged::Fault(x),
         },
-        Number::Fault(f) => TreeRead::Fault(f),
+        Place::Fault(x) => Judged::Fault(x),
     }
 }
 
-// A syntax value counts as its object's size.
-fn measure_syntax(c: Cursor, s: &[u8], symbols: u32, scopes: u32, levels: u32) -> TreeRead
-    requires { ⌜ (c .at + length (now s) ≤ 65536) × (scopes ≤ 256) ⌝ }
-    ensures { λ r. ⌜ r ≡ treeAt (c .at + length (now (s .entry))) (measureObject symbols scopes levels (now (s .entry))) ⌝ }
+// A syntax image, whose bindings are in the store afterwards.
+pub fn judge_syntax(image: &[u8], store: &mut [u64]) -> Judged
+    requires { ⌜ storeSize ≤ length (now store) ⌝ }
+    ensures { λ r. ⌜ Judges syntaxKind (now (image .entry)) (now (store .exit)) r ⌝ }
 {
-    match objects::measure_object(c, s, symbols, scopes, levels) {
-        Number::Read(size, past) => TreeRead::Read(Extent { size, owned: true }, past),
-        Number::Fault(f) => TreeRead::Fault(f),
+    if MOST_IMAGE < image.len() {
+        return Judged::Fault(Refusal::OverLimit);
     }
-}
-
-// The tree at a cursor, where `s` is the image from there on, `levels` levels are left, and the tag is at least `low`: 0, or 2 for a
-// value.
-fn measure_tree(
-    c: Cursor,
-    s: &[u8],
-    around: &mut [u8],
-    counts: Counts,
-    levels: u32,
-    low: u32,
-) -> TreeRead
-    requires { ⌜ (c .at + length (now s) ≤ 65536) × (counts .scopes ≤ 256) × (counts .names ≤ length (now around)) ⌝ }
-    ensures { λ r. ⌜ r ≡ treeAt (c .at + length (now (s .entry))) (measureTree counts levels low (now (around .entry)) (now (s .entry))) ⌝ }
-    ensures { λ _. ⌜ now (around .exit) ≡ now (around .entry) ⌝ }
-{
-    if levels == 0 {
-        return TreeRead::Fault(Refusal::OverLimit);
-    }
-    match c.number(s) {
-        Number::Read(tag, past) => {
-            if tag < low {
-                return TreeRead::Fault(Refusal::Layout);
-            }
-            measure_body(past, c.after(s, past), around, counts, levels, tag)
+    match head::read_head(image, Head::SYNTAX) {
+        HeadRead::Read(h, c) => {
+            let front = Cursor { at: 0 };
+            let f = Front { head: h, end: c.at };
+            judge_rest(f, front.after(image, c), store)
         }
-        Number::Fault(f) => TreeRead::Fault(f),
+        HeadRead::Fault(x) => Judged::Fault(x),
     }
 }
 
-// What follows the tag.
-fn measure_body(
-    c: Cursor,
-    s: &[u8],
-    around: &mut [u8],
-    counts: Counts,
-    levels: u32,
-    tag: u32,
-) -> TreeRead
-    requires { ⌜ (c .at + length (now s) ≤ 65536) × (counts .scopes ≤ 256) × (counts .names ≤ length (now around)) × (1 ≤ levels) ⌝ }
-    ensures { λ r. ⌜ r ≡ treeAt (c .at + length (now (s .entry))) (measureBody counts levels (now (around .entry)) tag (now (s .entry))) ⌝ }
-    ensures { λ _. ⌜ now (around .exit) ≡ now (around .entry) ⌝ }
+// A tree image, each variable of which has an enclosing function of its name.
+pub fn judge_tree(image: &[u8]) -> Judged
+    ensures { λ r. ⌜ Judges treeKind (now (image .entry)) [] r ⌝ }
 {
-    if tag == 0 {
-        return measure_variable(c, s, around, counts.names);
+    if MOST_IMAGE < image.len() {
+        return Judged::Fault(Refusal::OverLimit);
     }
-    if tag == 1 {
-        return measure_several(c, s, around, counts, levels - 1, 0, 1);
-    }
-    if tag == 2 {
-        return measure_function(c, s, around, counts, levels - 1);
-    }
-    if tag == 3 {
-        return measure_atom(c, s, counts.symbols);
-    }
-    if tag == 4 {
-        return measure_several(c, s, around, counts, levels - 1, 2, 0);
-    }
-    if tag == 5 {
-        return measure_syntax(c, s, counts.symbols, counts.scopes, levels);
-    }
-    TreeRead::Fault(Refusal::Layout)
-}
-
-// A count of at least `least`, and as many trees whose tags are at least `low`: an application's parts, or a list value's.
-fn measure_several(
-    c: Cursor,
-    s: &[u8],
-    around: &mut [u8],
-    counts: Counts,
-    levels: u32,
-    low: u32,
-    least: u32,
-) -> TreeRead
-    requires { ⌜ (c .at + length (now s) ≤ 65536) × (counts .scopes ≤ 256) × (counts .names ≤ length (now around)) ⌝ }
-    ensures { λ r. ⌜ r ≡ treeAt (c .at + length (now (s .entry))) (measureSeveral least (measureTree counts levels low (now (around .entry))) (now (s .entry))) ⌝ }
-    ensures { λ _. ⌜ now (around .exit) ≡ now (around .entry) ⌝ }
-{
-    match c.number(s) {
-        Number::Read(count, past) => {
-            if count < least {
-                return TreeRead::Fault(Refusal::Layout);
-            }
-            match measure_all(past, c.after(s, past), around, counts, levels, low, count) {
-                TreeRead::Read(e, end) => TreeRead::Read(
-                    Extent {
-                        size: e.size + 1,
-                        owned: e.owned,
-                    },
-                    end,
-                ),
-                TreeRead::Fault(f) => TreeRead::Fault(f),
+    match head::read_head(image, Head::TREE) {
+        HeadRead::Read(h, c) => {
+            let front = Cursor { at: 0 };
+            match roots::measure_tree_root(c, front.after(image, c), h.counts()) {
+                TreeRead::Read(extent, _) => {
+                    if extent.owned {
+                        let f = Front { head: h, end: c.at };
+                        return Judged::Good(Judgement {
+                            front: f,
+                            root: c.at,
+                            size: extent.size,
+                            bindings: 0,
+                        });
+                    }
+                    Judged::Fault(Refusal::Unowned)
+                }
+                TreeRead::Fault(x) => Judged::Fault(x),
             }
         }
-        Number::Fault(f) => TreeRead::Fault(f),
-    }
-}
-
-fn measure_all(
-    c: Cursor,
-    s: &[u8],
-    around: &mut [u8],
-    counts: Counts,
-    levels: u32,
-    low: u32,
-    count: u32,
-) -> TreeRead
-    requires { ⌜ (c .at + length (now s) ≤ 65536) × (counts .scopes ≤ 256) × (counts .names ≤ length (now around)) ⌝ }
-    ensures { λ r. ⌜ r ≡ treeAt (c .at + length (now (s .entry))) (measureAll count nothing (measureTree counts levels low (now (around .entry))) (now (s .entry))) ⌝ }
-    ensures { λ _. ⌜ now (around .exit) ≡ now (around .entry) ⌝ }
-{
-    let mut here = c;
-    let mut left = count;
-    let mut size: u32 = 0;
-    let mut owned = true;
-    while 0 < left {
-        match measure_tree(here, c.after(s, here), around, counts, levels, low) {
-            TreeRead::Read(e, past) => {
-                size += e.size;
-                owned = both(owned, e.owned);
-                here = past;
-                left -= 1;
-            }
-            TreeRead::Fault(f) => return TreeRead::Fault(f),
-        }
-    }
-    TreeRead::Read(Extent { size, owned }, here)
-}
-
-// A function's name is one around its body.
-fn measure_function(c: Cursor, s: &[u8], around: &mut [u8], counts: Counts, levels: u32) -> TreeRead
-    requires { ⌜ (c .at + length (now s) ≤ 65536) × (counts .scopes ≤ 256) × (counts .names ≤ length (now around)) ⌝ }
-    ensures { λ r. ⌜ r ≡ treeAt (c .at + length (now (s .entry))) (measureFunction counts levels (now (around .entry)) (now (s .entry))) ⌝ }
-    ensures { λ _. ⌜ now (around .exit) ≡ now (around .entry) ⌝ }
-{
-    match c.number_below(s, counts.names) {
-        Number::Read(n, past) => {
-            let i = n as usize;
-            let before = around[i];
-            around[i] = 1;
-            let body = measure_tree(past, c.after(s, past), around, counts, levels, 0);
-            around[i] = before;
-            match body {
-                TreeRead::Read(e, end) => TreeRead::Read(
-                    Extent {
-                        size: e.size + 1,
-                        owned: e.owned,
-                    },
-                    end,
-                ),
-                TreeRead::Fault(f) => TreeRead::Fault(f),
-            }
-        }
-        Number::Fault(f) => TreeRead::Fault(f),
-    }
-}
-
-// The root of an image of kind 1, behind which the image ends: its size.
-pub fn measure_syntax_root(c: Cursor, s: &[u8], counts: Counts) -> Number
-    requires { ⌜ (c .at + length (now s) ≤ 65536) × (counts .scopes ≤ 256) ⌝ }
-    ensures { λ r. ⌜ r ≡ numberAt (c .at + length (now (s .entry))) (wholeSyntax counts (now (s .entry))) ⌝ }
-{
-    match objects::measure_object(c, s, counts.symbols, counts.scopes, 64) {
-        Number::Read(size, past) => {
-            let rest = c.after(s, past);
-            if rest.len() == 0 {
-                return Number::Read(size, past);
-            }
-            Number::Fault(Refusal::Layout)
-        }
-        Number::Fault(f) => Number::Fault(f),
-    }
-}
-
-// The root of an image of kind 2, behind which the image ends.
-pub fn measure_tree_root(c: Cursor, s: &[u8], counts: Counts) -> TreeRead
-    requires { ⌜ (c .at + length (now s) ≤ 65536) × (counts .scopes ≤ 256) × (counts .names ≤ 1024) ⌝ }
-    ensures { λ r. ⌜ r ≡ treeAt (c .at + length (now (s .entry))) (wholeTree counts (now (s .entry))) ⌝ }
-{
-    let mut around = [0u8; 1024];
-    match measure_tree(c, s, &mut around, counts, 64, 0) {
-        TreeRead::Read(e, past) => {
-            let rest = c.after(s, past);
-            if rest.len() == 0 {
-                return TreeRead::Read(e, past);
-            }
-            TreeRead::Fault(Refusal::Layout)
-        }
-        TreeRead::Fault(f) => TreeRead::Fault(f),
+        HeadRead::Fault(x) => Judged::Fault(x),
     }
 }

@@ -21,10 +21,10 @@ use Rattle.steps.specs.declared.Charged.the-variants.{Paid, Refused}
 use Rattle.steps.specs.States.{stateOf, paid, chargeOf}
 use Rattle.steps.proofs.Laws.{charge-went, charge-failed, charge-ok, charge-no, then-ok, then-no}
 use Rattle.head.specs.declared.Head.{Head}
-use Rattle.judged.specs.declared.Judgement.{Judgement}
-use Rattle.judged.specs.declared.Judged.{Judged}
-use Rattle.judged.specs.declared.Judged.the-variants as judged
-use Rattle.judged.specs.Judging.{Kind, judgedAs, Good, Judges}
+use Rattle.image.specs.declared.Judgement.{Judgement}
+use Rattle.image.specs.declared.Judged.{Judged}
+use Rattle.image.specs.declared.Judged.the-variants as judged
+use Rattle.image.specs.Judging.{Kind, judgedAs, Good, Judges}
 use Rattle.finish.specs.declared.Ending.{Ending}
 use Rattle.finish.specs.declared.Ending.the-variants as ending
 use Rattle.finish.specs.Ends.{EndsAs}

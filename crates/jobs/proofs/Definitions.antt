@@ -22,7 +22,7 @@ use Rattle.finish.specs.declared.Ending.the-variants.{Refused}
 use Rattle.finish.specs.Finishing.{treeImages}
 use Rattle.finish.specs.Ends.{EndsAs}
 use Rattle.finish.proofs.Ends.{ends-refused}
-use Rattle.judged.specs.Judging.{readOwned}
+use Rattle.image.specs.Judging.{readOwned}
 use Rattle.jobs.specs.Working.{writes, evaluating, parsing, expanding, jobEnding}
 
 evaluate-is : (image : List ℕ) (budget room : ℕ) → jobEnding evaluating budget room image ≡ evaluateEnding image budget room

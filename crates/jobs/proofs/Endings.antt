@@ -19,8 +19,8 @@ use Rattle.steps.specs.declared.Out.{Out}
 use Rattle.steps.specs.declared.Answer.{Answer}
 use Rattle.steps.specs.declared.Answer.the-variants.{Done, Refused}
 use Rattle.steps.specs.States.{stateOf, paid}
-use Rattle.judged.specs.declared.Judgement.{Judgement}
-use Rattle.judged.specs.Judging.{Kind, Good}
+use Rattle.image.specs.declared.Judgement.{Judgement}
+use Rattle.image.specs.Judging.{Kind, Good}
 use Rattle.finish.specs.declared.Ending.{Ending}
 use Rattle.finish.specs.declared.Ending.the-variants as ending
 use Rattle.finish.specs.Ends.{EndsAs}

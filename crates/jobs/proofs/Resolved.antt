@@ -38,10 +38,10 @@ use Rattle.finish.specs.declared.Ending.{Ending}
 use Rattle.finish.specs.declared.Ending.the-variants.{Refused, Named, Written}
 use Rattle.finish.specs.Ends.{endingOf, lengthOf, EndsAs}
 use Rattle.finish.proofs.Ends.{ends-refused}
-use Rattle.judged.specs.declared.Judgement.{Judgement}
-use Rattle.judged.specs.declared.Judged.{Judged}
-use Rattle.judged.specs.declared.Judged.the-variants as judged
-use Rattle.judged.specs.Judging.{Kind, syntaxKind, Good, Judges}
+use Rattle.image.specs.declared.Judgement.{Judgement}
+use Rattle.image.specs.declared.Judged.{Judged}
+use Rattle.image.specs.declared.Judged.the-variants as judged
+use Rattle.image.specs.Judging.{Kind, syntaxKind, Good, Judges}
 use Rattle.jobs.specs.Working.{resolving, jobEnding, begun}
 use Rattle.jobs.specs.Naming.{foundEnding, phased, rootEnding, Agree, RootEnds, Resolved}
 use Rattle.jobs.proofs.Charging.{loaded-is, image-refused, unpaid-units, unpaid-ends}

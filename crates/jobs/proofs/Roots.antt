@@ -41,8 +41,8 @@ use Rattle.parse.specs.Parsing.{Parsed}
 use Rattle.expand.specs.declared.Surroundings.{Surroundings}
 use Rattle.expand.specs.Cycle as expanding
 use Rattle.expand.specs.Cycle.{Expanded}
-use Rattle.judged.specs.declared.Judgement.{Judgement}
-use Rattle.judged.specs.Judging.{Kind, syntaxKind, treeKind, Good}
+use Rattle.image.specs.declared.Judgement.{Judgement}
+use Rattle.image.specs.Judging.{Kind, syntaxKind, treeKind, Good}
 use Rattle.jobs.specs.Working as w
 use Rattle.jobs.specs.Working.{Loaded, itself, cameTo, Worked, FewBindings}
 

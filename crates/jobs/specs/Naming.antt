@@ -13,8 +13,8 @@ use Rattle.store.specs.Words.{bindsOf}
 use Rattle.head.specs.declared.Counts.{Counts}
 use Rattle.finish.specs.declared.Ending as code
 use Rattle.finish.specs.Ends.{endingOf}
-use Rattle.judged.specs.declared.Judgement.{Judgement}
-use Rattle.judged.specs.Judging.{syntaxKind, Good}
+use Rattle.image.specs.declared.Judgement.{Judgement}
+use Rattle.image.specs.Judging.{syntaxKind, Good}
 
 -- how resolving ends after u units
 abbrev pub foundEnding : Found → ℕ → Ending

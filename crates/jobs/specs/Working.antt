@@ -24,8 +24,8 @@ use Rattle.steps.specs.declared.Out.{Out}
 use Rattle.steps.specs.declared.Answer.{Answer}
 use Rattle.steps.specs.declared.Answer.the-variants.{Done, Refused}
 use Rattle.steps.specs.States.{stateOf, paid, Room}
-use Rattle.judged.specs.declared.Judgement.{Judgement}
-use Rattle.judged.specs.Judging.{Kind, syntaxKind, treeKind, Good}
+use Rattle.image.specs.declared.Judgement.{Judgement}
+use Rattle.image.specs.Judging.{Kind, syntaxKind, treeKind, Good}
 use Rattle.finish.specs.Finishing.{Images, imageBytes, treeImages, syntaxImages}
 
 -- ---- the jobs: what is read, the work past the charge for loading, and how it ends with a budget and an output of so many bytes

@@ -1,8 +1,8 @@
 // The job evaluate: the value of a tree image.
 use crate::loading;
 use finish::Ending;
-use judged::Judged;
-use judged::Judgement;
+use image::Judged;
+use image::Judgement;
 use steps::Answer;
 use steps::Charged;
 use steps::State;
@@ -13,7 +13,7 @@ ghost use mathlib.Core.List.{[]};
 ghost use Rattle.model.specs.Jobs.{evaluateEnding};
 ghost use Rattle.table.specs.Lending.{Lent};
 ghost use Rattle.finish.specs.Ends.{EndsAs};
-ghost use Rattle.judged.specs.Judging.{treeKind};
+ghost use Rattle.image.specs.Judging.{treeKind};
 ghost use Rattle.jobs.specs.Working.{Loaded, itself, Worked, evaluating, jobEnding};
 
 // The root, charged for, is built in the table and evaluated.
@@ -54,7 +54,7 @@ pub fn evaluate_work(out: &mut [u8], image: &[u8], table: &mut [u32], budget: u3
     requires { ⌜ Lent (now table) budget ⌝ }
     ensures { λ r. ⌜ EndsAs (evaluateEnding (now (image .entry)) budget (length (now (out .entry)))) (now (out .entry)) (now (out .exit)) r ⌝ }
 {
-    match judged::judge_tree(image) {
+    match image::judge_tree(image) {
         Judged::Fault(f) => Ending::Refused(f, 0),
         Judged::Good(j) => match loading::begin(j, budget) {
             Charged::Refused(f) => loading::stopped(f, budget),

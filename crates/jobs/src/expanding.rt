@@ -2,8 +2,8 @@
 use crate::loading;
 use expand::Surroundings;
 use finish::Ending;
-use judged::Judged;
-use judged::Judgement;
+use image::Judged;
+use image::Judgement;
 use refusals::Refusal;
 use scopes::ScopeSet;
 use steps::Answer;
@@ -18,7 +18,7 @@ ghost use Rattle.model.specs.Jobs.{expandEnding};
 ghost use Rattle.store.specs.Sizes.{storeSize};
 ghost use Rattle.table.specs.Lending.{Lent};
 ghost use Rattle.finish.specs.Ends.{EndsAs};
-ghost use Rattle.judged.specs.Judging.{syntaxKind};
+ghost use Rattle.image.specs.Judging.{syntaxKind};
 ghost use Rattle.jobs.specs.Working.{Loaded, Worked, FewBindings, expanding, jobEnding};
 
 // The root, charged for, is built in the table and expanded with the core meanings.
@@ -86,7 +86,7 @@ fn expand_image(
     requires wide { ⌜ storeSize ≤ length (now store) ⌝ }
     ensures { λ r. ⌜ EndsAs (jobEnding (expanding phase) budget (length (now (out .entry))) (now (image .entry))) (now (out .entry)) (now (out .exit)) r ⌝ }
 {
-    match judged::judge_syntax(image, store) {
+    match image::judge_syntax(image, store) {
         Judged::Fault(f) => Ending::Refused(f, 0),
         Judged::Good(j) => match loading::begin(j, budget) {
             Charged::Refused(f) => loading::stopped(f, budget),

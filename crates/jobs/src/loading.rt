@@ -1,6 +1,6 @@
 // Before and after the work: the charge for loading, and what a refusal of the work has cost.
 use finish::Ending;
-use judged::Judgement;
+use image::Judgement;
 use steps::Charged;
 use steps::State;
 use steps::Stop;

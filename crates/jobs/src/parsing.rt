@@ -1,8 +1,8 @@
 // The job parse: the tree image of an expanded syntax image.
 use crate::loading;
 use finish::Ending;
-use judged::Judged;
-use judged::Judgement;
+use image::Judged;
+use image::Judgement;
 use steps::Answer;
 use steps::Charged;
 use steps::State;
@@ -14,7 +14,7 @@ ghost use Rattle.model.specs.Jobs.{parseEnding};
 ghost use Rattle.store.specs.Sizes.{storeSize};
 ghost use Rattle.table.specs.Lending.{Lent};
 ghost use Rattle.finish.specs.Ends.{EndsAs};
-ghost use Rattle.judged.specs.Judging.{syntaxKind};
+ghost use Rattle.image.specs.Judging.{syntaxKind};
 ghost use Rattle.jobs.specs.Working.{Loaded, itself, Worked, parsing, jobEnding};
 
 // The root, charged for, is built in the table and parsed.
@@ -59,7 +59,7 @@ pub fn parse_work(out: &mut [u8], image: &[u8], table: &mut [u32], budget: u32) 
     ensures { λ r. ⌜ EndsAs (parseEnding (now (image .entry)) budget (length (now (out .entry)))) (now (out .entry)) (now (out .exit)) r ⌝ }
 {
     let mut store = [0u64; Resolving::STORE];
-    match judged::judge_syntax(image, &mut store) {
+    match image::judge_syntax(image, &mut store) {
         Judged::Fault(f) => Ending::Refused(f, 0),
         Judged::Good(j) => match loading::begin(j, budget) {
             Charged::Refused(f) => loading::stopped(f, budget),

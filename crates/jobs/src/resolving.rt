@@ -2,8 +2,8 @@
 use crate::loading;
 use finish::Ending;
 use head::Counts;
-use judged::Judged;
-use judged::Judgement;
+use image::Judged;
+use image::Judgement;
 use numbers::Cursor;
 use numbers::Number;
 use numbers::Place;
@@ -23,7 +23,7 @@ ghost use Rattle.scopes.specs.Sets.{scopesOf};
 ghost use Rattle.store.specs.Words.{bindsOf};
 ghost use Rattle.store.specs.Sizes.{bindingSize, storeSize};
 ghost use Rattle.finish.specs.Ends.{endingOf, EndsAs};
-ghost use Rattle.judged.specs.Judging.{syntaxKind, Good};
+ghost use Rattle.image.specs.Judging.{syntaxKind, Good};
 ghost use Rattle.jobs.specs.Working.{resolving, jobEnding};
 ghost use Rattle.jobs.specs.Naming.{foundEnding, phased, RootEnds, Resolved};
 
@@ -116,7 +116,7 @@ fn resolve_image(image: &[u8], store: &mut [u64], phase: u32, budget: u32) -> En
     requires { ⌜ storeSize ≤ length (now store) ⌝ }
     ensures { λ r. ⌜ EndsAs (jobEnding (resolving phase) budget 0 (now (image .entry))) [] [] r ⌝ }
 {
-    match judged::judge_syntax(image, store) {
+    match image::judge_syntax(image, store) {
         Judged::Fault(f) => Ending::Refused(f, 0),
         Judged::Good(j) => match loading::begin(j, budget) {
             Charged::Refused(f) => loading::stopped(f, budget),

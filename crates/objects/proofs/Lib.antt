@@ -1,4 +1,0 @@
-pub mod PointLaws
-pub mod Sizes
-pub mod Objects
-pub mod Kept

@@ -1,2 +1,0 @@
-pub mod Measuring
-pub mod Points
