@@ -12,6 +12,7 @@ ghost use mathlib.Core.Path.{_≡_};
 ghost use Prim.Native.Nat.{ℕ, _+_, _≤_, min};
 ghost use Rattle.store.specs.Words.{bindsOf};
 ghost use Rattle.finish.specs.Finishing.{treeImages, syntaxImages, syntaxFront, Held, Came, Fits, PutsImage, Finishes, FrontReady, FrontLength};
+ghost use Rattle.numbers.specs.Limits.{mostImage};
 
 // How a job ends, each after so many units: a refusal, a name, or an image of so many bytes.
 pub enum Ending {
@@ -24,14 +25,14 @@ const MOST_IMAGE: usize = numbers::Cursor::MOST_IMAGE;
 
 // What an output of so many bytes may take.
 fn most_for(room: usize) -> usize
-    ensures { λ r. ⌜ r ≡ min 65536 room ⌝ }
+    ensures { λ r. ⌜ r ≡ min mostImage room ⌝ }
 {
     if room < MOST_IMAGE { room } else { MOST_IMAGE }
 }
 
 // The length n, one over the cap for all that is longer.
 fn capped(n: usize, cap: usize) -> usize
-    requires { ⌜ cap ≤ 65536 ⌝ }
+    requires { ⌜ cap ≤ mostImage ⌝ }
     ensures { λ r. ⌜ r ≡ min (cap + 1) n ⌝ }
 {
     if n <= cap { n } else { cap + 1 }

@@ -5,8 +5,13 @@ use mathlib.Core.List.{List, _++_}
 use lib.ListN.{length}
 use Rattle.model.specs.Reading as m
 use Rattle.model.specs.Writing.{headBytes}
+use Rattle.numbers.specs.Limits.{mostImage}
 use Rattle.head.specs.declared.Head.{Head}
 use Rattle.head.specs.declared.Front.{Front}
+
+-- core names and words counted: the model's mostNames
+abbrev pub mostNames : ℕ
+mostNames = 1024
 
 -- the definitions' head, of the words and the code's counts
 abbrev pub wholeHead : List (List ℕ) → Head → m.Head
@@ -22,4 +27,4 @@ pub record Headed (s : List ℕ) (f : Front) : Type 0 where
   pub count : f .head .words ≡ length words
   pub ends : f .end ≡ length (headBytes kind (wholeHead words (f .head)))
   pub names-from : 4 + f .head .words ≤ f .head .names
-  pub small : length s ≤ 65536
+  pub small : length s ≤ mostImage

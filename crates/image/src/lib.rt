@@ -13,6 +13,9 @@ ghost use lib.ListN.{length};
 ghost use mathlib.Core.List.{[]};
 ghost use Rattle.store.specs.Sizes.{storeSize};
 ghost use Rattle.image.specs.Judging.{BehindHead, syntaxKind, treeKind, Judges};
+ghost use Rattle.numbers.specs.Limits.{mostImage};
+ghost use Rattle.scopes.specs.Sets.{setScopes};
+ghost use Rattle.words.specs.Section.{mostWords};
 
 // What the jobs know of an image without fault.
 pub struct Judgement {
@@ -30,11 +33,11 @@ pub enum Judged {
     Fault(Refusal),
 }
 
-const MOST_IMAGE: usize = 65536;
+const MOST_IMAGE: usize = numbers::Cursor::MOST_IMAGE;
 
 // The bindings behind the front f, into the store from its start, and the root; `s` is the image from there on.
 fn judge_rest(f: Front, s: &[u8], store: &mut [u64]) -> Judged
-    requires image { ⌜ (f .end + length (now s) ≤ 65536) × (f .head .scopes ≤ 256) × (f .head .words ≤ 1020) ⌝ }
+    requires image { ⌜ (f .end + length (now s) ≤ mostImage) × (f .head .scopes ≤ setScopes) × (f .head .words ≤ mostWords) ⌝ }
     requires held { ⌜ storeSize ≤ length (now store) ⌝ }
     ensures { λ r. ⌜ BehindHead f (now (s .entry)) (now (store .exit)) r ⌝ }
 {

@@ -26,6 +26,8 @@ ghost use Rattle.finish.specs.Ends.{endingOf, EndsAs};
 ghost use Rattle.image.specs.Judging.{syntaxKind, Good};
 ghost use Rattle.jobs.specs.Working.{resolving, jobEnding};
 ghost use Rattle.jobs.specs.Naming.{foundEnding, phased, RootEnds, Resolved};
+ghost use Rattle.numbers.specs.Limits.{mostImage};
+ghost use Rattle.scopes.specs.Sets.{setScopes};
 
 // The name of the identifier with symbol x and set s, after so many units.
 fn resolve_name(store: &[u64], count: usize, x: Symbol, s: ScopeSet, units: u32) -> Ending
@@ -61,7 +63,7 @@ fn resolve_root(
     store: &[u64],
     count: usize,
 ) -> Ending
-    requires image { ⌜ (c .at + length (now s) ≤ 65536) × (counts .scopes ≤ 256) ⌝ }
+    requires image { ⌜ (c .at + length (now s) ≤ mostImage) × (counts .scopes ≤ setScopes) ⌝ }
     requires held { ⌜ count * bindingSize ≤ length (now store) ⌝ }
     ensures { λ r. ⌜ RootEnds counts (now (s .entry)) phase (bindsOf (now (store .entry)) count) units r ⌝ }
 {

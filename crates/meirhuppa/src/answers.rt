@@ -7,6 +7,7 @@ ghost use Rattle.model.specs.Refusals.{smallTable};
 ghost use Rattle.model.specs.Jobs.{answerOf, refused};
 ghost use Rattle.finish.specs.Ends.{lengthOf};
 ghost use Rattle.meirhuppa.specs.Endings.{answerIs, answerFor};
+ghost use Rattle.numbers.specs.Limits.{mostImage};
 
 #[repr(C)]
 pub struct Answer {
@@ -32,7 +33,7 @@ pub fn small_table() -> Answer
 
 // A refusal with its code and units, a name, or the length of the image that was written.
 pub fn given_back(ending: Ending) -> Answer
-    requires { ⌜ lengthOf ending ≤ 65536 ⌝ }
+    requires { ⌜ lengthOf ending ≤ mostImage ⌝ }
     ensures { λ r. ⌜ answerIs r ≡ answerFor ending ⌝ }
 {
     match ending {

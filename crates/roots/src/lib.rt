@@ -7,12 +7,16 @@ use head::Counts;
 use numbers::Cursor;
 use numbers::Number;
 use refusals::Refusal;
+use scopes::Name;
 ghost use mathlib.Core.Path.{_≡_};
 ghost use mathlib.Core.Bool.{_&&_};
 ghost use Prim.Native.Nat.{ℕ, _+_, _≤_};
 ghost use lib.ListN.{length, replicate};
 ghost use Rattle.numbers.specs.Answers.{numberAt};
 ghost use Rattle.roots.specs.Measuring.{treeAt, nothing, oneMore, joined, measureVariable, measureAtom, measureObject, measureSeveral, measureAll, measureFunction, measureBody, measureTree, wholeSyntax, wholeTree};
+ghost use Rattle.numbers.specs.Limits.{mostImage};
+ghost use Rattle.head.specs.Fronts.{mostNames};
+ghost use Rattle.scopes.specs.Sets.{setScopes};
 
 // The charge for loading a tree, and whether every variable of it, outside syntax values, has an enclosing function of its name.
 pub struct Extent {
@@ -33,7 +37,7 @@ fn both(a: bool, b: bool) -> bool
 
 // In `around`, a name of a function around the place is not 0.
 fn measure_variable(c: Cursor, s: &[u8], around: &[u8], names: u32) -> TreeRead
-    requires { ⌜ (c .at + length (now s) ≤ 65536) × (names ≤ length (now around)) ⌝ }
+    requires { ⌜ (c .at + length (now s) ≤ mostImage) × (names ≤ length (now around)) ⌝ }
     ensures { λ r. ⌜ r ≡ treeAt (c .at + length (now (s .entry))) (measureVariable names (now (around .entry)) (now (s .entry))) ⌝ }
 {
     match c.number_below(s, names) {
@@ -52,7 +56,7 @@ fn measure_variable(c: Cursor, s: &[u8], around: &[u8], names: u32) -> TreeRead
 }
 
 fn measure_atom(c: Cursor, s: &[u8], symbols: u32) -> TreeRead
-    requires { ⌜ c .at + length (now s) ≤ 65536 ⌝ }
+    requires { ⌜ c .at + length (now s) ≤ mostImage ⌝ }
     ensures { λ r. ⌜ r ≡ treeAt (c .at + length (now (s .entry))) (measureAtom symbols (now (s .entry))) ⌝ }
 {
     match c.number(s) {
@@ -77,7 +81,7 @@ fn measure_atom(c: Cursor, s: &[u8], symbols: u32) -> TreeRead
 
 // A syntax value counts as its object's size.
 fn measure_syntax(c: Cursor, s: &[u8], symbols: u32, scopes: u32, levels: u32) -> TreeRead
-    requires { ⌜ (c .at + length (now s) ≤ 65536) × (scopes ≤ 256) ⌝ }
+    requires { ⌜ (c .at + length (now s) ≤ mostImage) × (scopes ≤ setScopes) ⌝ }
     ensures { λ r. ⌜ r ≡ treeAt (c .at + length (now (s .entry))) (measureObject symbols scopes levels (now (s .entry))) ⌝ }
 {
     match objects::measure_object(c, s, symbols, scopes, levels) {
@@ -96,7 +100,7 @@ fn measure_tree(
     levels: u32,
     low: u32,
 ) -> TreeRead
-    requires { ⌜ (c .at + length (now s) ≤ 65536) × (counts .scopes ≤ 256) × (counts .names ≤ length (now around)) ⌝ }
+    requires { ⌜ (c .at + length (now s) ≤ mostImage) × (counts .scopes ≤ setScopes) × (counts .names ≤ length (now around)) ⌝ }
     ensures { λ r. ⌜ r ≡ treeAt (c .at + length (now (s .entry))) (measureTree counts levels low (now (around .entry)) (now (s .entry))) ⌝ }
     ensures { λ _. ⌜ now (around .exit) ≡ now (around .entry) ⌝ }
 {
@@ -123,7 +127,7 @@ fn measure_body(
     levels: u32,
     tag: u32,
 ) -> TreeRead
-    requires { ⌜ (c .at + length (now s) ≤ 65536) × (counts .scopes ≤ 256) × (counts .names ≤ length (now around)) × (1 ≤ levels) ⌝ }
+    requires { ⌜ (c .at + length (now s) ≤ mostImage) × (counts .scopes ≤ setScopes) × (counts .names ≤ length (now around)) × (1 ≤ levels) ⌝ }
     ensures { λ r. ⌜ r ≡ treeAt (c .at + length (now (s .entry))) (measureBody counts levels (now (around .entry)) tag (now (s .entry))) ⌝ }
     ensures { λ _. ⌜ now (around .exit) ≡ now (around .entry) ⌝ }
 {
@@ -158,7 +162,7 @@ fn measure_several(
     low: u32,
     least: u32,
 ) -> TreeRead
-    requires { ⌜ (c .at + length (now s) ≤ 65536) × (counts .scopes ≤ 256) × (counts .names ≤ length (now around)) ⌝ }
+    requires { ⌜ (c .at + length (now s) ≤ mostImage) × (counts .scopes ≤ setScopes) × (counts .names ≤ length (now around)) ⌝ }
     ensures { λ r. ⌜ r ≡ treeAt (c .at + length (now (s .entry))) (measureSeveral least (measureTree counts levels low (now (around .entry))) (now (s .entry))) ⌝ }
     ensures { λ _. ⌜ now (around .exit) ≡ now (around .entry) ⌝ }
 {
@@ -191,7 +195,7 @@ fn measure_all(
     low: u32,
     count: u32,
 ) -> TreeRead
-    requires { ⌜ (c .at + length (now s) ≤ 65536) × (counts .scopes ≤ 256) × (counts .names ≤ length (now around)) ⌝ }
+    requires { ⌜ (c .at + length (now s) ≤ mostImage) × (counts .scopes ≤ setScopes) × (counts .names ≤ length (now around)) ⌝ }
     ensures { λ r. ⌜ r ≡ treeAt (c .at + length (now (s .entry))) (measureAll count nothing (measureTree counts levels low (now (around .entry))) (now (s .entry))) ⌝ }
     ensures { λ _. ⌜ now (around .exit) ≡ now (around .entry) ⌝ }
 {
@@ -215,7 +219,7 @@ fn measure_all(
 
 // A function's name is one around its body.
 fn measure_function(c: Cursor, s: &[u8], around: &mut [u8], counts: Counts, levels: u32) -> TreeRead
-    requires { ⌜ (c .at + length (now s) ≤ 65536) × (counts .scopes ≤ 256) × (counts .names ≤ length (now around)) ⌝ }
+    requires { ⌜ (c .at + length (now s) ≤ mostImage) × (counts .scopes ≤ setScopes) × (counts .names ≤ length (now around)) ⌝ }
     ensures { λ r. ⌜ r ≡ treeAt (c .at + length (now (s .entry))) (measureFunction counts levels (now (around .entry)) (now (s .entry))) ⌝ }
     ensures { λ _. ⌜ now (around .exit) ≡ now (around .entry) ⌝ }
 {
@@ -243,10 +247,10 @@ fn measure_function(c: Cursor, s: &[u8], around: &mut [u8], counts: Counts, leve
 
 // The root of an image of kind 1, behind which the image ends: its size.
 pub fn measure_syntax_root(c: Cursor, s: &[u8], counts: Counts) -> Number
-    requires { ⌜ (c .at + length (now s) ≤ 65536) × (counts .scopes ≤ 256) ⌝ }
+    requires { ⌜ (c .at + length (now s) ≤ mostImage) × (counts .scopes ≤ setScopes) ⌝ }
     ensures { λ r. ⌜ r ≡ numberAt (c .at + length (now (s .entry))) (wholeSyntax counts (now (s .entry))) ⌝ }
 {
-    match objects::measure_object(c, s, counts.symbols, counts.scopes, 64) {
+    match objects::measure_object(c, s, counts.symbols, counts.scopes, Cursor::MOST_NESTING) {
         Number::Read(size, past) => {
             let rest = c.after(s, past);
             if rest.len() == 0 {
@@ -260,11 +264,11 @@ pub fn measure_syntax_root(c: Cursor, s: &[u8], counts: Counts) -> Number
 
 // The root of an image of kind 2, behind which the image ends.
 pub fn measure_tree_root(c: Cursor, s: &[u8], counts: Counts) -> TreeRead
-    requires { ⌜ (c .at + length (now s) ≤ 65536) × (counts .scopes ≤ 256) × (counts .names ≤ 1024) ⌝ }
+    requires { ⌜ (c .at + length (now s) ≤ mostImage) × (counts .scopes ≤ setScopes) × (counts .names ≤ mostNames) ⌝ }
     ensures { λ r. ⌜ r ≡ treeAt (c .at + length (now (s .entry))) (wholeTree counts (now (s .entry))) ⌝ }
 {
-    let mut around = [0u8; 1024];
-    match measure_tree(c, s, &mut around, counts, 64, 0) {
+    let mut around = [0u8; Name::MOST as usize];
+    match measure_tree(c, s, &mut around, counts, Cursor::MOST_NESTING, 0) {
         TreeRead::Read(e, past) => {
             let rest = c.after(s, past);
             if rest.len() == 0 {

@@ -9,10 +9,16 @@ ghost use Prim.Native.Nat.{ℕ, _+_, _≤_};
 ghost use lib.ListN.{length};
 ghost use Rattle.numbers.specs.Answers.{numberAt};
 ghost use Rattle.roots.specs.MeasuredObjects.{readContentOf, readTop, measureStx, measureList, measureParts};
+ghost use Rattle.numbers.specs.Limits.{mostImage};
+ghost use Rattle.scopes.specs.Sets.{setScopes};
+
+const LAST_PRIMITIVE: u32 = 6;
+
+const LAST_RUNG_WORD: u32 = 15;
 
 // An atom's content, by its tag: a declared symbol, a number, a point, a primitive or a rung word.
 pub fn read_content(c: Cursor, s: &[u8], symbols: u32, tag: u32) -> Number
-    requires { ⌜ c .at + length (now s) ≤ 65536 ⌝ }
+    requires { ⌜ c .at + length (now s) ≤ mostImage ⌝ }
     ensures { λ r. ⌜ r ≡ numberAt (c .at + length (now (s .entry))) (readContentOf symbols tag (now (s .entry))) ⌝ }
 {
     if tag == 0 {
@@ -26,17 +32,17 @@ pub fn read_content(c: Cursor, s: &[u8], symbols: u32, tag: u32) -> Number
         return point.number();
     }
     if tag == 3 {
-        return c.number_up_to(s, Refusal::OverLimit, 6);
+        return c.number_up_to(s, Refusal::OverLimit, LAST_PRIMITIVE);
     }
     if tag == 4 {
-        return c.number_up_to(s, Refusal::OverLimit, 15);
+        return c.number_up_to(s, Refusal::OverLimit, LAST_RUNG_WORD);
     }
     Number::Fault(Refusal::Layout)
 }
 
 // An object's tag, with the place past its three sets.
 pub fn read_top(c: Cursor, s: &[u8], scopes: u32) -> Number
-    requires { ⌜ (c .at + length (now s) ≤ 65536) × (scopes ≤ 256) ⌝ }
+    requires { ⌜ (c .at + length (now s) ≤ mostImage) × (scopes ≤ setScopes) ⌝ }
     ensures { λ r. ⌜ r ≡ numberAt (c .at + length (now (s .entry))) (readTop scopes (now (s .entry))) ⌝ }
 {
     match c.number_up_to(s, Refusal::Layout, 5) {
@@ -53,7 +59,7 @@ pub fn read_top(c: Cursor, s: &[u8], scopes: u32) -> Number
 // The size of the object at a cursor, where `s` is the image from there on and `levels` levels are left. The part at level 65 is
 // refused before its tag.
 pub fn measure_object(c: Cursor, s: &[u8], symbols: u32, scopes: u32, levels: u32) -> Number
-    requires { ⌜ (c .at + length (now s) ≤ 65536) × (scopes ≤ 256) ⌝ }
+    requires { ⌜ (c .at + length (now s) ≤ mostImage) × (scopes ≤ setScopes) ⌝ }
     ensures { λ r. ⌜ r ≡ numberAt (c .at + length (now (s .entry))) (measureStx symbols scopes levels (now (s .entry))) ⌝ }
 {
     if levels == 0 {
@@ -76,7 +82,7 @@ pub fn measure_object(c: Cursor, s: &[u8], symbols: u32, scopes: u32, levels: u3
 
 // A list: its count, and its parts where `levels` levels are left for them.
 fn measure_list(c: Cursor, s: &[u8], symbols: u32, scopes: u32, levels: u32) -> Number
-    requires { ⌜ (c .at + length (now s) ≤ 65536) × (scopes ≤ 256) ⌝ }
+    requires { ⌜ (c .at + length (now s) ≤ mostImage) × (scopes ≤ setScopes) ⌝ }
     ensures { λ r. ⌜ r ≡ numberAt (c .at + length (now (s .entry))) (measureList symbols scopes levels (now (s .entry))) ⌝ }
 {
     match c.number(s) {
@@ -96,7 +102,7 @@ fn measure_list(c: Cursor, s: &[u8], symbols: u32, scopes: u32, levels: u32) -> 
 }
 
 fn measure_parts(c: Cursor, s: &[u8], symbols: u32, scopes: u32, levels: u32, count: u32) -> Number
-    requires { ⌜ (c .at + length (now s) ≤ 65536) × (scopes ≤ 256) ⌝ }
+    requires { ⌜ (c .at + length (now s) ≤ mostImage) × (scopes ≤ setScopes) ⌝ }
     ensures { λ r. ⌜ r ≡ numberAt (c .at + length (now (s .entry))) (measureParts count 0 (measureStx symbols scopes levels) (now (s .entry))) ⌝ }
 {
     let mut here = c;
