@@ -30,7 +30,7 @@ use Rattle.parse.specs.Shown.{Held, trees}
 use Rattle.environment.specs.Meanings.{meant-macro, Extended}
 use Rattle.environment.proofs.Frame.{carryE, carryM}
 use Rattle.scoping.specs.Changing.{objects, ReadyObject, changeRule, Changes}
-use Rattle.scoping.specs.Fresh.{marks, markRule, markingOf, MarksFresh}
+use Rattle.scoping.specs.Fresh.{ShownBinder, marks, markRule, markingOf, MarksFresh}
 use Rattle.scoping.specs.declared.Binder.{Binder}
 use Rattle.scoping.specs.declared.Mark.{Mark}
 use Rattle.scoping.specs.declared.Marking.{Marking}
@@ -39,10 +39,13 @@ use Rattle.expand.specs.Leaves.{around, ReadyValue, valueRule, Values, R
 use Rattle.expand.specs.InPlace.{Further, furtherRule, Named, nexts, onwardOf, ReadyScoped, scopedRule, Scoped, ReadyDefined, definedRule, Defined, ReadyMacro, rewrittenRule, Rewritten}
 use Rattle.expand.specs.Cycle.{entries, ReadyOnward, ExpandedOnward}
 use Rattle.expand.specs.declared.Surroundings.{Surroundings}
-use Rattle.expand.specs.declared.Onward.{Onward}
-use Rattle.expand.specs.declared.Onward.the-variants as onward
+use Rattle.expand.specs.declared.rewriting.Onward.{Onward}
+use Rattle.expand.specs.declared.rewriting.Onward.the-variants as onward
 use Rattle.scopes.specs.Sets.{scopesOf}
 use Rattle.table.specs.Sizes.{cellSize, twoCells, nodeSpare}
+
+pub by-name : {x : ℕ} {l : List ℕ} {b : Binder} {k : m.Binder} → ShownBinder x l b k → Named b k
+by-name w = record { name = w .name; scope = w .scope; declared = w .declared }
 
 -- ---- the body, in a new scope
 

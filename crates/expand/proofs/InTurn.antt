@@ -35,7 +35,7 @@ use Rattle.scoping.specs.Changing.{objects}
 use Rattle.expand.specs.declared.Surroundings.{Surroundings}
 use Rattle.expand.specs.Leaves.{around, Within}
 use Rattle.expand.specs.Cycle.{entries, Ready, ReadyParts, Expanded, ExpandedParts}
-use Rattle.expand.proofs.Cycle.{within-later}
+use Rattle.expand.proofs.Within.{within-later}
 
 -- ps turned round, and then us
 unfoldable pub turnObjects : Stxs → Stxs → Stxs

@@ -4,5 +4,9 @@ pub mod Making
 pub mod Leaves
 pub mod Rules
 pub mod InPlace
-pub mod Cycle
+pub mod Within
+pub mod Entering
+pub mod Applying
+pub mod Functions
+pub mod Macros
 pub mod InTurn

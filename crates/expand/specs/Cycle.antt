@@ -26,9 +26,9 @@ use Rattle.scoping.specs.declared.Binder.{Binder}
 use Rattle.expand.specs.Leaves.{around, Within}
 use Rattle.expand.specs.InPlace.{Further, furtherRule, Named, ShownNext, nexts, onwardOf, scopedRule, rhsRule, bindingRule}
 use Rattle.expand.specs.declared.Surroundings.{Surroundings}
-use Rattle.expand.specs.declared.Next.{Next}
-use Rattle.expand.specs.declared.Onward.{Onward}
-use Rattle.expand.specs.declared.Onward.the-variants as onward
+use Rattle.expand.specs.declared.rewriting.Next.{Next}
+use Rattle.expand.specs.declared.rewriting.Onward.{Onward}
+use Rattle.expand.specs.declared.rewriting.Onward.the-variants as onward
 use Rattle.table.specs.Sizes.{cellSize, twoCells, nodeSpare, tripleSpare, unitSize}
 
 abbrev pub entries : ℕ → Expander

@@ -22,9 +22,9 @@ use Rattle.scoping.specs.Fresh.{markRule}
 use Rattle.scoping.specs.declared.Binder.{Binder}
 use Rattle.expand.specs.Leaves.{around, Within, valueRule, transcribeRule}
 use Rattle.expand.specs.declared.Surroundings.{Surroundings}
-use Rattle.expand.specs.declared.Next.{Next}
-use Rattle.expand.specs.declared.Onward.{Onward}
-use Rattle.expand.specs.declared.Onward.the-variants as onward
+use Rattle.expand.specs.declared.rewriting.Next.{Next}
+use Rattle.expand.specs.declared.rewriting.Onward.{Onward}
+use Rattle.expand.specs.declared.rewriting.Onward.the-variants as onward
 use Rattle.table.specs.Sizes.{cellSize}
 
 -- an object, and where it is expanded

@@ -1,0 +1,68 @@
+use borrow.Author.Needs.{needs}
+use Prim.Native.Nat.{ℕ}
+use Rattle.expand.proofs.Macros.{laws, rhs-defined-ready}
+use Rattle.expand.proofs.rewriting.defined.Reads as defined-reads
+use Rattle.scopes.proofs.ScopeSet.empty.Reads as empty-reads
+use Rattle.expand.proofs.expand.Reads as expand
+use Rattle.expand.proofs.binders.rhs.Reads as rhs
+use Rattle.expand.proofs.+application+binders-abstraction+binders-binding+binders-function+binders-lambda+binders-let_syntax+binders-rhs+entry+expand+in_place+list+macro_use+parts.Lts-binders-rhs as lts
+use Rattle.expand.proofs.+application+binders-abstraction+binders-binding+binders-function+binders-lambda+binders-let_syntax+binders-rhs+entry+expand+in_place+list+macro_use+parts.Proof.Measures.{rhs-at, expand-below}
+
+module _ (t : ℕ) where
+  abbrev env : lts.Claims
+  env = (empty-reads.Asked, empty-reads.Learnt, expand-below t, expand.Post, defined-reads.Asked, defined-reads.Learnt)
+
+  returns : lts.Need-returns env (rhs-at t) rhs.Post
+  returns c = search (laws, needs)
+
+  empty-requires : lts.Need-empty-requires env (rhs-at t) rhs.Post
+  empty-requires c κs = search (laws, needs)
+
+  add-t17 : lts.Need-add-t17 env (rhs-at t) rhs.Post
+  add-t17 c = search (laws, needs)
+
+  expand-requires : lts.Need-expand-requires env (rhs-at t) rhs.Post
+  expand-requires c κs = search (laws, needs)
+
+  enum-known-f : lts.Need-enum-known-f env (rhs-at t) rhs.Post
+  enum-known-f c = search (laws, needs)
+
+  enum-known-o : lts.Need-enum-known-o env (rhs-at t) rhs.Post
+  enum-known-o c = search (laws, needs)
+
+  defined-requires : lts.Need-defined-requires env (rhs-at t) rhs.Post
+  defined-requires c κs = search (rhs-defined-ready, needs, c .before .before .before .before .before .before .before .before .before .before .before .before .before .before .before .before .before .before .pre .1, c .before .before .before .before .before .before .before .before .before .before .before .before .before .empty .ensures, c .before .before .before .before .before .before .before .before .before .before .before .before .before .before .if1 .left, c .before .before .before .before .before .before .before .before .before .before .expand .ensures, c .before .before .before .known-told2 .given, c .before .before .before .before .before .before .before .before .before .table, c .before .before .before .before .before .before .before .store)
+
+  same-length : lts.Need-same-length env (rhs-at t) rhs.Post
+  same-length c = search (laws, needs)
+
+  same-length-2 : lts.Need-same-length-2 env (rhs-at t) rhs.Post
+  same-length-2 c = search (laws, needs)
+
+  returns-2 : lts.Need-returns-2 env (rhs-at t) rhs.Post
+  returns-2 c = search (laws, needs)
+
+  same-length-3 : lts.Need-same-length-3 env (rhs-at t) rhs.Post
+  same-length-3 c = search (laws, needs)
+
+  same-length-4 : lts.Need-same-length-4 env (rhs-at t) rhs.Post
+  same-length-4 c = search (laws, needs)
+
+  returns-3 : lts.Need-returns-3 env (rhs-at t) rhs.Post
+  returns-3 c = search (laws, needs)
+
+  pub closed : {M : Type 1} → lts.Closed env (rhs-at t) rhs.Post M
+  closed = lts.spec env (rhs-at t) rhs.Post
+      returns
+      empty-requires
+      add-t17
+      expand-requires
+      enum-known-f
+      enum-known-o
+      defined-requires
+      same-length
+      same-length-2
+      returns-2
+      same-length-3
+      same-length-4
+      returns-3

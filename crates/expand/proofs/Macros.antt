@@ -1,0 +1,233 @@
+-- (let-syntax id rhs body): one law for each way through it.
+use mathlib.Core.Path.{_≡_, sym, ap, _∙_}
+use mathlib.Core.List.{List}
+use mathlib.Core.Bool.{Bool, true, false}
+use Prim.Native.Nat.{ℕ, _+_, _-_, _*_, _^_, _≤_, _<_}
+use native.Mathlib.Omega.{arith}
+use borrow.Author.Tests.{le-leb, lt-leb}
+use lib.ListN.{length}
+use Rattle.model.specs.Limits.{lastPhase}
+use Rattle.model.specs.Refusals as ref
+use Rattle.model.specs.Objects.{symbol, Sets, Stx, atom}
+use Rattle.model.specs.Trees.{stx, fromStxs}
+use Rattle.model.specs.Steps.{after, parts3, identifier}
+use Rattle.model.specs.Expanding as m
+use Rattle.model.specs.Expanding.{ofRightHandSide, Env, coreOnly, expandLetSyntax, expand, bindFresh}
+use Rattle.refusals.specs.declared.Refusal.the-variants.{NoRule, NoPhase}
+use Rattle.scopes.specs.Sets.{scopesOf}
+use Rattle.scopes.specs.declared.ScopeSet.{ScopeSet}
+use Rattle.store.specs.Words.{bindsOf}
+use Rattle.things.specs.Rep.{Rep}
+use Rattle.things.specs.Measuring.{Seen, SeenP}
+use Rattle.things.proofs.Frame.{carry}
+use Rattle.steps.specs.States.{stateOf}
+use Rattle.steps.specs.Agreement.{ended, Gave, Agrees, stops}
+use Rattle.steps.specs.declared.State.{State}
+use Rattle.steps.specs.declared.Stop.{Stop}
+use Rattle.steps.specs.declared.Out.{Out}
+use Rattle.steps.specs.declared.Answer.{Answer}
+use Rattle.steps.specs.declared.Answer.the-variants.{Done, Refused}
+use Rattle.steps.proofs.Laws.{then-ok, then-no, unless-ok, unless-no, later-refl, on-done, on-refused, since}
+use Rattle.parse.specs.Parsing.{unpaid}
+use Rattle.forms.specs.Shapes.{Triple, Identifies}
+use Rattle.forms.specs.declared.Three.{Three}
+use Rattle.forms.specs.declared.Three.the-variants as three
+use Rattle.forms.proofs.Shapes.{on-three, on-not-three, not-parts3, not-identifier, is-identifier}
+use Rattle.environment.specs.Meanings.{is-core}
+use Rattle.environment.proofs.Frame.{carryE}
+use Rattle.scoping.specs.Changing.{objects}
+use Rattle.scoping.specs.Fresh.{ReadyBinder, binders, boundOf, BindsFresh}
+use Rattle.scoping.specs.declared.Binder.{Binder}
+use Rattle.scoping.specs.declared.Bound.{Bound}
+use Rattle.scoping.specs.declared.Bound.the-variants as bounds
+use Rattle.expand.specs.Leaves.{around}
+use Rattle.expand.specs.InPlace.{nexts, onwardOf, ReadyDefined, definedRule, Defined, rhsRule, bindingRule}
+use Rattle.expand.specs.Cycle.{entries, Ready, ReadyLet, ReadyOnward, ReadyBinding, ReadyRhs, Expanded, ExpandedOnward, ExpandedLetSyntax, OnwardBinding, OnwardRhs}
+use Rattle.expand.specs.declared.Surroundings.{Surroundings}
+use Rattle.expand.specs.declared.rewriting.Onward.{Onward}
+use Rattle.expand.specs.declared.rewriting.Onward.the-variants as onward
+use Rattle.expand.proofs.Agreeing.{beyond}
+use Rattle.expand.proofs.Leaves.{owes-none, owes-one}
+use Rattle.expand.proofs.InPlace.{unitsOf, onward-less, onward-ready, onward-goes}
+use Rattle.expand.proofs.Rules.{binding-split}
+use Rattle.table.specs.Sizes.{cellSize, twoCells, nodeSpare}
+use Rattle.expand.proofs.Within.{within-later, within-paid}
+use Rattle.expand.proofs.InPlace.{by-name}
+
+-- ---- let-syntax
+
+module _ {st l : List ℕ} (s : State) {tail : ℕ} {at : Surroundings} where
+  pub let-seen : ReadyLet l st (unpaid s) tail at → SeenP l tail
+  unfolding unpaid
+  let-seen r = record { top = s .top; thing = fromStxs (r .parts); shown = r .shown; inside = omega (arith, r .within .room .fits); small = r .within .room .small }
+
+  module _ {d : Three} (h : Triple l tail d) where
+    pub let-shape : d ≡ three.Not → ExpandedLetSyntax at st st l l s tail (Refused (record { refusal = NoRule; units = s .units }))
+    unfolding expandLetSyntax
+    let-shape e = record { means = λ ps g w z. stops _ (not-parts3 ps _ (stateOf s (bindsOf st)) (on-not-three (h .means (s .top) ps w) e)) }
+
+    module _ {a b c : ℕ} (e : d ≡ three.Are a b c) where
+      pub let-id-seen : ReadyLet l st (unpaid s) tail at → Seen l a
+      unfolding unpaid
+      let-id-seen r =
+          let q = on-three (h .means (s .top) (r .parts) (r .shown)) e in
+          record { top = s .top; thing = stx (q .first); shown = q .shown; inside = omega (arith, r .within .room .fits); small = r .within .room .small }
+
+      module _ {z : Bool} (f : Identifies l a z) where
+        pub let-no-id : z ≡ false → ExpandedLetSyntax at st st l l s tail (Refused (record { refusal = NoRule; units = s .units }))
+        unfolding expandLetSyntax parts3
+        let-no-id t =
+            record {
+              means = λ ps g w k.
+                  let q = on-three (h .means (s .top) ps w) e in
+                  rw (q .is) (stops _ (not-identifier (q .first) _ (stateOf s (bindsOf st)) (sym (f .means (s .top) (q .first) (q .shown)) ∙ t)));
+            }
+
+        module _ (t : z ≡ true) where
+          pub let-binding-ready : ReadyLet l st (unpaid s) tail at → ReadyBinding l st s a b c at
+          unfolding unpaid
+          let-binding-ready r =
+              let q = on-three (h .means (s .top) (r .parts) (r .shown)) e in
+              let n = is-identifier (q .first) (sym (f .means (s .top) (q .first) (q .shown)) ∙ t) in
+              record { binder = n .sets; symb = n .symb; thing = q .second; object = q .third; shown = rw (n .is) at (q .shown); shown-right = q .shown-second; shown-body = q .shown-third; within = within-paid s (r .within) }
+
+          module _ {st1 l1 : List ℕ} {x : Onward} (v : OnwardBinding at st st1 l l1 s a b c x) where
+            let-inside : (r : ReadyBinding l st s a b c at) → Agrees (nexts at) 1 cellSize l l1 s (bindsOf st1) (bindingRule (entries (at .left)) (at .left) (around (r .within .meant) at) (r .binder) (r .symb) (r .thing) (r .object) (stateOf s (bindsOf st))) (onwardOf x)
+            let-inside r = v .means (r .binder) (r .symb) (r .thing) (r .object) (r .within .meant) (r .shown) (r .shown-right) (r .shown-body) (r .within .known)
+
+            pub let-next-ready : ReadyLet l st (unpaid s) tail at → length l1 ≡ length l → length st1 ≡ length st → ReadyOnward l1 st1 x at
+            let-next-ready r len len2 = let q = let-binding-ready r in onward-ready (let-inside q) (q .within .room) (q .within .held) len len2
+
+            pub let-less : {T : ℕ} → ReadyLet l st (unpaid s) tail at → s .units * 32 + 18 ≡ T → unitsOf x * 32 + 1 < T
+            let-less r z = omega (arith, onward-less x (let-inside (let-binding-ready r)))
+
+            pub let-expanded : {st2 l2 : List ℕ} {r : Answer} → ExpandedOnward at st1 st2 l1 l2 x r → ExpandedLetSyntax at st st2 l l2 s tail r
+            unfolding expandLetSyntax parts3 identifier
+            let-expanded p =
+                record {
+                  means = λ ps g w k.
+                      let q = on-three (h .means (s .top) ps w) e in
+                      let n = is-identifier (q .first) (sym (f .means (s .top) (q .first) (q .shown)) ∙ t) in
+                      let y = onward-goes x (v .means (n .sets) (n .symb) (q .second) (q .third) g (rw (n .is) at (q .shown)) (q .shown-second) (q .shown-third) k) p in
+                      rw (q .is, n .is) (beyond 1 twoCells 0 1 (later-refl l s) (owes-none s) (owes-one s) (omega arith) (omega arith) (binding-split (entries (at .left)) (at .left) (around g at) (stateOf s (bindsOf st)) (n .sets) (n .symb) (q .second) (q .third)) y);
+                }
+
+-- ---- binding
+
+module _ {st l : List ℕ} {s : State} {id right body : ℕ} {at : Surroundings} (r : ReadyBinding l st s id right body at) where
+  pub binding-binder-ready : ReadyBinder l st s id
+  binding-binder-ready = record { sets = r .binder; symb = r .symb; shown = r .shown; room = r .within .room; held = r .within .held }
+
+  module _ {st1 l1 : List ℕ} {z : Bound} (v : BindsFresh (at .phase) st st1 l l1 s id z) where
+    pub binding-refused : {f : Stop} → z ≡ bounds.Refused f → OnwardBinding at st st1 l l1 s id right body (onward.Refused f)
+    unfolding bindingRule
+    binding-refused e = record { means = λ c x u y g a b w k. stops _ (then-no _ (on-refused (v .means c x a) (ap boundOf e))) }
+
+    module _ {o : Binder} (e : z ≡ bounds.Done o) where
+      let-bound : (c : Sets) (x : ℕ) → Rep l (s .top) id (stx (atom c (symbol x))) → Gave (binders x) 1 nodeSpare l l1 s (bindsOf st1) (bindFresh (at .phase) c x (stateOf s (bindsOf st))) o
+      let-bound c x a = on-done (v .means c x a) (ap boundOf e)
+
+      pub binding-less : {T : ℕ} → s .units * 32 + 17 ≡ T → o .state .units * 32 + 18 < T
+      binding-less t = omega (arith, let-bound (r .binder) (r .symb) (r .shown) .later .spent)
+
+      pub binding-rhs-ready : length l1 ≡ length l → length st1 ≡ length st → ReadyRhs l1 st1 o right body at
+      binding-rhs-ready len len2 =
+          let g = let-bound (r .binder) (r .symb) (r .shown) in
+          record {
+            binder = g .value;
+            thing = r .thing;
+            object = r .object;
+            named = by-name (g .shown);
+            shown = carry (r .shown-right) (g .later .kept) (g .later .grows);
+            shown-body = carry (r .shown-body) (g .later .kept) (g .later .grows);
+            within = within-later (r .within) (g .later) (g .shown .few) len len2;
+          }
+
+      pub binding-rhs : {st2 l2 : List ℕ} {q : Onward} → OnwardRhs at st1 st2 l1 l2 o right body q → OnwardBinding at st st2 l l2 s id right body q
+      unfolding bindingRule
+      binding-rhs f =
+          record {
+            means = λ c x u y g a b w k.
+                let j = let-bound c x a in
+                since 1 cellSize (j .later) (omega arith) (omega arith) (then-ok _ (j .is))
+                (f .means (j .value) u y g (by-name (j .shown)) (carry b (j .later .kept) (j .later .grows)) (carry w (j .later .kept) (j .later .grows)) (carryE k (j .later .kept) (j .later .grows)));
+          }
+
+-- ---- the right-hand side
+
+pub rhs-up : (at : Surroundings) → at .phase < 2 → at .phase + 1 < 2 ^ 32
+rhs-up at h = omega arith
+
+pub rhs-phase : {st l : List ℕ} {b : Binder} {right body : ℕ} {at : Surroundings} → 2 ≤ at .phase → OnwardRhs at st st l l b right body (onward.Refused (record { refusal = NoPhase; units = b .state .units }))
+unfolding rhsRule lastPhase
+rhs-phase {st} {b = b} {at = at} h = record { means = λ n u y g d w z k. stops _ (then-no _ (unless-no ref.noPhase (stateOf (b .state) (bindsOf st)) (lt-leb (at .phase + 1) 2 (omega arith)))) }
+
+-- of the right-hand side
+abbrev aboveOf : Surroundings → ScopeSet → Surroundings
+aboveOf at p = record { left = at .left; phase = at .phase + 1; meanings = 0; prunable = p }
+
+module _ {st l : List ℕ} {s : State} {right : ℕ} (at : Surroundings) (h : at .phase < 2) {p : ScopeSet} (f : scopesOf p ≡ 0) {st1 l1 : List ℕ} {a : Answer} (v : Expanded (aboveOf at p) st st1 l l1 s right a) where
+  above : (g : Env) (u : Stx) → Rep l (s .top) right (stx u) → Agrees objects 1 twoCells l l1 s (bindsOf st1) (expand (at .left) (ofRightHandSide (around g at)) u (stateOf s (bindsOf st))) (ended a)
+  above g u w = rw f at (v .means u coreOnly w is-core)
+
+  starts : (g : Env) (k : m.Binder) (u y : Stx) → rhsRule (entries (at .left)) (at .left) (around g at) k u y (stateOf s (bindsOf st))
+      ≡ after (expand (at .left) (ofRightHandSide (around g at)) u (stateOf s (bindsOf st))) (λ t. definedRule (at .left) (around g at) k t y)
+  unfolding rhsRule lastPhase
+  starts g k u y = then-ok _ (unless-ok ref.noPhase (stateOf s (bindsOf st)) (le-leb (at .phase + 1) 2 (omega arith)))
+
+  right-to : {o : Out} → a ≡ Done o → (g : Env) (u : Stx) → Rep l (s .top) right (stx u) → Gave objects 1 twoCells l l1 s (bindsOf st1) (expand (at .left) (ofRightHandSide (around g at)) u (stateOf s (bindsOf st))) o
+  right-to e g u w = on-done (above g u w) (ap ended e)
+
+module _ {st l : List ℕ} {b : Binder} {right body : ℕ} {at : Surroundings} (h : at .phase < 2) {p : ScopeSet} where
+  pub rhs-expand-ready : ReadyRhs l st b right body at → Ready l st (b .state) right (aboveOf at p)
+  rhs-expand-ready r = record { thing = r .thing; shown = r .shown; within = record { meant = coreOnly; known = is-core; room = r .within .room; held = r .within .held } }
+
+  module _ (f : scopesOf p ≡ 0) {st1 l1 : List ℕ} {a : Answer} (v : Expanded (aboveOf at p) st st1 l l1 (b .state) right a) where
+    pub rhs-refused : {q : Stop} → a ≡ Refused q → OnwardRhs at st st1 l l1 b right body (onward.Refused q)
+    rhs-refused e = record { means = λ n u y g d w z k. stops _ (starts at h f v g n u y ∙ then-no _ (on-refused (above at h f v g u w) (ap ended e))) }
+
+    module _ {o : Out} (e : a ≡ Done o) where
+      pub rhs-defined-ready : ReadyRhs l st b right body at → length l1 ≡ length l → length st1 ≡ length st → ReadyDefined l1 st1 (o .state) b (o .at) body at
+      rhs-defined-ready r len len2 =
+          let g = right-to at h f v e (r .within .meant) (r .thing) (r .shown) in
+          record {
+            binder = r .binder;
+            thing = g .value;
+            object = r .object;
+            named = r .named;
+            shown = g .shown .rep;
+            shown-body = carry (r .shown-body) (g .later .kept) (g .later .grows);
+            within = within-later (r .within) (g .later) (g .shown .few) len len2;
+            low = omega arith;
+          }
+
+      pub rhs-defined : {l2 : List ℕ} {q : Onward} → Defined at st1 l1 l2 (o .state) b (o .at) body q → OnwardRhs at st st1 l l2 b right body q
+      rhs-defined c =
+          record {
+            means = λ n u y g d w z k.
+                let j = right-to at h f v e g u w in
+                since 1 cellSize (j .later) (omega arith) (omega arith) (starts at h f v g n u y ∙ then-ok _ (j .is))
+                (c .means n (j .value) y g d (j .shown .rep) (carry z (j .later .kept) (j .later .grows)) (carryE k (j .later .kept) (j .later .grows)));
+          }
+
+pub ruleset laws = (
+  let-seen,
+  let-shape,
+  let-id-seen,
+  let-no-id,
+  let-binding-ready,
+  let-next-ready,
+  let-less,
+  let-expanded,
+  binding-binder-ready,
+  binding-refused,
+  binding-less,
+  binding-rhs-ready,
+  binding-rhs,
+  rhs-phase,
+  rhs-up,
+  rhs-expand-ready,
+  rhs-refused,
+  rhs-defined-ready,
+  rhs-defined,
+)

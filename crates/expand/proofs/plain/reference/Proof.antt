@@ -1,0 +1,77 @@
+use Rattle.expand.proofs.Leaves.{laws}
+use borrow.Author.Needs.{needs}
+use Rattle.expand.proofs.plain.reference.Statement.{statement}
+use Rattle.expand.proofs.plain.reference.Tie as tie
+
+meaning-of-requires : tie.Need-meaning-of-requires
+meaning-of-requires c κs = search (laws, needs)
+
+enum-known-v : tie.Need-enum-known-v
+enum-known-v c = search (laws, needs)
+
+enum-told : tie.Need-enum-told
+enum-told c = search (laws, needs)
+
+enum-told-2 : tie.Need-enum-told-2
+enum-told-2 c = search (laws, needs)
+
+enum-told-3 : tie.Need-enum-told-3
+enum-told-3 c = search (laws, needs)
+
+enum-told-4 : tie.Need-enum-told-4
+enum-told-4 c = search (laws, needs)
+
+enum-told-5 : tie.Need-enum-told-5
+enum-told-5 c = search (laws, needs)
+
+enum-told-6 : tie.Need-enum-told-6
+enum-told-6 c = search (laws, needs)
+
+enum-told-7 : tie.Need-enum-told-7
+enum-told-7 c = search (laws, needs)
+
+returns : tie.Need-returns
+returns c = search (laws, needs)
+
+returns-2 : tie.Need-returns-2
+returns-2 c = search (laws, needs)
+
+returns-3 : tie.Need-returns-3
+returns-3 c = search (laws, needs)
+
+returns-4 : tie.Need-returns-4
+returns-4 c = search (laws, needs)
+
+returns-5 : tie.Need-returns-5
+returns-5 c = search (laws, needs)
+
+returns-6 : tie.Need-returns-6
+returns-6 c = search (laws, needs)
+
+returns-7 : tie.Need-returns-7
+returns-7 c = search (laws, needs)
+
+returns-8 : tie.Need-returns-8
+returns-8 c = search (laws, needs)
+
+pub reference-spec : {M : Type 1} → statement M
+reference-spec =
+    tie.close
+    (tie.spec
+    meaning-of-requires
+    enum-known-v
+    enum-told
+    enum-told-2
+    enum-told-3
+    enum-told-4
+    enum-told-5
+    enum-told-6
+    enum-told-7
+    returns
+    returns-2
+    returns-3
+    returns-4
+    returns-5
+    returns-6
+    returns-7
+    returns-8)

@@ -1,0 +1,99 @@
+// Document 01, 'Expanding': an identifier, and the forms that expand no part.
+use crate::Surroundings;
+use crate::lists;
+use environment::Meaning;
+use forms::One;
+use refusals::Refusal;
+use steps::Answer;
+use steps::Out;
+use steps::State;
+use steps::Stop;
+ghost use Rattle.parse.specs.Parsing.{unpaid};
+ghost use Rattle.expand.specs.Leaves.{ReadyName, ExpandedName, ReadyTail, ExpandedQuote, ExpandedSyntax, ReadyPruned, Pruned};
+
+// An identifier in expression place.
+pub fn reference(table: &[u32], store: &[u64], s: State, i: u32, at: Surroundings) -> Answer
+    requires { ⌜ ReadyName (now table) (now store) (unpaid s) i at ⌝ }
+    ensures { λ r. ⌜ ExpandedName at (now (store .entry)) (now (table .entry)) s i r ⌝ }
+{
+    match environment::meaning_of(table, store, s.bindings, i, at.phase, at.meanings) {
+        Meaning::Variable(v) => Answer::Done(Out { at: v, state: s }),
+        Meaning::Unknown => Answer::Refused(Stop {
+            refusal: Refusal::NoMeaning,
+            units: s.units,
+        }),
+        Meaning::Unclear => Answer::Refused(Stop {
+            refusal: Refusal::Ambiguous,
+            units: s.units,
+        }),
+        Meaning::Lambda => Answer::Refused(Stop {
+            refusal: Refusal::NoRule,
+            units: s.units,
+        }),
+        Meaning::LetSyntax => Answer::Refused(Stop {
+            refusal: Refusal::NoRule,
+            units: s.units,
+        }),
+        Meaning::Quote => Answer::Refused(Stop {
+            refusal: Refusal::NoRule,
+            units: s.units,
+        }),
+        Meaning::Syntax => Answer::Refused(Stop {
+            refusal: Refusal::NoRule,
+            units: s.units,
+        }),
+        Meaning::Macro(_) => Answer::Refused(Stop {
+            refusal: Refusal::NoRule,
+            units: s.units,
+        }),
+    }
+}
+
+// (quote d), i, by its parts after the head: unchanged.
+pub fn quote(table: &[u32], s: State, i: u32, head: u32, tail: u32) -> Answer
+    requires { ⌜ ReadyTail (now table) (unpaid s) i head tail ⌝ }
+    ensures { λ r. ⌜ ExpandedQuote (now (table .entry)) s i tail r ⌝ }
+{
+    match forms::one_part(table, tail) {
+        One::Not => Answer::Refused(Stop {
+            refusal: Refusal::NoRule,
+            units: s.units,
+        }),
+        One::Is(_) => Answer::Done(Out { at: i, state: s }),
+    }
+}
+
+// (syntax s), i, by its head and its parts after the head.
+pub fn syntax_form(
+    table: &mut [u32],
+    s: State,
+    i: u32,
+    head: u32,
+    tail: u32,
+    at: Surroundings,
+) -> Answer
+    requires { ⌜ ReadyTail (now table) (unpaid s) i head tail ⌝ }
+    ensures { λ r. ⌜ ExpandedSyntax at (now (table .entry)) (now (table .exit)) s i head tail r ⌝ }
+{
+    match forms::one_part(table, tail) {
+        One::Not => Answer::Refused(Stop {
+            refusal: Refusal::NoRule,
+            units: s.units,
+        }),
+        One::Is(x) => pruned(table, s, i, head, x, at),
+    }
+}
+
+pub fn pruned(table: &mut [u32], s: State, i: u32, head: u32, x: u32, at: Surroundings) -> Answer
+    requires { ⌜ ReadyPruned (now table) (unpaid s) i head x ⌝ }
+    ensures { λ r. ⌜ Pruned at (now (table .entry)) (now (table .exit)) s i head x r ⌝ }
+{
+    let prunable = at.prunable;
+    match scoping::prune_from(table, s, x, at.phase, prunable) {
+        Answer::Refused(f) => Answer::Refused(f),
+        Answer::Done(o) => {
+            let s1 = o.state;
+            lists::two_list(table, s1, i, head, o.at)
+        }
+    }
+}
