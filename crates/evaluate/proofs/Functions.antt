@@ -24,8 +24,8 @@ use Rattle.table.specs.declared.Body.{Body}
 use Rattle.things.specs.Rep.{Rep}
 use Rattle.things.specs.Measuring.{Seen, Measured}
 use Rattle.things.specs.declared.Extent.{Extent}
-use Rattle.tree.specs.Substituting as t
-use Rattle.tree.specs.Substituting.{Substituted}
+use Rattle.substitution.specs.Substituting as t
+use Rattle.substitution.specs.Substituting.{Substituted}
 use Rattle.steps.proofs.Laws.{Went, charge-went, charge-failed, charge-ok, charge-no, room-later, since, then-ok, then-no, unless-ok, unless-no}
 use Rattle.evaluate.specs.Evaluation.{ReadyFunction, functionOf, Evaluates, DoesFunction}
 

@@ -197,7 +197,7 @@ fn apply_function(table: &mut [u32], s: State, name: Name, body: Body, x: u32, l
     match s.charge(body.size) {
         Charged::Refused(e) => Answer::Refused(e),
         Charged::Paid(t) => {
-            let m = tree::substitute(table, t.top, body.at, name, x);
+            let m = substitution::substitute(table, t.top, body.at, name, x);
             let e = things::measure(table, m.at);
             if State::MOST_NESTING < e.nesting {
                 return Answer::Refused(Stop {

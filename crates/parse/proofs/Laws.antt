@@ -51,7 +51,7 @@ use Rattle.forms.specs.declared.Naming.{Naming}
 use Rattle.forms.specs.declared.Naming.the-variants.{Named, Unclear, Unnamed}
 use Rattle.forms.proofs.Shapes.{nil-at, first-at, on-one, on-not-one, on-two, on-not-two, not-parts1, not-parts2}
 use Rattle.forms.proofs.Names.{on-named, on-unclear, on-unnamed, identifier-named, identifier-unclear, identifier-unnamed}
-use Rattle.syntax.specs.Copying.{Copyable, Copied}
+use Rattle.copying.specs.Copying.{Copyable, Copied}
 use Rattle.parse.specs.Shown.{Held, ShownTree, ShownChain, trees, chains}
 use Rattle.parse.specs.Parsing.{unpaid, Ready, ReadyParts, ReadyForm, ReadyChain, ReadyData, nameRule, functionRule, lambdaRule, dataRule, quoteRule, syntaxRule, applicationRule, Parsed, ParsedEntry, ParsedName, ParsedList, ParsedForm, ParsedLambda, ParsedFunction, ParsedQuote, ParsedData, ParsedSyntax, ParsedApplication, ParsedParts}
 use Rattle.parse.proofs.Rules.{parse-entry, entry-atom, entry-symbol, entry-empty, list-named, list-unclear, list-unnamed, form-lambda, form-let-syntax, form-quote, form-syntax, form-other, application-is, application-no}

@@ -199,7 +199,7 @@ fn data(table: &mut [u32], s: State, i: u32) -> Answer
     match s.charge(x.weight) {
         Charged::Refused(f) => Answer::Refused(f),
         Charged::Paid(t) => {
-            let m = syntax::strip(table, t.top, i);
+            let m = copying::strip(table, t.top, i);
             let state = t.raised(m.top);
             Answer::Done(Out { at: m.at, state })
         }

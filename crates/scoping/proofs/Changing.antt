@@ -20,7 +20,7 @@ use Rattle.things.specs.Measuring.{Seen, Measured}
 use Rattle.things.specs.declared.Extent.{Extent}
 use Rattle.things.specs.declared.Made.{Made}
 use Rattle.things.proofs.Measuring.{charged-size, covered-size}
-use Rattle.syntax.specs.Copying.{Copyable, Copied}
+use Rattle.copying.specs.Copying.{Copyable, Copied}
 use Rattle.scoping.specs.Changing.{ReadyObject, changeRule, Changes}
 
 pub object-seen : {l : List ℕ} {s : State} {i : ℕ} → ReadyObject l s i → Seen l i

@@ -45,7 +45,7 @@ use Rattle.things.specs.declared.Made.{Made}
 use Rattle.things.proofs.Frame.{up}
 use Rattle.things.proofs.ByTag.{content-is}
 use Rattle.things.proofs.Measuring.{node-inside}
-use Rattle.syntax.specs.Copying.{Copyable, Copied}
+use Rattle.copying.specs.Copying.{Copyable, Copied}
 use Rattle.parse.specs.Shown.{Held}
 use Rattle.parse.specs.Parsing.{unpaid}
 use Rattle.scoping.specs.Changing.{ShownObject, objects, ReadyObject, changeRule, Changes}

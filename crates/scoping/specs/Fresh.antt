@@ -26,7 +26,7 @@ use Rattle.steps.specs.declared.State.{State}
 use Rattle.steps.specs.declared.Charged.{Charged}
 use Rattle.steps.specs.declared.Charged.the-variants as charged
 use Rattle.things.specs.Rep.{Rep}
-use Rattle.syntax.specs.Copying.{Copied}
+use Rattle.copying.specs.Copying.{Copied}
 use Rattle.parse.specs.Shown.{Held}
 use Rattle.parse.specs.Parsing.{unpaid}
 use Rattle.scoping.specs.Changing.{changeRule}

@@ -22,7 +22,7 @@ ghost use Rattle.parse.specs.Parsing.{unpaid};
 ghost use Rattle.scopes.specs.Sets.{scopesOf, Declared};
 ghost use Rattle.things.specs.Measuring.{Seen};
 ghost use Rattle.scoping.specs.Changing.{ReadyObject, Changes};
-ghost use Rattle.syntax.specs.Copying.{Copyable};
+ghost use Rattle.copying.specs.Copying.{Copyable};
 ghost use Rattle.scoping.specs.Fresh.{freshScopeOf, Takes, Puts, PutsBinder, Keys, Added, ReadyBinder, Binds, BindsFresh, Marks, MarksFresh};
 ghost use Rattle.store.specs.Sizes.{storeSize, mostBindings};
 
@@ -36,7 +36,7 @@ pub fn add_to(table: &mut [u32], s: State, i: u32, phase: u32, k: Scope) -> Answ
     match s.charge(x.weight) {
         Charged::Refused(f) => Answer::Refused(f),
         Charged::Paid(t) => {
-            let m = syntax::add_scope(table, t.top, i, phase, k);
+            let m = copying::add_scope(table, t.top, i, phase, k);
             let state = t.raised(m.top);
             Answer::Done(Out { at: m.at, state })
         }
@@ -51,7 +51,7 @@ pub fn flip_in(table: &mut [u32], s: State, i: u32, phase: u32, k: Scope) -> Ans
     match s.charge(x.weight) {
         Charged::Refused(f) => Answer::Refused(f),
         Charged::Paid(t) => {
-            let m = syntax::flip_scope(table, t.top, i, phase, k);
+            let m = copying::flip_scope(table, t.top, i, phase, k);
             let state = t.raised(m.top);
             Answer::Done(Out { at: m.at, state })
         }
@@ -66,7 +66,7 @@ pub fn prune_from(table: &mut [u32], s: State, i: u32, phase: u32, prunable: Sco
     match s.charge(x.weight) {
         Charged::Refused(f) => Answer::Refused(f),
         Charged::Paid(t) => {
-            let m = syntax::prune_scopes(table, t.top, i, phase, prunable);
+            let m = copying::prune_scopes(table, t.top, i, phase, prunable);
             let state = t.raised(m.top);
             Answer::Done(Out { at: m.at, state })
         }
@@ -167,7 +167,7 @@ fn with_scope(table: &mut [u32], top: u32, i: u32, phase: u32, k: Scope) -> Made
     requires { ⌜ Copyable (now table) top i × Declared k ⌝ }
     ensures { λ r. ⌜ Added phase (k .0) (now (table .entry)) (now (table .exit)) top i (r .at) (r .top) ⌝ }
 {
-    syntax::add_scope(table, top, i, phase, k)
+    copying::add_scope(table, top, i, phase, k)
 }
 
 // The scope is added to the identifier, which is bound to the name.

@@ -5,7 +5,7 @@ use Rattle.evaluate.proofs.apply_function.Reads as apply-function
 use Rattle.steps.proofs.State.charge.Reads as charge-reads
 use Rattle.evaluate.proofs.evaluate.Reads as evaluate
 use Rattle.things.proofs.measure.Reads as measure-reads
-use Rattle.tree.proofs.substitute.Reads as substitute-reads
+use Rattle.substitution.proofs.substitute.Reads as substitute-reads
 use Rattle.evaluate.proofs.+application+apply+apply_function+arguments+call+evaluate+form.Lts-apply_function as lts
 use Rattle.evaluate.proofs.+application+apply+apply_function+arguments+call+evaluate+form.Proof.Measures.{apply-function-at, evaluate-below}
 
