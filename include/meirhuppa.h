@@ -8,7 +8,7 @@
  *  - every pointer is good for as many elements as its length says (a length of 0 still wants a pointer that is not null);
  *  - image, table and output do not overlap;
  *  - no other thread touches them during the call;
- *  - the calling thread has 168 KiB of stack to spare (MEIRHUPPA_STACK). That is measured, on x86-64, and not proved.
+ *  - the calling thread has 160 KiB of stack to spare (MEIRHUPPA_STACK). That is measured, on x86-64, and not proved.
  *
  * The table is working memory, at least MEIRHUPPA_WORDS_PER_UNIT (40) words per unit of budget. After
  * MEIRHUPPA_SMALL_TABLE it is untouched; after every other answer its first 40 * budget words are 0 and the rest untouched. A refusal leaves the
@@ -61,7 +61,7 @@ enum {
     MEIRHUPPA_MOST_BUDGET = 4096,
     MEIRHUPPA_WORDS_PER_UNIT = 40,
     MEIRHUPPA_MOST_IMAGE = 65536,
-    MEIRHUPPA_STACK = 172032 /* bytes of stack that a call takes at most */
+    MEIRHUPPA_STACK = 163840 /* bytes of stack that a call takes at most */
 };
 
 /* What a code means, in words, for people. */

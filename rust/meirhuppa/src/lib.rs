@@ -1,7 +1,7 @@
 //! Meirhuppa's four jobs over slices. What the jobs promise is document 01 and is proved of the code behind the boundary; this crate adds
 //! names for the refusals and the lengths of the slices, which are true by their type.
 //!
-//! A call takes at most 168 KiB of the calling thread's stack. That is measured, on x86-64, and not proved.
+//! A call takes at most 160 KiB of the calling thread's stack. That is measured, on x86-64, and not proved.
 #![deny(warnings)]
 
 /// What a job that succeeded answers.
