@@ -20,7 +20,7 @@ use Rattle.things.specs.Rep.{Rep, is-atom, is-list}
 use Rattle.things.specs.Measuring.{Seen}
 use Rattle.things.proofs.Frame.{below}
 use Rattle.things.proofs.ByTag.{tag-is, atom-at, list-at, stx-tag}
-use Rattle.steps.specs.States.{Store, stateOf, enterOf}
+use Rattle.steps.specs.States.{stopOf, Store, stateOf, enterOf}
 use Rattle.steps.specs.Agreement.{Ended, ended, Agrees, gives, stops}
 use Rattle.steps.specs.declared.State.{State}
 use Rattle.steps.specs.declared.Stop.{Stop}
@@ -156,9 +156,9 @@ same-form : (at : Surroundings) (g : Env) (y : ms.State) {l l1 : List ℕ} {s : 
     → Agrees objects 1 twoCells l l1 s b (expandMacro (entries (at .left)) (at .left) (around g at) t (list k ps) y) x → Agrees objects 1 twoCells l l1 s b (expandMacro (entries (at .left)) (at .left) (around g at) t (list k qs) y) x
 same-form at g y t k e a = rw e at a
 
-pub list-empty : {at : Surroundings} {st l : List ℕ} {s : State} {i c : ℕ} → c ≡ 0 → ExpandedList at st st l l s i c (Refused (record { refusal = NoRule; units = s .units }))
-list-empty {at} {st} {l} {s} h =
-    record { means = λ k ps g u w z. rw (nil-at ps w h) (stops _ (entry-empty (entries (at .left)) (at .left) (around g at) (stateOf s (bindsOf st)) k)) }
+pub list-empty : {at : Surroundings} {st l : List ℕ} {s : State} {i c : ℕ} {r : Answer} → c ≡ 0 → r ≡ Refused (stopOf NoRule s) → ExpandedList at st st l l s i c r
+list-empty {at} {st} {l} {s} h same =
+    rw same (record { means = λ k ps g u w z. rw (nil-at ps w h) (stops _ (entry-empty (entries (at .left)) (at .left) (around g at) (stateOf s (bindsOf st)) k)) })
 
 module _ {st l : List ℕ} (s : State) {i c : ℕ} {at : Surroundings} where
   pub list-inside : ReadyChain l st (unpaid s) i c at → ¬ (c ≡ 0) → c + cellSize ≤ length l
@@ -280,13 +280,13 @@ module _ {st l : List ℕ} (s : State) {i c : ℕ} {at : Surroundings} where
                 (a .means (bindsOf st) g k (q .first) (q .others) (rw (q .is) at u) (q .cell .shown) (q .cell .shown-others));
           }
 
-      pub list-is-unclear : w ≡ meant.Unclear → ExpandedList at st st l l s i c (Refused (record { refusal = Ambiguous; units = s .units }))
-      list-is-unclear z =
-          record {
+      pub list-is-unclear : {r : Answer} → w ≡ meant.Unclear → r ≡ Refused (stopOf Ambiguous s) → ExpandedList at st st l l s i c r
+      list-is-unclear z same =
+          rw same (record {
             means = λ k ps g u v y.
                 let q = first-at ps v h e in
                 rw (q .is) (stops _ (list-unclear (entries (at .left)) (at .left) (around g at) (stateOf s (bindsOf st)) k (q .first) (q .others) (on-meaning-unclear (p .means (s .top) (q .first) g (q .cell .shown) y) z)));
-          }
+          })
 
 pub ruleset laws = (
   enter-one,

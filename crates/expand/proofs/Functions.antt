@@ -15,7 +15,7 @@ use Rattle.store.specs.Words.{bindsOf}
 use Rattle.things.specs.Rep.{Rep}
 use Rattle.things.specs.Measuring.{Seen, SeenP}
 use Rattle.things.proofs.Frame.{carry}
-use Rattle.steps.specs.States.{stateOf}
+use Rattle.steps.specs.States.{stopOf, stateOf}
 use Rattle.steps.specs.Agreement.{ended, Gave, Agrees, stops}
 use Rattle.steps.specs.declared.State.{State}
 use Rattle.steps.specs.declared.Stop.{Stop}
@@ -57,9 +57,9 @@ module _ {st l : List ℕ} (s : State) {i head tail : ℕ} {at : Surroundings} w
   lambda-seen r = record { top = s .top; thing = fromStxs (r .others); shown = r .shown-others; inside = omega (arith, r .within .room .fits); small = r .within .room .small }
 
   module _ {d : Two} (h : Double l tail d) where
-    pub lambda-shape : d ≡ two.Not → ExpandedLambda at st st l l s i head tail (Refused (record { refusal = NoRule; units = s .units }))
+    pub lambda-shape : {r : Answer} → d ≡ two.Not → r ≡ Refused (stopOf NoRule s) → ExpandedLambda at st st l l s i head tail r
     unfolding expandLambda
-    lambda-shape e = record { means = λ k y ps g u v w z. stops _ (not-parts2 ps _ (stateOf s (bindsOf st)) (on-not-two (h .means (s .top) ps w) e)) }
+    lambda-shape e same = rw same (record { means = λ k y ps g u v w z. stops _ (not-parts2 ps _ (stateOf s (bindsOf st)) (on-not-two (h .means (s .top) ps w) e)) })
 
     module _ {a b : ℕ} (e : d ≡ two.Are a b) where
       pub lambda-id-seen : ReadyForm l st (unpaid s) i head tail at → Seen l a
@@ -69,14 +69,14 @@ module _ {st l : List ℕ} (s : State) {i head tail : ℕ} {at : Surroundings} w
           record { top = s .top; thing = stx (q .first); shown = q .shown; inside = omega (arith, r .within .room .fits); small = r .within .room .small }
 
       module _ {z : Bool} (f : Identifies l a z) where
-        pub lambda-no-id : z ≡ false → ExpandedLambda at st st l l s i head tail (Refused (record { refusal = NoRule; units = s .units }))
+        pub lambda-no-id : {r : Answer} → z ≡ false → r ≡ Refused (stopOf NoRule s) → ExpandedLambda at st st l l s i head tail r
         unfolding expandLambda parts2
-        lambda-no-id t =
-            record {
+        lambda-no-id t same =
+            rw same (record {
               means = λ k y ps g u v w c.
                   let q = on-two (h .means (s .top) ps w) e in
                   rw (q .is) (stops _ (not-identifier (q .first) _ (stateOf s (bindsOf st)) (sym (f .means (s .top) (q .first) (q .shown)) ∙ t)));
-            }
+            })
 
         module _ (t : z ≡ true) where
           pub lambda-function-ready : ReadyForm l st (unpaid s) i head tail at → ReadyFunction l st (unpaid s) i head a b at

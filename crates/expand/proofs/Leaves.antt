@@ -23,7 +23,7 @@ use Rattle.things.specs.Rep.{Rep, is-var, is-app, is-fun, is-lst, is-datum, is-
 use Rattle.things.specs.Measuring.{Seen, SeenP}
 use Rattle.things.proofs.Frame.{below, carry}
 use Rattle.things.proofs.ByTag.{tag-is, tag-low}
-use Rattle.steps.specs.States.{Store, stateOf}
+use Rattle.steps.specs.States.{stopOf, Store, stateOf}
 use Rattle.steps.specs.Agreement as agr
 use Rattle.steps.specs.Agreement.{Later, ended, Gave, Agrees, gives, stops}
 use Rattle.steps.specs.declared.State.{State}
@@ -105,39 +105,39 @@ module _ {l st : List ℕ} (s : State) {i : ℕ} {at : Surroundings} (r : ReadyN
               });
         }
 
-    pub name-unknown : w ≡ meant.Unknown → ExpandedName at st l s i (Refused (record { refusal = NoMeaning; units = s .units }))
+    pub name-unknown : {r : Answer} → w ≡ meant.Unknown → r ≡ Refused (stopOf NoMeaning s) → ExpandedName at st l s i r
     unfolding expandName
-    name-unknown z =
-        record { means = λ c x e u k. stops _ (name-split (around e at) c x (stateOf s (bindsOf st)) ∙ then-ok _ (head-means (at .phase) e (stateOf s (bindsOf st)) (atom c (symbol x)) (on-unknown (p .means (s .top) (atom c (symbol x)) e u k) z))) }
+    name-unknown z same =
+        rw same (record { means = λ c x e u k. stops _ (name-split (around e at) c x (stateOf s (bindsOf st)) ∙ then-ok _ (head-means (at .phase) e (stateOf s (bindsOf st)) (atom c (symbol x)) (on-unknown (p .means (s .top) (atom c (symbol x)) e u k) z))) })
 
-    pub name-unclear : w ≡ meant.Unclear → ExpandedName at st l s i (Refused (record { refusal = Ambiguous; units = s .units }))
-    name-unclear z =
-        record { means = λ c x e u k. stops _ (name-split (around e at) c x (stateOf s (bindsOf st)) ∙ then-no _ (head-unclear (at .phase) e (stateOf s (bindsOf st)) (atom c (symbol x)) (on-meaning-unclear (p .means (s .top) (atom c (symbol x)) e u k) z))) }
+    pub name-unclear : {r : Answer} → w ≡ meant.Unclear → r ≡ Refused (stopOf Ambiguous s) → ExpandedName at st l s i r
+    name-unclear z same =
+        rw same (record { means = λ c x e u k. stops _ (name-split (around e at) c x (stateOf s (bindsOf st)) ∙ then-no _ (head-unclear (at .phase) e (stateOf s (bindsOf st)) (atom c (symbol x)) (on-meaning-unclear (p .means (s .top) (atom c (symbol x)) e u k) z))) })
 
-    pub name-lambda : w ≡ meant.Lambda → ExpandedName at st l s i (Refused (record { refusal = NoRule; units = s .units }))
+    pub name-lambda : {r : Answer} → w ≡ meant.Lambda → r ≡ Refused (stopOf NoRule s) → ExpandedName at st l s i r
     unfolding expandName
-    name-lambda z =
-        record { means = λ c x e u k. stops _ (name-split (around e at) c x (stateOf s (bindsOf st)) ∙ then-ok _ (head-means (at .phase) e (stateOf s (bindsOf st)) (atom c (symbol x)) (on-lambda (p .means (s .top) (atom c (symbol x)) e u k) z))) }
+    name-lambda z same =
+        rw same (record { means = λ c x e u k. stops _ (name-split (around e at) c x (stateOf s (bindsOf st)) ∙ then-ok _ (head-means (at .phase) e (stateOf s (bindsOf st)) (atom c (symbol x)) (on-lambda (p .means (s .top) (atom c (symbol x)) e u k) z))) })
 
-    pub name-let-syntax : w ≡ meant.LetSyntax → ExpandedName at st l s i (Refused (record { refusal = NoRule; units = s .units }))
+    pub name-let-syntax : {r : Answer} → w ≡ meant.LetSyntax → r ≡ Refused (stopOf NoRule s) → ExpandedName at st l s i r
     unfolding expandName
-    name-let-syntax z =
-        record { means = λ c x e u k. stops _ (name-split (around e at) c x (stateOf s (bindsOf st)) ∙ then-ok _ (head-means (at .phase) e (stateOf s (bindsOf st)) (atom c (symbol x)) (on-let-syntax (p .means (s .top) (atom c (symbol x)) e u k) z))) }
+    name-let-syntax z same =
+        rw same (record { means = λ c x e u k. stops _ (name-split (around e at) c x (stateOf s (bindsOf st)) ∙ then-ok _ (head-means (at .phase) e (stateOf s (bindsOf st)) (atom c (symbol x)) (on-let-syntax (p .means (s .top) (atom c (symbol x)) e u k) z))) })
 
-    pub name-quote : w ≡ meant.Quote → ExpandedName at st l s i (Refused (record { refusal = NoRule; units = s .units }))
+    pub name-quote : {r : Answer} → w ≡ meant.Quote → r ≡ Refused (stopOf NoRule s) → ExpandedName at st l s i r
     unfolding expandName
-    name-quote z =
-        record { means = λ c x e u k. stops _ (name-split (around e at) c x (stateOf s (bindsOf st)) ∙ then-ok _ (head-means (at .phase) e (stateOf s (bindsOf st)) (atom c (symbol x)) (on-quote (p .means (s .top) (atom c (symbol x)) e u k) z))) }
+    name-quote z same =
+        rw same (record { means = λ c x e u k. stops _ (name-split (around e at) c x (stateOf s (bindsOf st)) ∙ then-ok _ (head-means (at .phase) e (stateOf s (bindsOf st)) (atom c (symbol x)) (on-quote (p .means (s .top) (atom c (symbol x)) e u k) z))) })
 
-    pub name-syntax : w ≡ meant.Syntax → ExpandedName at st l s i (Refused (record { refusal = NoRule; units = s .units }))
+    pub name-syntax : {r : Answer} → w ≡ meant.Syntax → r ≡ Refused (stopOf NoRule s) → ExpandedName at st l s i r
     unfolding expandName
-    name-syntax z =
-        record { means = λ c x e u k. stops _ (name-split (around e at) c x (stateOf s (bindsOf st)) ∙ then-ok _ (head-means (at .phase) e (stateOf s (bindsOf st)) (atom c (symbol x)) (on-syntax (p .means (s .top) (atom c (symbol x)) e u k) z))) }
+    name-syntax z same =
+        rw same (record { means = λ c x e u k. stops _ (name-split (around e at) c x (stateOf s (bindsOf st)) ∙ then-ok _ (head-means (at .phase) e (stateOf s (bindsOf st)) (atom c (symbol x)) (on-syntax (p .means (s .top) (atom c (symbol x)) e u k) z))) })
 
-    pub name-macro : {v : ℕ} → w ≡ meant.Macro v → ExpandedName at st l s i (Refused (record { refusal = NoRule; units = s .units }))
+    pub name-macro : {v : ℕ} {r : Answer} → w ≡ meant.Macro v → r ≡ Refused (stopOf NoRule s) → ExpandedName at st l s i r
     unfolding expandName
-    name-macro z =
-        record { means = λ c x e u k. stops _ (name-split (around e at) c x (stateOf s (bindsOf st)) ∙ then-ok _ (head-means (at .phase) e (stateOf s (bindsOf st)) (atom c (symbol x)) (on-macro (p .means (s .top) (atom c (symbol x)) e u k) z .is))) }
+    name-macro z same =
+        rw same (record { means = λ c x e u k. stops _ (name-split (around e at) c x (stateOf s (bindsOf st)) ∙ then-ok _ (head-means (at .phase) e (stateOf s (bindsOf st)) (atom c (symbol x)) (on-macro (p .means (s .top) (atom c (symbol x)) e u k) z .is))) })
 
 -- ---- quote and syntax
 
@@ -147,9 +147,9 @@ module _ {l : List ℕ} (s : State) {i head tail : ℕ} (r : ReadyTail l (unpaid
   tail-seen = record { top = s .top; thing = fromStxs (r .others); shown = r .chain; inside = omega (arith, r .room .fits); small = r .room .small }
 
   module _ {d : One} (h : Single l tail d) where
-    pub quote-shape : d ≡ one.Not → ExpandedQuote l s i tail (Refused (record { refusal = NoRule; units = s .units }))
+    pub quote-shape : {r : Answer} → d ≡ one.Not → r ≡ Refused (stopOf NoRule s) → ExpandedQuote l s i tail r
     unfolding quoteRule
-    quote-shape e = record { means = λ b x ps u w. stops _ (not-parts1 ps _ (stateOf s b) (on-not-one (h .means (s .top) ps w) e)) }
+    quote-shape e same = rw same (record { means = λ b x ps u w. stops _ (not-parts1 ps _ (stateOf s b) (on-not-one (h .means (s .top) ps w) e)) })
 
     pub quote-is : {j : ℕ} → d ≡ one.Is j → ExpandedQuote l s i tail (Done (record { at = i; state = s }))
     unfolding quoteRule parts1 unpaid
@@ -160,9 +160,9 @@ module _ {l : List ℕ} (s : State) {i head tail : ℕ} (r : ReadyTail l (unpaid
               rw (q .is) (gives _ (record { value = x; is = refl; shown = record { rep = u; few = r .few }; later = unmade l s }));
         }
 
-    pub syntax-shape : {at : Surroundings} → d ≡ one.Not → ExpandedSyntax at l l s i head tail (Refused (record { refusal = NoRule; units = s .units }))
+    pub syntax-shape : {at : Surroundings} {r : Answer} → d ≡ one.Not → r ≡ Refused (stopOf NoRule s) → ExpandedSyntax at l l s i head tail r
     unfolding expandSyntax
-    syntax-shape e = record { means = λ b g k x ps u v w. stops _ (not-parts1 ps _ (stateOf s b) (on-not-one (h .means (s .top) ps w) e)) }
+    syntax-shape e same = rw same (record { means = λ b g k x ps u v w. stops _ (not-parts1 ps _ (stateOf s b) (on-not-one (h .means (s .top) ps w) e)) })
 
     module _ {j : ℕ} (e : d ≡ one.Is j) where
       pub pruned-ready : ReadyPruned l (unpaid s) i head j
@@ -289,9 +289,9 @@ pub back-inside : {l : List ℕ} {s : State} {i : ℕ} → ReadyBack l s i → i
 back-inside r = omega (arith, below (r .shown), r .room .fits)
 
 module _ {l : List ℕ} {s : State} {i : ℕ} {o : Node} (e : o ≡ getNode l i) where
-  pub back-none : {ph k : ℕ} → listTag < o .tag → Backs ph k l l s i (Refused (record { refusal = NoSyntax; units = s .units }))
+  pub back-none : {ph k : ℕ} {r : Answer} → listTag < o .tag → r ≡ Refused (stopOf NoSyntax s) → Backs ph k l l s i r
   unfolding backRule orNoSyntax
-  back-none h = record { means = λ b t w. stops (record { refusal = NoSyntax; units = s .units }) (rw (not-syntax w e h) refl) }
+  back-none h same = rw same (record { means = λ b t w. stops (record { refusal = NoSyntax; units = s .units }) (rw (not-syntax w e h) refl) })
 
   module _ (h : o .tag ≤ listTag) where
     pub back-ready : ReadyBack l s i → ReadyObject l s i

@@ -20,7 +20,7 @@ use Rattle.store.specs.Words.{bindsOf}
 use Rattle.things.specs.Rep.{Rep}
 use Rattle.things.specs.Measuring.{Seen, SeenP}
 use Rattle.things.proofs.Frame.{carry}
-use Rattle.steps.specs.States.{stateOf}
+use Rattle.steps.specs.States.{stopOf, stateOf}
 use Rattle.steps.specs.Agreement.{ended, Gave, Agrees, stops}
 use Rattle.steps.specs.declared.State.{State}
 use Rattle.steps.specs.declared.Stop.{Stop}
@@ -62,9 +62,9 @@ module _ {st l : List ℕ} (s : State) {tail : ℕ} {at : Surroundings} where
   let-seen r = record { top = s .top; thing = fromStxs (r .parts); shown = r .shown; inside = omega (arith, r .within .room .fits); small = r .within .room .small }
 
   module _ {d : Three} (h : Triple l tail d) where
-    pub let-shape : d ≡ three.Not → ExpandedLetSyntax at st st l l s tail (Refused (record { refusal = NoRule; units = s .units }))
+    pub let-shape : {r : Answer} → d ≡ three.Not → r ≡ Refused (stopOf NoRule s) → ExpandedLetSyntax at st st l l s tail r
     unfolding expandLetSyntax
-    let-shape e = record { means = λ ps g w z. stops _ (not-parts3 ps _ (stateOf s (bindsOf st)) (on-not-three (h .means (s .top) ps w) e)) }
+    let-shape e same = rw same (record { means = λ ps g w z. stops _ (not-parts3 ps _ (stateOf s (bindsOf st)) (on-not-three (h .means (s .top) ps w) e)) })
 
     module _ {a b c : ℕ} (e : d ≡ three.Are a b c) where
       pub let-id-seen : ReadyLet l st (unpaid s) tail at → Seen l a
@@ -74,14 +74,14 @@ module _ {st l : List ℕ} (s : State) {tail : ℕ} {at : Surroundings} where
           record { top = s .top; thing = stx (q .first); shown = q .shown; inside = omega (arith, r .within .room .fits); small = r .within .room .small }
 
       module _ {z : Bool} (f : Identifies l a z) where
-        pub let-no-id : z ≡ false → ExpandedLetSyntax at st st l l s tail (Refused (record { refusal = NoRule; units = s .units }))
+        pub let-no-id : {r : Answer} → z ≡ false → r ≡ Refused (stopOf NoRule s) → ExpandedLetSyntax at st st l l s tail r
         unfolding expandLetSyntax parts3
-        let-no-id t =
-            record {
+        let-no-id t same =
+            rw same (record {
               means = λ ps g w k.
                   let q = on-three (h .means (s .top) ps w) e in
                   rw (q .is) (stops _ (not-identifier (q .first) _ (stateOf s (bindsOf st)) (sym (f .means (s .top) (q .first) (q .shown)) ∙ t)));
-            }
+            })
 
         module _ (t : z ≡ true) where
           pub let-binding-ready : ReadyLet l st (unpaid s) tail at → ReadyBinding l st s a b c at

@@ -23,7 +23,7 @@ use Rattle.things.specs.declared.Made.{Made}
 use Rattle.things.proofs.Frame.{below, carry}
 use Rattle.things.proofs.Making.{made-list}
 use Rattle.things.proofs.Weighing.{nest-from}
-use Rattle.steps.specs.States.{stateOf, raisedTo}
+use Rattle.steps.specs.States.{stopOf, stateOf, raisedTo}
 use Rattle.steps.specs.Agreement.{Later, gives, stops}
 use Rattle.steps.specs.declared.State.{State}
 use Rattle.steps.specs.declared.Answer.{Answer}
@@ -92,9 +92,9 @@ module _ {l : List ℕ} {s : State} {i c : ℕ} (r : ReadyList l s i c) where
     unfolding nesting
     nests d ps w = ap suc (sym (nest-from ps) ∙ sym (k .means (s .top) (fromStxs ps) w .nesting))
 
-    pub list-deep : 64 ≤ ex .nesting → Lists l l s i c (Refused (record { refusal = TooDeep; units = s .units }))
+    pub list-deep : {r : Answer} → 64 ≤ ex .nesting → r ≡ Refused (stopOf TooDeep s) → Lists l l s i c r
     unfolding made mostNesting
-    list-deep h = record { means = λ b d qs ps u w. stops _ (then-no _ (unless-no ref.tooDeep (stateOf s b) (lt-leb (nesting (list d ps)) 64 (omega (arith, nests d ps w))))) }
+    list-deep h same = rw same (record { means = λ b d qs ps u w. stops _ (then-no _ (unless-no ref.tooDeep (stateOf s b) (lt-leb (nesting (list d ps)) 64 (omega (arith, nests d ps w))))) })
 
     pub list-made : {l1 : List ℕ} {m : Made} {z : State} → ex .nesting < 64 → Relisted l l1 (s .top) i c (m .at) (m .top) → z ≡ raisedTo (m .top) s
         → Lists l l1 s i c (Done (record { at = m .at; state = z }))

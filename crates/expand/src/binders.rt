@@ -32,18 +32,12 @@ pub fn lambda(
     ensures { λ r. ⌜ ExpandedLambda at (now (store .entry)) (now (store .exit)) (now (table .entry)) (now (table .exit)) s i head tail r ⌝ }
 {
     match forms::two_parts(table, tail) {
-        Two::Not => Answer::Refused(Stop {
-            refusal: Refusal::NoRule,
-            units: s.units,
-        }),
+        Two::Not => s.refuse(Refusal::NoRule),
         Two::Are(id, body) => {
             if forms::is_identifier(table, id) {
                 return function(table, store, s, i, head, id, body, at);
             }
-            Answer::Refused(Stop {
-                refusal: Refusal::NoRule,
-                units: s.units,
-            })
+            s.refuse(Refusal::NoRule)
         }
     }
 }
@@ -106,19 +100,13 @@ pub fn let_syntax(
     ensures { λ r. ⌜ ExpandedLetSyntax at (now (store .entry)) (now (store .exit)) (now (table .entry)) (now (table .exit)) s tail r ⌝ }
 {
     match forms::three_parts(table, tail) {
-        Three::Not => Answer::Refused(Stop {
-            refusal: Refusal::NoRule,
-            units: s.units,
-        }),
+        Three::Not => s.refuse(Refusal::NoRule),
         Three::Are(id, right, body) => {
             if forms::is_identifier(table, id) {
                 let n = binding(table, store, s, id, right, body, at);
                 return crate::in_place(table, store, n, at);
             }
-            Answer::Refused(Stop {
-                refusal: Refusal::NoRule,
-                units: s.units,
-            })
+            s.refuse(Refusal::NoRule)
         }
     }
 }

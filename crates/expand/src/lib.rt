@@ -13,7 +13,6 @@ use steps::Answer;
 use steps::Charged;
 use steps::Out;
 use steps::State;
-use steps::Stop;
 use table::Node;
 ghost use Rattle.parse.specs.Parsing.{unpaid};
 ghost use Rattle.parse.specs.Shown.{Held};
@@ -100,10 +99,7 @@ fn list(table: &mut [u32], store: &mut [u64], s: State, i: u32, c: u32, at: Surr
     ensures { λ r. ⌜ ExpandedList at (now (store .entry)) (now (store .exit)) (now (table .entry)) (now (table .exit)) s i c r ⌝ }
 {
     if c == 0 {
-        return Answer::Refused(Stop {
-            refusal: Refusal::NoRule,
-            units: s.units,
-        });
+        return s.refuse(Refusal::NoRule);
     }
     let x = table::get_cell(table, c);
     match environment::meaning_of(table, store, s.bindings, x.head, at.phase, at.meanings) {
@@ -114,10 +110,7 @@ fn list(table: &mut [u32], store: &mut [u64], s: State, i: u32, c: u32, at: Surr
         Meaning::Variable(_) => application(table, store, s, i, c, at),
         Meaning::Macro(v) => macro_use(table, store, s, i, v, at),
         Meaning::Unknown => application(table, store, s, i, c, at),
-        Meaning::Unclear => Answer::Refused(Stop {
-            refusal: Refusal::Ambiguous,
-            units: s.units,
-        }),
+        Meaning::Unclear => s.refuse(Refusal::Ambiguous),
     }
 }
 

@@ -3,7 +3,6 @@ use refusals::Refusal;
 use steps::Answer;
 use steps::Out;
 use steps::State;
-use steps::Stop;
 use table::Node;
 use things::Made;
 ghost use Rattle.expand.specs.Making.{Relistable, Relisted, Chainable, Chained, ReadyList, Lists, ReadyTwo, TwoLists, ReadyThree, ThreeLists};
@@ -41,10 +40,7 @@ pub fn listed(table: &mut [u32], s: State, i: u32, c: u32) -> Answer
 {
     let x = things::measure_parts(table, c);
     if State::MOST_NESTING <= x.nesting {
-        return Answer::Refused(Stop {
-            refusal: Refusal::TooDeep,
-            units: s.units,
-        });
+        return s.refuse(Refusal::TooDeep);
     }
     let m = relist(table, s.top, i, c);
     let state = s.raised(m.top);

@@ -7,7 +7,6 @@ use refusals::Refusal;
 use steps::Answer;
 use steps::Out;
 use steps::State;
-use steps::Stop;
 ghost use Rattle.parse.specs.Parsing.{unpaid};
 ghost use Rattle.expand.specs.Leaves.{ReadyName, ExpandedName, ReadyTail, ExpandedQuote, ExpandedSyntax, ReadyPruned, Pruned};
 
@@ -18,34 +17,13 @@ pub fn reference(table: &[u32], store: &[u64], s: State, i: u32, at: Surrounding
 {
     match environment::meaning_of(table, store, s.bindings, i, at.phase, at.meanings) {
         Meaning::Variable(v) => Answer::Done(Out { at: v, state: s }),
-        Meaning::Unknown => Answer::Refused(Stop {
-            refusal: Refusal::NoMeaning,
-            units: s.units,
-        }),
-        Meaning::Unclear => Answer::Refused(Stop {
-            refusal: Refusal::Ambiguous,
-            units: s.units,
-        }),
-        Meaning::Lambda => Answer::Refused(Stop {
-            refusal: Refusal::NoRule,
-            units: s.units,
-        }),
-        Meaning::LetSyntax => Answer::Refused(Stop {
-            refusal: Refusal::NoRule,
-            units: s.units,
-        }),
-        Meaning::Quote => Answer::Refused(Stop {
-            refusal: Refusal::NoRule,
-            units: s.units,
-        }),
-        Meaning::Syntax => Answer::Refused(Stop {
-            refusal: Refusal::NoRule,
-            units: s.units,
-        }),
-        Meaning::Macro(_) => Answer::Refused(Stop {
-            refusal: Refusal::NoRule,
-            units: s.units,
-        }),
+        Meaning::Unknown => s.refuse(Refusal::NoMeaning),
+        Meaning::Unclear => s.refuse(Refusal::Ambiguous),
+        Meaning::Lambda => s.refuse(Refusal::NoRule),
+        Meaning::LetSyntax => s.refuse(Refusal::NoRule),
+        Meaning::Quote => s.refuse(Refusal::NoRule),
+        Meaning::Syntax => s.refuse(Refusal::NoRule),
+        Meaning::Macro(_) => s.refuse(Refusal::NoRule),
     }
 }
 
@@ -55,10 +33,7 @@ pub fn quote(table: &[u32], s: State, i: u32, head: u32, tail: u32) -> Answer
     ensures { λ r. ⌜ ExpandedQuote (now (table .entry)) s i tail r ⌝ }
 {
     match forms::one_part(table, tail) {
-        One::Not => Answer::Refused(Stop {
-            refusal: Refusal::NoRule,
-            units: s.units,
-        }),
+        One::Not => s.refuse(Refusal::NoRule),
         One::Is(_) => Answer::Done(Out { at: i, state: s }),
     }
 }
@@ -76,10 +51,7 @@ pub fn syntax_form(
     ensures { λ r. ⌜ ExpandedSyntax at (now (table .entry)) (now (table .exit)) s i head tail r ⌝ }
 {
     match forms::one_part(table, tail) {
-        One::Not => Answer::Refused(Stop {
-            refusal: Refusal::NoRule,
-            units: s.units,
-        }),
+        One::Not => s.refuse(Refusal::NoRule),
         One::Is(x) => pruned(table, s, i, head, x, at),
     }
 }

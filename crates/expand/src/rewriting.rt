@@ -36,10 +36,7 @@ pub fn back(table: &mut [u32], s: State, i: u32, phase: u32, intro: Scope) -> An
 {
     let n = table::get_node(table, i);
     if Node::LIST < n.tag {
-        return Answer::Refused(Stop {
-            refusal: Refusal::NoSyntax,
-            units: s.units,
-        });
+        return s.refuse(Refusal::NoSyntax);
     }
     scoping::flip_in(table, s, i, phase, intro)
 }

@@ -3,7 +3,7 @@
 use numbers::Cursor;
 use refusals::Refusal;
 ghost use mathlib.Core.Path.{_≡_};
-ghost use Rattle.steps.specs.States.{raisedTo, chargeOf, enterOf};
+ghost use Rattle.steps.specs.States.{stopOf, raisedTo, chargeOf, enterOf};
 
 pub struct State {
     // The first free word of the table.
@@ -54,6 +54,16 @@ impl State {
         let mut s = self;
         s.top = top;
         s
+    }
+
+    // Refused here: what is left is not charged.
+    pub fn refuse(self, refusal: Refusal) -> Answer
+        ensures { λ r. ⌜ r ≡ Answer.Refused (stopOf refusal self) ⌝ }
+    {
+        Answer::Refused(Stop {
+            refusal,
+            units: self.units,
+        })
     }
 
     pub fn charge(self, n: u32) -> Charged

@@ -2,6 +2,7 @@ use borrow.Author.Needs.{needs}
 use Prim.Native.Nat.{ℕ}
 use Rattle.expand.proofs.Functions.{laws}
 use Rattle.expand.proofs.binders.function.Reads as function
+use Rattle.steps.proofs.State.refuse.Reads as refuse-reads
 use Rattle.forms.proofs.is_identifier.Reads as is-identifier-reads
 use Rattle.expand.proofs.binders.lambda.Reads as lambda
 use Rattle.forms.proofs.two_parts.Reads as two-parts-reads
@@ -11,13 +12,16 @@ use Rattle.expand.proofs.Functions.{lambda-function-ready}
 
 module _ (t : ℕ) where
   abbrev env : lts.Claims
-  env = (two-parts-reads.Asked, two-parts-reads.Learnt, is-identifier-reads.Asked, is-identifier-reads.Learnt, function-below t, function.Post)
+  env = (two-parts-reads.Asked, two-parts-reads.Learnt, refuse-reads.Asked, refuse-reads.Learnt, is-identifier-reads.Asked, is-identifier-reads.Learnt, function-below t, function.Post)
 
   two-parts-requires : lts.Need-two-parts-requires env (lambda-at t) lambda.Post
   two-parts-requires c κs = search (laws, needs)
 
   enum-told : lts.Need-enum-told env (lambda-at t) lambda.Post
   enum-told c = search (laws, needs)
+
+  refuse-requires : lts.Need-refuse-requires env (lambda-at t) lambda.Post
+  refuse-requires c κs = search (laws, needs)
 
   enum-known-id : lts.Need-enum-known-id env (lambda-at t) lambda.Post
   enum-known-id c = search (laws, needs)
@@ -37,6 +41,9 @@ module _ (t : ℕ) where
   returns : lts.Need-returns env (lambda-at t) lambda.Post
   returns c = search (laws, needs)
 
+  refuse-requires-2 : lts.Need-refuse-requires-2 env (lambda-at t) lambda.Post
+  refuse-requires-2 c κs = search (laws, needs)
+
   same-length-3 : lts.Need-same-length-3 env (lambda-at t) lambda.Post
   same-length-3 c = search (laws, needs)
 
@@ -53,12 +60,14 @@ module _ (t : ℕ) where
   closed = lts.spec env (lambda-at t) lambda.Post
       two-parts-requires
       enum-told
+      refuse-requires
       enum-known-id
       is-identifier-requires
       function-requires
       same-length
       same-length-2
       returns
+      refuse-requires-2
       same-length-3
       returns-2
       same-length-4

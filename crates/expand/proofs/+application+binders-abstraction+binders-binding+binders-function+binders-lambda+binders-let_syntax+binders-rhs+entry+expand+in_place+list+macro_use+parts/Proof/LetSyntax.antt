@@ -2,6 +2,7 @@ use borrow.Author.Needs.{needs}
 use Prim.Native.Nat.{ℕ}
 use Rattle.expand.proofs.Macros.{laws, let-binding-ready, let-less, let-next-ready}
 use Rattle.expand.proofs.binders.binding.Reads as binding
+use Rattle.steps.proofs.State.refuse.Reads as refuse-reads
 use Rattle.expand.proofs.in_place.Reads as in-place
 use Rattle.forms.proofs.is_identifier.Reads as is-identifier-reads
 use Rattle.expand.proofs.binders.let_syntax.Reads as let-syntax
@@ -11,13 +12,16 @@ use Rattle.expand.proofs.+application+binders-abstraction+binders-bindi
 
 module _ (t : ℕ) where
   abbrev env : lts.Claims
-  env = (three-parts-reads.Asked, three-parts-reads.Learnt, is-identifier-reads.Asked, is-identifier-reads.Learnt, binding-below t, binding.Post, in-place-below t, in-place.Post)
+  env = (three-parts-reads.Asked, three-parts-reads.Learnt, refuse-reads.Asked, refuse-reads.Learnt, is-identifier-reads.Asked, is-identifier-reads.Learnt, binding-below t, binding.Post, in-place-below t, in-place.Post)
 
   three-parts-requires : lts.Need-three-parts-requires env (let-syntax-at t) let-syntax.Post
   three-parts-requires c κs = search (laws, needs)
 
   enum-told : lts.Need-enum-told env (let-syntax-at t) let-syntax.Post
   enum-told c = search (laws, needs)
+
+  refuse-requires : lts.Need-refuse-requires env (let-syntax-at t) let-syntax.Post
+  refuse-requires c κs = search (laws, needs)
 
   enum-known-id : lts.Need-enum-known-id env (let-syntax-at t) let-syntax.Post
   enum-known-id c = search (laws, needs)
@@ -52,6 +56,9 @@ module _ (t : ℕ) where
   returns : lts.Need-returns env (let-syntax-at t) let-syntax.Post
   returns c = search (laws, needs)
 
+  refuse-requires-2 : lts.Need-refuse-requires-2 env (let-syntax-at t) let-syntax.Post
+  refuse-requires-2 c κs = search (laws, needs)
+
   same-length-3 : lts.Need-same-length-3 env (let-syntax-at t) let-syntax.Post
   same-length-3 c = search (laws, needs)
 
@@ -68,6 +75,7 @@ module _ (t : ℕ) where
   closed = lts.spec env (let-syntax-at t) let-syntax.Post
       three-parts-requires
       enum-told
+      refuse-requires
       enum-known-id
       is-identifier-requires
       binding-requires
@@ -75,6 +83,7 @@ module _ (t : ℕ) where
       same-length
       same-length-2
       returns
+      refuse-requires-2
       same-length-3
       returns-2
       same-length-4

@@ -2,6 +2,7 @@ use borrow.Author.Needs.{needs}
 use Prim.Native.Nat.{ℕ}
 use Rattle.expand.proofs.Entering.{laws, list-macro-ready, list-macro-held}
 use Rattle.expand.proofs.application.Reads as application
+use Rattle.steps.proofs.State.refuse.Reads as refuse-reads
 use Rattle.table.proofs.get_cell.Reads as get-cell-reads
 use Rattle.expand.proofs.binders.lambda.Reads as lambda
 use Rattle.expand.proofs.binders.let_syntax.Reads as let-syntax
@@ -15,7 +16,10 @@ use Rattle.expand.proofs.+application+binders-abstraction+binders-bindi
 
 module _ (t : ℕ) where
   abbrev env : lts.Claims
-  env = (get-cell-reads.Asked, get-cell-reads.Learnt, meaning-of-reads.Asked, meaning-of-reads.Learnt, lambda-below t, lambda.Post, let-syntax-below t, let-syntax.Post, quote-reads.Asked, quote-reads.Learnt, syntax-form-reads.Asked, syntax-form-reads.Learnt, application-below t, application.Post, macro-use-below t, macro-use.Post)
+  env = (refuse-reads.Asked, refuse-reads.Learnt, get-cell-reads.Asked, get-cell-reads.Learnt, meaning-of-reads.Asked, meaning-of-reads.Learnt, lambda-below t, lambda.Post, let-syntax-below t, let-syntax.Post, quote-reads.Asked, quote-reads.Learnt, syntax-form-reads.Asked, syntax-form-reads.Learnt, application-below t, application.Post, macro-use-below t, macro-use.Post)
+
+  refuse-requires : lts.Need-refuse-requires env (list-at t) list.Post
+  refuse-requires c κs = search (laws, needs)
 
   returns : lts.Need-returns env (list-at t) list.Post
   returns c = search (laws, needs)
@@ -75,6 +79,9 @@ module _ (t : ℕ) where
 
   enum-told-7 : lts.Need-enum-told-7 env (list-at t) list.Post
   enum-told-7 c = search (laws, needs)
+
+  refuse-requires-2 : lts.Need-refuse-requires-2 env (list-at t) list.Post
+  refuse-requires-2 c κs = search (laws, needs)
 
   same-length : lts.Need-same-length env (list-at t) list.Post
   same-length c = search (laws, needs)
@@ -150,6 +157,7 @@ module _ (t : ℕ) where
 
   pub closed : {M : Type 1} → lts.Closed env (list-at t) list.Post M
   closed = lts.spec env (list-at t) list.Post
+      refuse-requires
       returns
       get-cell-requires
       meaning-of-requires
@@ -168,6 +176,7 @@ module _ (t : ℕ) where
       enum-told-6
       application-requires-2
       enum-told-7
+      refuse-requires-2
       same-length
       same-length-2
       returns-2

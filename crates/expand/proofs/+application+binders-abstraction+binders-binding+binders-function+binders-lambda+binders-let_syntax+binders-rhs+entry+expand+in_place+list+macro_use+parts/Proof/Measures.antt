@@ -24,7 +24,7 @@ use Rattle.expand.proofs.parts.Reads as parts
 use Rattle.expand.proofs.parts.Kinds as parts-kinds
 use Rattle.expand.proofs.binders.rhs.Reads as rhs
 use Rattle.expand.proofs.binders.rhs.Kinds as rhs-kinds
-use Prim.Native.Nat.{ℕ, _<_, _+_, _*_, _^_}
+use Prim.Native.Nat.{ℕ, _<_, _+_, _*_}
 use borrow.Fn.Kinds.{In}
 use borrow.Fn.PlainCycle.{Measures, is, falls, and}
 use Rattle.expand.proofs.InPlace.{unitsOf}

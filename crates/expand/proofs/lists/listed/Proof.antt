@@ -6,6 +6,9 @@ use Rattle.expand.proofs.lists.listed.Tie as tie
 measure-parts-requires : tie.Need-measure-parts-requires
 measure-parts-requires c κs = search (laws, needs)
 
+refuse-requires : tie.Need-refuse-requires
+refuse-requires c κs = search (laws, needs)
+
 same-length : tie.Need-same-length
 same-length c = search (laws, needs)
 
@@ -29,6 +32,7 @@ listed-spec =
     tie.close
     (tie.spec
     measure-parts-requires
+    refuse-requires
     same-length
     returns
     relist-requires

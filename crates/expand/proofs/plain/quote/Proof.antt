@@ -9,6 +9,9 @@ one-part-requires c κs = search (laws, needs)
 enum-told : tie.Need-enum-told
 enum-told c = search (laws, needs)
 
+refuse-requires : tie.Need-refuse-requires
+refuse-requires c κs = search (laws, needs)
+
 enum-told-2 : tie.Need-enum-told-2
 enum-told-2 c = search (laws, needs)
 
@@ -19,4 +22,5 @@ returns-2 : tie.Need-returns-2
 returns-2 c = search (laws, needs)
 
 pub quote-spec : {M : Type 1} → statement M
-quote-spec = tie.close (tie.spec one-part-requires enum-told enum-told-2 returns returns-2)
+quote-spec =
+    tie.close (tie.spec one-part-requires enum-told refuse-requires enum-told-2 returns returns-2)

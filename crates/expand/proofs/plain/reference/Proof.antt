@@ -12,23 +12,44 @@ enum-known-v c = search (laws, needs)
 enum-told : tie.Need-enum-told
 enum-told c = search (laws, needs)
 
+refuse-requires : tie.Need-refuse-requires
+refuse-requires c κs = search (laws, needs)
+
 enum-told-2 : tie.Need-enum-told-2
 enum-told-2 c = search (laws, needs)
+
+refuse-requires-2 : tie.Need-refuse-requires-2
+refuse-requires-2 c κs = search (laws, needs)
 
 enum-told-3 : tie.Need-enum-told-3
 enum-told-3 c = search (laws, needs)
 
+refuse-requires-3 : tie.Need-refuse-requires-3
+refuse-requires-3 c κs = search (laws, needs)
+
 enum-told-4 : tie.Need-enum-told-4
 enum-told-4 c = search (laws, needs)
+
+refuse-requires-4 : tie.Need-refuse-requires-4
+refuse-requires-4 c κs = search (laws, needs)
 
 enum-told-5 : tie.Need-enum-told-5
 enum-told-5 c = search (laws, needs)
 
+refuse-requires-5 : tie.Need-refuse-requires-5
+refuse-requires-5 c κs = search (laws, needs)
+
 enum-told-6 : tie.Need-enum-told-6
 enum-told-6 c = search (laws, needs)
 
+refuse-requires-6 : tie.Need-refuse-requires-6
+refuse-requires-6 c κs = search (laws, needs)
+
 enum-told-7 : tie.Need-enum-told-7
 enum-told-7 c = search (laws, needs)
+
+refuse-requires-7 : tie.Need-refuse-requires-7
+refuse-requires-7 c κs = search (laws, needs)
 
 returns : tie.Need-returns
 returns c = search (laws, needs)
@@ -61,12 +82,19 @@ reference-spec =
     meaning-of-requires
     enum-known-v
     enum-told
+    refuse-requires
     enum-told-2
+    refuse-requires-2
     enum-told-3
+    refuse-requires-3
     enum-told-4
+    refuse-requires-4
     enum-told-5
+    refuse-requires-5
     enum-told-6
+    refuse-requires-6
     enum-told-7
+    refuse-requires-7
     returns
     returns-2
     returns-3

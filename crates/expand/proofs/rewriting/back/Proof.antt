@@ -6,6 +6,9 @@ use Rattle.expand.proofs.rewriting.back.Tie as tie
 get-node-requires : tie.Need-get-node-requires
 get-node-requires c κs = search (laws, needs)
 
+refuse-requires : tie.Need-refuse-requires
+refuse-requires c κs = search (laws, needs)
+
 same-length : tie.Need-same-length
 same-length c = search (laws, needs)
 
@@ -24,4 +27,11 @@ returns-2 c = search (laws, needs)
 pub back-spec : {M : Type 1} → statement M
 back-spec =
     tie.close
-    (tie.spec get-node-requires same-length returns flip-in-requires same-length-2 returns-2)
+    (tie.spec
+    get-node-requires
+    refuse-requires
+    same-length
+    returns
+    flip-in-requires
+    same-length-2
+    returns-2)
