@@ -12,16 +12,20 @@ unfoldable pub wordsFrom : ℕ → ℕ → List ℕ → ℕ → ℕ
 wordsFrom w zero l i = 0
 wordsFrom w (suc n) l i = wordsFrom w n l (suc i) * 2 ^ w + getD l i 0
 
--- a set is this many words of 64 bits: the code's ScopeSet::WORDS
+-- digits of a word
+abbrev pub wordDigits : ℕ
+wordDigits = 64
+
+-- a set is this many words: the code's ScopeSet::WORDS
 abbrev pub setWords : ℕ
 setWords = 4
 
 -- so it has a digit for this many scopes: the model's mostScopes
 abbrev pub setScopes : ℕ
-setScopes = setWords * 64
+setScopes = setWords * wordDigits
 
 abbrev pub scopesOf : ScopeSet → Scopes
-scopesOf s = wordsFrom 64 setWords (s .words) 0
+scopesOf s = wordsFrom wordDigits setWords (s .words) 0
 
 -- a scope's number is counted from 1
 pub record Declared (k : Scope) : Type 0 where
@@ -30,11 +34,11 @@ pub record Declared (k : Scope) : Type 0 where
 
 -- the digits of a word that are 1, counted from 1
 abbrev pub wordMembers : ℕ → List ℕ
-wordMembers w = membersFrom 64 1 w
+wordMembers w = membersFrom wordDigits 1 w
 
 -- q is the lowest digit in which two words differ
 pub record Differing (a b q : ℕ) : Type 0 where
-  pub inside : q < 64
+  pub inside : q < wordDigits
   pub below : a % 2 ^ q ≡ b % 2 ^ q
   pub there : a / 2 ^ q % 2 ≡ b / 2 ^ q % 2 → ⊥
 

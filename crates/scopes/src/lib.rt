@@ -6,7 +6,7 @@ ghost use lib.ListN.{length};
 ghost use lib.Dec.{eqb};
 ghost use lib.Bits.{bitOr};
 ghost use Rattle.model.specs.Scopes as model;
-ghost use Rattle.scopes.specs.Sets.{setWords, setScopes, mostLong, scopesOf, wordMembers, longMembers, Declared, Differing};
+ghost use Rattle.scopes.specs.Sets.{wordDigits, setWords, setScopes, mostLong, scopesOf, wordMembers, longMembers, Declared, Differing};
 
 // Scope numbers, name numbers and point numbers are separate countings: a name never serves as a scope.
 pub struct Scope(pub u32);
@@ -163,8 +163,8 @@ impl ScopeSet {
 
     // A member has digit q of word i or a higher one.
     fn reaches(self, i: usize, q: u32) -> bool
-        requires { ⌜ (i < setWords) × (q < 64) ⌝ }
-        ensures { λ r. ⌜ r ≡ not (eqb (scopesOf self / 2 ^ (i * 64 + q)) 0) ⌝ }
+        requires { ⌜ (i < setWords) × (q < wordDigits) ⌝ }
+        ensures { λ r. ⌜ r ≡ not (eqb (scopesOf self / 2 ^ (i * wordDigits + q)) 0) ⌝ }
     {
         if self.words[i] >> q != 0 {
             return true;
@@ -202,7 +202,7 @@ impl ScopeSet {
 
 // How many digits of a word are 1. What is left of it is halved, so that the walk ends at the last.
 fn ones(word: u64) -> u32
-    ensures { λ r. ⌜ (r ≡ length (wordMembers word)) × (r ≤ 64) ⌝ }
+    ensures { λ r. ⌜ (r ≡ length (wordMembers word)) × (r ≤ wordDigits) ⌝ }
 {
     let mut rest = word;
     let mut n: u32 = 0;

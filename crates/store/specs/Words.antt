@@ -4,7 +4,7 @@ use mathlib.Core.List.{List, [], _∷_, _++_}
 use Prim.Native.Nat.{ℕ, zero, suc, _+_, _-_, _*_, _%_, _≤_, _<_}
 use lib.ListN.{getD, length}
 use Rattle.model.specs.Resolving.{Bind, insert}
-use Rattle.scopes.specs.Sets.{scopesOf, wordsFrom, setWords}
+use Rattle.scopes.specs.Sets.{scopesOf, wordsFrom, wordDigits, setWords}
 use Rattle.store.specs.declared.bindings.Binding.{Binding}
 use Rattle.store.specs.Sizes.{bindingSize}
 
@@ -16,7 +16,7 @@ unfoldable pub bindAt : List ℕ → ℕ → Bind
 bindAt l i = record {
   symb = getD l (i * bindingSize) 0 % 4294967296;
   target = getD l (i * bindingSize + 1) 0 % 4294967296;
-  set = wordsFrom 64 setWords l (i * bindingSize + 2);
+  set = wordsFrom wordDigits setWords l (i * bindingSize + 2);
 }
 
 -- n bindings from place i on

@@ -5,16 +5,11 @@ use Prim.Native.Nat.{ℕ, _+_, _≤_, _<_, min}
 use Rattle.model.specs.Objects as m
 use Rattle.model.specs.Objects.{Atom, tagOf, contentOf, Stxs, atom, list}
 use Rattle.model.specs.Trees.{Tree, Trees, var, app, fun, datum, lst, stx, tnil, tcons, fromStxs, tsize, tnesting, tnestings}
-use Rattle.scopes.specs.Sets.{scopesOf}
 use Rattle.table.specs.Tags.{listTag, variableTag, applicationTag, functionTag, listValueTag, atomValueTag}
 use Rattle.table.specs.Words.{getNode, getSets, getBody, getCell}
-use Rattle.table.specs.declared.Sets.{Sets}
+pub use Rattle.table.specs.Words.{setsOf}
 use Rattle.things.specs.Weights.{tsizes, weights}
 use Rattle.table.specs.Sizes.{cellSize, nodeSize, mostSize}
-
--- the sets that an object's words are
-abbrev pub setsOf : Sets → m.Sets
-setsOf c = record { at0 = scopesOf (c .at0); at1 = scopesOf (c .at1); at2 = scopesOf (c .at2) }
 
 -- Index i of the table l stands for a tree, all of it below top; and c for a chain of trees. What a node or cell points to lies below that
 -- node or cell: so there are no circles, and what is made later changes nothing.
