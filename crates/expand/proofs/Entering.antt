@@ -19,7 +19,7 @@ use Rattle.table.specs.declared.Cell.{Cell}
 use Rattle.things.specs.Rep.{Rep, is-atom, is-list}
 use Rattle.things.specs.Measuring.{Seen}
 use Rattle.things.proofs.Frame.{below}
-use Rattle.things.proofs.ByTag.{tag-is, atom-at, list-at, stx-tag}
+use Rattle.things.proofs.ByTag.{tag-is, atom-at, list-at, stx-tag, same-object}
 use Rattle.steps.specs.States.{stopOf, Store, stateOf, enterOf}
 use Rattle.steps.specs.Agreement.{Ended, ended, Agrees, gives, stops}
 use Rattle.steps.specs.declared.State.{State}
@@ -91,9 +91,6 @@ enter-stops {at} {st} {s} {f = f} h e =
 
 -- ---- an entry by its tag
 
-stx-is : {a b : Stx} → stx a ≡ stx b → a ≡ b
-stx-is e = cc
-
 pub node-inside : {l st : List ℕ} (s : State) {i : ℕ} {at : Surroundings} → Ready l st (unpaid s) i at → i + nodeSize ≤ length l
 unfolding unpaid
 node-inside s r = omega (arith, below (r .shown), r .within .room .fits)
@@ -121,7 +118,7 @@ module _ {st l : List ℕ} (s : State) {i : ℕ} {at : Surroundings} {o : Node} 
   module _ {l1 : List ℕ} {r : Answer} where
     pub entry-list : {st1 : List ℕ} → o .tag ≡ listTag → ExpandedList at st st1 l l1 s i (o .content) r → ExpandedEntry at st st1 l l1 s i r
     entry-list h a =
-        record { means = λ x g w k. let q = list-at w e h in rw (stx-is (q .is)) (a .means (q .sets) (q .parts) g (rw (q .is) at w) (q .shown) k) }
+        record { means = λ x g w k. let q = list-at w e h in rw (same-object (q .is)) (a .means (q .sets) (q .parts) g (rw (q .is) at w) (q .shown) k) }
 
   pub entry-name : {r : Answer} → o .tag ≡ 0 → ExpandedName at st l s i r → ExpandedEntry at st st l l s i r
   entry-name h a =
@@ -139,9 +136,9 @@ module _ {st l : List ℕ} (s : State) {i : ℕ} {at : Surroundings} {o : Node} 
         means = λ x g w k.
             let q = atom-at w e (omega (arith, stx-tag w e, n5)) in
             let rule : expandEntry (entries (at .left)) (at .left) (around g at) x (stateOf s (bindsOf st)) ≡ ok x (stateOf s (bindsOf st)) =
-            ap (λ (v : Stx). expandEntry (entries (at .left)) (at .left) (around g at) v (stateOf s (bindsOf st))) (stx-is (q .is))
+            ap (λ (v : Stx). expandEntry (entries (at .left)) (at .left) (around g at) v (stateOf s (bindsOf st))) (same-object (q .is))
             ∙ entry-atom (entries (at .left)) (at .left) (around g at) (stateOf s (bindsOf st)) (q .sets) (q .value) (λ t. n0 (q .tag ∙ t))
-            ∙ ap (λ (v : Stx). ok v (stateOf s (bindsOf st))) (sym (stx-is (q .is))) in
+            ∙ ap (λ (v : Stx). ok v (stateOf s (bindsOf st))) (sym (same-object (q .is))) in
             gives _ (record {
               value = x;
               is = rule;

@@ -1,5 +1,5 @@
 -- Laws of the last step.
-use Prim.Native.Nat.{ℕ, zero, suc, _+_, _-_, _*_, _≤_, _<_, min}
+use Prim.Native.Nat.{ℕ, _+_, _-_, _*_, _≤_, _<_, min}
 use mathlib.Core.Path.{_≡_, refl, sym, ap, _∙_, subst}
 use mathlib.Core.List.{List, _++_}
 use mathlib.Core.Logic.{_⊎_, inl, inr}
@@ -12,14 +12,14 @@ use borrow.Author.Tests.{ltb-true, ltb-false}
 use mir.Syntax.{w64}
 use mir.Val.{Fits}
 use Rattle.model.specs.Objects.{Stx}
-use Rattle.model.specs.Trees.{Tree, stx}
 use Rattle.model.specs.Resolving.{Bind}
 use Rattle.model.specs.Reading as m
 use Rattle.model.specs.Writing.{numBytes, headBytes, bindsBytes, stxBytes, treeBytes}
 use Rattle.refusals.specs.declared.Refusal.the-variants as refusal
 use Rattle.numbers.proofs.Writing.{num-short}
+use Rattle.store.proofs.Runs.{binds-length}
 use Rattle.store.specs.Sizes.{bindingSize}
-use Rattle.store.specs.Words.{bindsFrom, bindsOf}
+use Rattle.store.specs.Words.{bindsOf}
 use Rattle.things.specs.Rep.{Rep}
 use Rattle.steps.specs.declared.State.{State}
 use Rattle.steps.specs.declared.Out.{Out}
@@ -29,7 +29,6 @@ use Rattle.writer.specs.Counting.{Countable, Counts, CountsObject}
 use Rattle.writer.specs.Putting as w
 use Rattle.writer.specs.Putting.{Wrote, Puts, PutsObject}
 use Rattle.writer.proofs.Putting.{run}
-use Rattle.finish.specs.declared.Ending.{Ending}
 use Rattle.finish.specs.declared.Ending.the-variants.{Refused, Written}
 use Rattle.finish.specs.Headings.{headAfter, Longer, HeadLength, Fitting, PutsHead}
 use Rattle.finish.specs.Finishing as spec
@@ -134,22 +133,13 @@ pub ruleset put-laws = (head-fits, tree-fits, tree-put)
 
 -- ---- a syntax image: its bindings
 
-from-count : (store : List ℕ) (i n : ℕ) → length (bindsFrom store i n) ≡ n
-unfolding bindsFrom
-from-count store i zero = refl
-from-count store i (suc n) = ap suc (from-count store (suc i) n)
-
-count-is : (store : List ℕ) (count : ℕ) → length (bindsOf store count) ≡ count
-unfolding bindsOf
-count-is store count = from-count store 0 count
-
 -- what stands in front of the root, whose first `count` bindings are in the store
 front-long : (store : List ℕ) (count : ℕ) (h : m.Head)
     → length (syntaxFront (bindsOf store count) h) ≡ length (headBytes 1 h) + length (numBytes count) + length (bindsBytes (bindsOf store count))
 front-long store count h =
     let a = length-append (headBytes 1 h ++ numBytes (length (bindsOf store count))) (bindsBytes (bindsOf store count)) in
     let b = length-append (headBytes 1 h) (numBytes (length (bindsOf store count))) in
-    let n = ap (λ (k : ℕ). length (numBytes k)) (count-is store count) in
+    let n = ap (λ (k : ℕ). length (numBytes k)) (binds-length store count) in
     omega arith
 
 module _ {store : List ℕ} {t : State} (y : Held store t) where
@@ -230,7 +220,7 @@ syntax-put s f store l o out {out₁} {out₂} {out₃} {behind = behind} {first
   means = λ g x shown fits.
       let bs = bindsOf store (o .state .bindings) in
       let two : Wrote (numBytes (o .state .bindings)) out₁ out₂ behind first = record { past-is = e₂; out-is = o₂ } in
-      let two′ : Wrote (numBytes (length bs)) out₁ out₂ behind first = subst (λ (k : ℕ). Wrote (numBytes k) out₁ out₂ behind first) (sym (count-is store (o .state .bindings))) two in
+      let two′ : Wrote (numBytes (length bs)) out₁ out₂ behind first = subst (λ (k : ℕ). Wrote (numBytes k) out₁ out₂ behind first) (sym (binds-length store (o .state .bindings))) two in
       let three : Wrote (bindsBytes bs) out₂ out₃ first root = record { past-is = e₃; out-is = o₃ } in
       from-start (run (run (run (p .means g) two′) three) (q .means (o .state .top) x shown)) fits;
 }

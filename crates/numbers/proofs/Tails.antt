@@ -87,7 +87,7 @@ pub data Shrinks {A : Type 0} (s : List ℕ) : Read A → Type 0 where
   shrinks-got : {a : A} {rest : List ℕ} → length rest < length s → Shrinks s (got a rest)
   shrinks-fault : {r : Refusal} → Shrinks s (fault r)
 
-behind-short : {s rest : List ℕ} → Behind s rest → length rest ≤ length s
+pub behind-short : {s rest : List ℕ} → Behind s rest → length rest ≤ length s
 behind-short {s} {rest} b = let l : length rest ≡ length s - b .by = ap length (b .is) ∙ length-drop (b .by) s in omega arith
 
 shrinks-by : {A : Type 0} {s t : List ℕ} {g : Read A} → length t < length s → Tail t g → Shrinks s g

@@ -1,16 +1,16 @@
 -- What is left after a measuring is a tail, and what was measured is no larger than the bytes taken.
 use Prim.Native.Nat.{ℕ, zero, suc, _+_, _-_, _≤_}
-use mathlib.Core.Path.{_≡_, ap, _∙_}
+use mathlib.Core.Path.{_≡_, ap}
 use mathlib.Core.Bool.{Bool, true, false}
 use mathlib.Core.List.{List}
 use native.Mathlib.Omega.{arith}
 use lib.Dec.{eqb}
-use lib.ListN.{length, length-drop}
+use lib.ListN.{length}
 use Rattle.model.specs.Limits.{lastPoint, lastPrimitive, lastRungWord}
 use Rattle.model.specs.Refusals.{Refusal, layout, overLimit}
 use Rattle.model.specs.Reading as m
 use Rattle.model.specs.Reading.{Reader, got, fault, next}
-use Rattle.numbers.proofs.Tails.{Behind, Tail, tail-got, tail-fault, tail-give, tail-next, num-tail, up-to-tail, below-tail, Shrinks, shrinks-got, shrinks-fault, shrinks-next, up-to-shrinks}
+use Rattle.numbers.proofs.Tails.{Tail, tail-got, tail-fault, tail-give, tail-next, num-tail, up-to-tail, below-tail, Shrinks, shrinks-got, shrinks-fault, shrinks-next, up-to-shrinks, behind-short}
 use Rattle.sets.proofs.Reading.{sets-tail}
 use Rattle.roots.specs.MeasuredObjects.{readContentOf, readTop, measureParts, measureContent, measureStx}
 
@@ -55,15 +55,12 @@ pub data Sized (a : ℕ) (s : List ℕ) : m.Read ℕ → Type 0 where
   sized-got : {n : ℕ} {rest : List ℕ} → n + length rest ≤ a + length s → Sized a s (got n rest)
   sized-fault : {r : Refusal} → Sized a s (fault r)
 
-pub tail-short : {s rest : List ℕ} → Behind s rest → length rest ≤ length s
-tail-short {s} {rest} b = let l : length rest ≡ length s - b .by = ap length (b .is) ∙ length-drop (b .by) s in omega arith
-
 sized-more : {a b : ℕ} {s t : List ℕ} {g : m.Read ℕ} → a + length t ≤ b + length s → Sized a t g → Sized b s g
 sized-more {b = b} {s = s} h (sized-got {n = n} {rest = rest} l) = let k : n + length rest ≤ b + length s = omega arith in sized-got k
 sized-more h sized-fault = sized-fault
 
 sized-next : {A : Type 0} {a : ℕ} {s : List ℕ} {g : m.Read A} (f : A → Reader ℕ) → Tail s g → ((x : A) (t : List ℕ) → Sized a t (f x t)) → Sized a s (next g f)
-sized-next {a = a} {s = s} f (tail-got {a = x} {rest = t} b) h = let l = tail-short b in let k : a + length t ≤ a + length s = omega arith in sized-more k (h x t)
+sized-next {a = a} {s = s} f (tail-got {a = x} {rest = t} b) h = let l = behind-short b in let k : a + length t ≤ a + length s = omega arith in sized-more k (h x t)
 sized-next f tail-fault h = sized-fault
 
 sized-shrunk : {A : Type 0} {a : ℕ} {s : List ℕ} {g : m.Read A} (f : A → Reader ℕ) → Shrinks s g → ((x : A) (t : List ℕ) → Sized (suc a) t (f x t)) → Sized a s (next g f)

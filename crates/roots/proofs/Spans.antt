@@ -1,16 +1,16 @@
 -- What is left after a measuring is a tail, and a tree is no larger than the bytes taken.
 use Prim.Native.Nat.{ℕ, zero, suc, _+_, _-_, _≤_}
-use mathlib.Core.Path.{_≡_, ap, _∙_}
+use mathlib.Core.Path.{_≡_, ap}
 use mathlib.Core.Bool.{Bool, true, not}
 use mathlib.Core.List.{List}
 use native.Mathlib.Omega.{arith}
 use lib.Dec.{eqb, leb}
-use lib.ListN.{length, getD, set, length-drop}
+use lib.ListN.{length, getD, set}
 use Rattle.model.specs.Refusals.{Refusal, layout}
 use Rattle.model.specs.Reading as m
 use Rattle.model.specs.Reading.{Reader, got, fault, next}
-use Rattle.numbers.proofs.Tails.{Behind, Tail, tail-got, tail-fault, tail-give, tail-next, tail-need, num-tail, below-tail, Shrinks, shrinks-got, shrinks-fault, num-shrinks}
-use Rattle.roots.proofs.ObjectSizes.{content-tail, object-tail, tail-short, Sized, sized-got, sized-fault, object-sized}
+use Rattle.numbers.proofs.Tails.{Tail, tail-got, tail-fault, tail-give, tail-next, tail-need, num-tail, below-tail, Shrinks, shrinks-got, shrinks-fault, num-shrinks, behind-short}
+use Rattle.roots.proofs.ObjectSizes.{content-tail, object-tail, Sized, sized-got, sized-fault, object-sized}
 use Rattle.head.specs.declared.Counts.{Counts}
 use Rattle.roots.specs.declared.Extent.{Extent}
 use Rattle.roots.specs.Measuring.{nothing, oneMore, joined, measureVariable, measureAtom, measureObject, measureAll, measureSeveral, functionWith, bodyWith, measureTree}
@@ -79,7 +79,7 @@ spans-more {b = b} {s = s} h (spans-got {e = e} {rest = rest} l) = let k : e .si
 spans-more h spans-fault = spans-fault
 
 spans-next : {A : Type 0} {a : ℕ} {s : List ℕ} {g : m.Read A} (f : A → Reader Extent) → Tail s g → ((x : A) (t : List ℕ) → Spans a t (f x t)) → Spans a s (next g f)
-spans-next {a = a} {s = s} f (tail-got {a = x} {rest = t} b) h = let l = tail-short b in let k : a + length t ≤ a + length s = omega arith in spans-more k (h x t)
+spans-next {a = a} {s = s} f (tail-got {a = x} {rest = t} b) h = let l = behind-short b in let k : a + length t ≤ a + length s = omega arith in spans-more k (h x t)
 spans-next f tail-fault h = spans-fault
 
 spans-shrunk : {A : Type 0} {a : ℕ} {s : List ℕ} {g : m.Read A} (f : A → Reader Extent) → Shrinks s g → ((x : A) (t : List ℕ) → Spans (suc a) t (f x t)) → Spans a s (next g f)
