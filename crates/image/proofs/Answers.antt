@@ -6,7 +6,7 @@ use native.Mathlib.Omega.{arith}
 use lib.ListN.{length, drop}
 use Rattle.model.specs.Resolving.{Bind}
 use Rattle.model.specs.Reading as m
-use Rattle.model.specs.Reading.{Read, got, fault, next, Image, readHead, readImage}
+use Rattle.model.specs.Reading.{Read, got, fault, next, readHead, readImage}
 use Rattle.refusals.specs.Refusing.{refusalOf}
 use Rattle.refusals.specs.declared.Refusal.{Refusal}
 use Rattle.refusals.specs.declared.Refusal.the-variants as refusal

@@ -5,7 +5,7 @@ use mathlib.Core.List.{List, [], _∷_, _++_}
 use native.Mathlib.Omega.{arith}
 use lib.ListN.{length, drop, getD, length-drop, length-append}
 use lib.Seq.{drop-at}
-use mir.Syntax.{w8, w32}
+use mir.Syntax.{w8}
 use mir.Val.{Fits}
 use Rattle.model.specs.Limits.{mostNames, mostScopes, coreNames, mostImage}
 use Rattle.model.specs.Refusals.{overLimit}

@@ -12,7 +12,7 @@ use Rattle.model.specs.Refusals as r
 use Rattle.model.specs.Objects.{Stx, size}
 use Rattle.model.specs.Resolving.{Bind}
 use Rattle.model.specs.Reading as m
-use Rattle.model.specs.Reading.{Read, got, fault, next, Image, symbols, atEnd, readHead, readBinds, readStx, readSyntax, readImage}
+use Rattle.model.specs.Reading.{Read, got, fault, next, Image, symbols, atEnd, readHead, readBinds, readStx, readSyntax}
 use Rattle.refusals.specs.Refusing.{refusalOf}
 use Rattle.refusals.specs.declared.Refusal.{Refusal}
 use Rattle.numbers.specs.declared.Cursor.{Cursor}

@@ -1,6 +1,6 @@
 -- The whole tree image: one law for each way out.
 use Prim.Native.Nat.{ℕ, _+_, _-_, _≤_, _<_}
-use mathlib.Core.Path.{_≡_, refl, sym, ap, _∙_, subst}
+use mathlib.Core.Path.{_≡_, refl, sym, ap, _∙_}
 use mathlib.Core.List.{List, []}
 use native.Mathlib.Omega.{arith}
 use lib.ListN.{length, drop, getD, length-drop}
@@ -11,7 +11,7 @@ use mathlib.Core.Bool.{true, false}
 use Rattle.model.specs.Refusals as r
 use Rattle.model.specs.Trees.{Tree, loadSize}
 use Rattle.model.specs.Reading as m
-use Rattle.model.specs.Reading.{Read, Reader, got, fault, next, Image, atEnd, readHead, readTree, readTreeImage, readImage}
+use Rattle.model.specs.Reading.{Read, Reader, got, fault, next, Image, atEnd, readHead, readTree, readTreeImage}
 use Rattle.model.specs.Jobs.{closed}
 use Rattle.refusals.specs.Refusing.{refusalOf}
 use Rattle.refusals.specs.declared.Refusal.{Refusal}

@@ -4,9 +4,8 @@ use mathlib.Core.Path.{_≡_, sym, ap, _∙_, subst}
 use mathlib.Core.List.{List}
 use native.Mathlib.Omega.{arith}
 use lib.ListN.{length}
-use Rattle.model.specs.Trees.{Tree, stx}
+use Rattle.model.specs.Trees.{Tree}
 use Rattle.model.specs.Resolving.{Bind}
-use Rattle.model.specs.Objects.{Stx}
 use Rattle.model.specs.Steps as m
 use Rattle.model.specs.Steps.{Step}
 use Rattle.model.specs.Jobs as jobs

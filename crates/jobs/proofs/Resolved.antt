@@ -5,14 +5,13 @@ use mathlib.Core.List.{List, []}
 use native.Mathlib.Omega.{arith}
 use lib.ListN.{length, drop, length-drop}
 use borrow.Author.Tests.{le-leb, lt-leb}
-use Rattle.model.specs.Limits.{mostNesting, coreNames, lastPhase}
+use Rattle.model.specs.Limits.{coreNames, lastPhase}
 use Rattle.model.specs.Refusals.{noRule, ambiguous}
 use Rattle.model.specs.Scopes.{Scopes}
 use Rattle.model.specs.Objects.{symbol, number, point, prim, rung, setAt, Stx, atom, list}
 use Rattle.model.specs.Resolving as r
 use Rattle.model.specs.Resolving.{Bind, means, several, resolve}
 use Rattle.model.specs.Reading.{symbols}
-use Rattle.model.specs.Steps as s
 use Rattle.model.specs.Steps.{identifier, resolveAt, nameOf}
 use Rattle.model.specs.Jobs as m
 use Rattle.model.specs.Jobs.{atPhase, worked, outputAfter, resolveRoot, resolveEnding}
@@ -36,7 +35,7 @@ use Rattle.head.specs.declared.Counts.{Counts}
 use Rattle.head.specs.Heads.{declares}
 use Rattle.finish.specs.declared.Ending.{Ending}
 use Rattle.finish.specs.declared.Ending.the-variants.{Refused, Named, Written}
-use Rattle.finish.specs.Ends.{endingOf, lengthOf, EndsAs}
+use Rattle.finish.specs.Ends.{endingOf, EndsAs}
 use Rattle.finish.proofs.Ends.{ends-refused}
 use Rattle.image.specs.declared.Judgement.{Judgement}
 use Rattle.image.specs.declared.Judged.{Judged}

@@ -22,7 +22,7 @@ use Rattle.steps.specs.declared.Answer.{Answer}
 use Rattle.steps.specs.declared.Answer.the-variants.{Done, Refused}
 use Rattle.steps.specs.States.{stateOf, raisedTo, Room}
 use Rattle.steps.specs.Agreement as agreement
-use Rattle.steps.specs.Agreement.{placed, ended, Agrees}
+use Rattle.steps.specs.Agreement.{ended, Agrees}
 use Rattle.steps.proofs.Laws.{room-later, on-done, on-refused}
 use Rattle.table.specs.Sizes.{twoCells}
 use Rattle.things.specs.Rep.{Rep}

@@ -3,10 +3,10 @@ use Prim.Native.Nat.{ℕ, _-_, _≤_}
 use mathlib.Core.Path.{_≡_}
 use mathlib.Core.List.{List}
 use Rattle.model.specs.Objects.{Stx}
-use Rattle.model.specs.Trees.{Tree, stx}
+use Rattle.model.specs.Trees.{Tree}
 use Rattle.model.specs.Resolving.{Bind}
 use Rattle.model.specs.Reading as m
-use Rattle.model.specs.Reading.{Image, readImage}
+use Rattle.model.specs.Reading.{readImage}
 use Rattle.model.specs.Steps as r
 use Rattle.model.specs.Steps.{Step, ok, no, after, charge, identifier, resolveAt}
 use Rattle.model.specs.Evaluating.{evaluate}

@@ -1,8 +1,8 @@
 -- From how the work ends to the whole result: answer, output and table.
 use Prim.Native.Nat.{ℕ, _+_, _*_, _≤_, _<_}
 use mathlib.Core.Path.{_≡_, refl, sym, ap, _∙_, subst}
-use mathlib.Core.List.{List, [], _++_}
-use mathlib.Core.Bool.{Bool, true, false, _&&_}
+use mathlib.Core.List.{List, _++_}
+use mathlib.Core.Bool.{false}
 use native.Mathlib.Omega.{arith}
 use lib.ListN.{length, take, drop, replicate}
 use lib.Seq.{drop-at, length-take-le}
@@ -13,7 +13,7 @@ use mir.Val.{Fits}
 use Rattle.model.specs.Limits.{mostBudget, wordsPerUnit}
 use Rattle.model.specs.Refusals.{codeOf, smallTable}
 use Rattle.model.specs.Jobs as m
-use Rattle.model.specs.Jobs.{answerOf, outputAfter, cleared, budgetFits, lent}
+use Rattle.model.specs.Jobs.{answerOf, cleared, budgetFits, lent}
 use Rattle.refusals.specs.declared.Refusal.{Refusal}
 use Rattle.refusals.specs.Refusing.{refusalOf}
 use Rattle.table.specs.Lending.{Lent}
