@@ -17,7 +17,7 @@ use Rattle.steps.specs.Agreement.{Shape, placed, Ended, done, refused, ended, A
 use Rattle.evaluate.specs.declared.Values.{Values}
 use Rattle.evaluate.specs.declared.Gathered.{Gathered}
 use Rattle.evaluate.specs.declared.Gathered.the-variants.{All, Refused}
-use Rattle.table.specs.Sizes.{unitSize}
+use Rattle.table.specs.Sizes.{unitSize, mostSize}
 
 -- ---- what is asked
 
@@ -51,7 +51,7 @@ pub record ReadyFunction (l : List ℕ) (s : State) (body : Body) (x : ℕ) : Ty
   pub value : Tree
   pub shown : Rep l (s .top) (body .at) thing
   pub given : Rep l (s .top) x value
-  pub sized : body .size ≡ min 4097 (tsize thing)
+  pub sized : body .size ≡ min mostSize (tsize thing)
   pub room : Room l s
 
 pub record ReadyPrimitive (l : List ℕ) (s : State) (p x y z : ℕ) : Type 0 where
@@ -118,7 +118,7 @@ pub record Does (left : ℕ) (l l′ : List ℕ) (s : State) (f x y z : ℕ) (r 
       → Agrees (placed Rep) 0 0 l l′ s b (apply (λ u. evaluate left u) t ts (stateOf s b)) (ended r)
 
 pub record DoesFunction (left : ℕ) (l l′ : List ℕ) (s : State) (n : ℕ) (body : Body) (x : ℕ) (r : Answer) : Type 0 where
-  pub means : (b : Store) (t v : Tree) → Rep l (s .top) (body .at) t → Rep l (s .top) x v → body .size ≡ min 4097 (tsize t)
+  pub means : (b : Store) (t v : Tree) → Rep l (s .top) (body .at) t → Rep l (s .top) x v → body .size ≡ min mostSize (tsize t)
       → Agrees (placed Rep) 0 0 l l′ s b (functionOf (λ u. evaluate left u) n v t (stateOf s b)) (ended r)
 
 pub record DoesPrimitive (l l′ : List ℕ) (s : State) (p x y z : ℕ) (r : Answer) : Type 0 where

@@ -6,6 +6,7 @@ use native.Mathlib.Omega.{arith}
 use lib.ListN.{length}
 use Rattle.model.specs.Objects.{Stx, addScope}
 use Rattle.model.specs.Trees.{Tree, stx}
+use Rattle.model.specs.Limits.{lastPhase}
 use Rattle.model.specs.Steps as ms
 use Rattle.model.specs.Steps.{after, addTo}
 use Rattle.model.specs.Expanding as m
@@ -103,6 +104,7 @@ module _ (at : Surroundings) (b : Binder) {l l1 : List ℕ} {s : State} {body : 
 
 module _ {st l : List ℕ} {s : State} {b : Binder} {right body : ℕ} {at : Surroundings} (r : ReadyDefined l st s b right body at) where
   pub defined-up : at .phase + 1 < 2 ^ 32
+  unfolding lastPhase
   defined-up = omega (arith, r .low)
 
   pub defined-value-ready : ReadyValue l st s right

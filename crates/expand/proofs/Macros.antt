@@ -188,6 +188,7 @@ module _ {st l : List ℕ} {b : Binder} {right body : ℕ} {at : Surroundings} (
 
     module _ {o : Out} (e : a ≡ Done o) where
       pub rhs-defined-ready : ReadyRhs l st b right body at → length l1 ≡ length l → length st1 ≡ length st → ReadyDefined l1 st1 (o .state) b (o .at) body at
+      unfolding lastPhase
       rhs-defined-ready r len len2 =
           let g = right-to at h f v e (r .within .meant) (r .thing) (r .shown) in
           record {

@@ -9,6 +9,7 @@ use Rattle.model.specs.Steps.{Step, _>>=_, made}
 use Rattle.model.specs.Expanding as m
 use Rattle.model.specs.Expanding.{variable, Env, Expander, expandAll, expandApplication, expandFunction, expandLambda, expandLetSyntax, expandMacro, expandEntry, expand}
 use Rattle.store.specs.Words.{bindsOf}
+use Rattle.store.specs.Sizes.{mostBindings}
 use Rattle.steps.specs.States.{stateOf, end, Room}
 use Rattle.steps.specs.Agreement.{Shape, ended, Agrees}
 use Rattle.steps.specs.declared.State.{State}
@@ -38,7 +39,7 @@ entries left = λ here x. expand left here x
 
 pub record ShownParts (l : List ℕ) (o : Out) (ps : Stxs) : Type 0 where
   pub rep : RepP l (o .state .top) (o .at) (fromStxs ps)
-  pub few : o .state .bindings ≤ 512
+  pub few : o .state .bindings ≤ mostBindings
 
 abbrev pub partsOf : Shape Stxs Out
 partsOf = record { shows = λ l o ps. ShownParts l o ps; state = λ o. o .state }

@@ -13,6 +13,7 @@ use Rattle.model.specs.Expanding as m
 use Rattle.model.specs.Expanding.{Meaning, macro, Env, bindFresh, ofRightHandSide, ofBody, ofResult, Expander}
 use Rattle.scopes.specs.Sets.{scopesOf, Declared}
 use Rattle.store.specs.Words.{bindsOf}
+use Rattle.store.specs.Sizes.{mostBindings}
 use Rattle.steps.specs.States.{Store, stateOf, Room}
 use Rattle.steps.specs.Agreement.{Shape, Ended, done as ends, refused, Agrees}
 use Rattle.steps.specs.declared.State.{State}
@@ -42,7 +43,7 @@ pub record ShownNext (at : Surroundings) (l : List ℕ) (o : Next) (k : Further)
   pub known : RepE l (o .state .top) (o .meanings) meant
   pub there : k .there ≡ record { phase = at .phase; meanings = meant; prunable = add (o .scope .0) (scopesOf (at .prunable)) }
   pub declared : Declared (o .scope)
-  pub few : o .state .bindings ≤ 512
+  pub few : o .state .bindings ≤ mostBindings
 
 abbrev pub nexts : Surroundings → Shape Further Next
 nexts at = record { shows = λ l o k. ShownNext at l o k; state = λ o. o .state }
@@ -69,7 +70,7 @@ pub record ReadyScoped (l : List ℕ) (s : State) (b : Binder) (kind thing body 
   pub shown-body : Rep l (s .top) body (stx object)
   pub known : RepE l (s .top) (at .meanings) meant
   pub room : Room l s
-  pub few : s .bindings ≤ 512
+  pub few : s .bindings ≤ mostBindings
 
 unfoldable pub scopedRule : m.Surroundings → m.Binder → Meaning → Stx → Step Further
 unfolding addTo
@@ -91,7 +92,7 @@ pub record ReadyDefined (l st : List ℕ) (s : State) (b : Binder) (right body :
   pub shown : Rep l (s .top) right (stx thing)
   pub shown-body : Rep l (s .top) body (stx object)
   pub within : Within l st s at
-  pub low : at .phase + 1 ≤ 2
+  pub low : at .phase + 1 ≤ lastPhase
 
 unfoldable pub definedRule : Entries → m.Surroundings → m.Binder → Stx → Stx → Step Further
 unfolding valueRule scopedRule
@@ -128,7 +129,7 @@ pub record ReadyMacro (l : List ℕ) (s : State) (i v : ℕ) (at : Surroundings)
   pub shown-value : Rep l (s .top) v value
   pub known : RepE l (s .top) (at .meanings) meant
   pub room : Room l s
-  pub few : s .bindings ≤ 512
+  pub few : s .bindings ≤ mostBindings
 
 unfoldable pub rewrittenRule : Entries → m.Surroundings → Tree → Stx → Step Further
 unfolding markRule transcribeRule

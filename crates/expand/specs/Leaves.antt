@@ -10,6 +10,7 @@ use Rattle.model.specs.Expanding as m
 use Rattle.model.specs.Expanding.{Env, meaning, expandName, expandSyntax, orNoSyntax}
 use Rattle.scopes.specs.Sets.{scopesOf}
 use Rattle.store.specs.Words.{bindsOf}
+use Rattle.store.specs.Sizes.{mostBindings}
 use Rattle.steps.specs.States.{Store, stateOf, Room}
 use Rattle.steps.specs.Agreement.{ended, Agrees}
 use Rattle.steps.specs.declared.State.{State}
@@ -63,7 +64,7 @@ pub record ReadyTail (l : List ℕ) (s : State) (i head tail : ℕ) : Type 0 whe
   pub shown-first : Rep l (s .top) head (stx first)
   pub chain : RepP l (s .top) tail (fromStxs others)
   pub room : Room l s
-  pub few : s .bindings ≤ 512
+  pub few : s .bindings ≤ mostBindings
 
 unfoldable pub quoteRule : Stx → Stxs → Step Stx
 unfolding parts1
@@ -86,7 +87,7 @@ pub record ReadyPruned (l : List ℕ) (s : State) (i head x : ℕ) : Type 0 wher
   pub shown-first : Rep l (s .top) head (stx first)
   pub shown-thing : Rep l (s .top) x (stx thing)
   pub room : Room l s
-  pub few : s .bindings ≤ 512
+  pub few : s .bindings ≤ mostBindings
 
 unfoldable pub prunedRule : m.Surroundings → Sets → Stx → Stx → Step Stx
 unfolding pruneFrom
@@ -119,7 +120,7 @@ pub record ReadyBack (l : List ℕ) (s : State) (i : ℕ) : Type 0 where
   pub thing : Tree
   pub shown : Rep l (s .top) i thing
   pub room : Room l s
-  pub few : s .bindings ≤ 512
+  pub few : s .bindings ≤ mostBindings
 
 unfoldable pub backRule : ℕ → ℕ → Tree → Step Stx
 unfolding asStx orNoSyntax flipIn
@@ -136,7 +137,7 @@ pub record ReadyTranscribed (l : List ℕ) (s : State) (v form : ℕ) : Type 0 w
   pub shown : Rep l (s .top) v value
   pub shown-form : Rep l (s .top) form (stx thing)
   pub room : Room l s
-  pub few : s .bindings ≤ 512
+  pub few : s .bindings ≤ mostBindings
 
 unfoldable pub transcribeRule : ℕ → ℕ → ℕ → Tree → Stx → Step Stx
 unfolding evaluate backRule

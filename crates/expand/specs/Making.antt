@@ -9,13 +9,14 @@ use Rattle.model.specs.Steps.{ok, made}
 use Rattle.table.specs.Words.{Same}
 use Rattle.things.specs.Rep.{Rep, RepP}
 use Rattle.things.specs.Making.{Roomy}
+use Rattle.store.specs.Sizes.{mostBindings}
 use Rattle.steps.specs.States.{Store, stateOf, end, Room}
 use Rattle.steps.specs.Agreement.{ended, Agrees}
 use Rattle.steps.specs.declared.State.{State}
 use Rattle.steps.specs.declared.Answer.{Answer}
 use Rattle.parse.specs.Parsing.{unpaid}
 use Rattle.scoping.specs.Changing.{objects}
-use Rattle.table.specs.Sizes.{nodeSize, nodeSpare, pairSize, pairSpare, tripleSize, tripleSpare}
+use Rattle.table.specs.Sizes.{twoCells, nodeSize, nodeSpare, pairSize, pairSpare, tripleSize, tripleSpare}
 
 pub record Relistable (l : List ℕ) (top i : ℕ) : Type 0 where
   pub sets : Sets
@@ -33,11 +34,11 @@ pub record Chainable (l : List ℕ) (top a b : ℕ) : Type 0 where
   pub second : Stx
   pub shown : Rep l top a (stx first)
   pub shown-second : Rep l top b (stx second)
-  pub room : Roomy l top 10
+  pub room : Roomy l top twoCells
 
 pub record Chained (l l′ : List ℕ) (top a b at top′ : ℕ) : Type 0 where
   pub kept : Same top l l′
-  pub grows : top′ ≡ top + 10
+  pub grows : top′ ≡ top + twoCells
   pub means : (x y : Stx) → Rep l top a (stx x) → Rep l top b (stx y) → RepP l′ top′ at (fromStxs (cons x (cons y nil)))
 
 -- the list i, new parts, and room for a node
@@ -49,7 +50,7 @@ pub record ReadyList (l : List ℕ) (s : State) (i c : ℕ) : Type 0 where
   pub chain : RepP l (s .top) c (fromStxs parts)
   pub room : Room l s
   pub free : end s + nodeSize ≤ length l
-  pub few : s .bindings ≤ 512
+  pub few : s .bindings ≤ mostBindings
 
 pub record Lists (l l′ : List ℕ) (s : State) (i c : ℕ) (r : Answer) : Type 0 where
   pub means : (b : Store) (k : Sets) (qs ps : Stxs) → Rep l (s .top) i (stx (list k qs)) → RepP l (s .top) c (fromStxs ps)
@@ -65,7 +66,7 @@ pub record ReadyTwo (l : List ℕ) (s : State) (i a c : ℕ) : Type 0 where
   pub shown-second : Rep l (s .top) c (stx second)
   pub room : Room l s
   pub free : end s + pairSize ≤ length l
-  pub few : s .bindings ≤ 512
+  pub few : s .bindings ≤ mostBindings
 
 pub record TwoLists (l l′ : List ℕ) (s : State) (i a c : ℕ) (r : Answer) : Type 0 where
   pub means : (b : Store) (k : Sets) (qs : Stxs) (x y : Stx) → Rep l (s .top) i (stx (list k qs)) → Rep l (s .top) a (stx x) → Rep l (s .top) c (stx y)
@@ -83,7 +84,7 @@ pub record ReadyThree (l : List ℕ) (s : State) (i a c d : ℕ) : Type 0 where
   pub shown-third : Rep l (s .top) d (stx third)
   pub room : Room l s
   pub free : end s + tripleSize ≤ length l
-  pub few : s .bindings ≤ 512
+  pub few : s .bindings ≤ mostBindings
 
 pub record ThreeLists (l l′ : List ℕ) (s : State) (i a c d : ℕ) (r : Answer) : Type 0 where
   pub means : (b : Store) (k : Sets) (qs : Stxs) (x y z : Stx) → Rep l (s .top) i (stx (list k qs)) → Rep l (s .top) a (stx x) → Rep l (s .top) c (stx y) → Rep l (s .top) d (stx z)

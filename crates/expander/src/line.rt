@@ -7,7 +7,7 @@ ghost use Prim.Native.Nat.{_≤_};
 ghost use Rattle.model.specs.Limits.{programBudget, mostImage};
 ghost use lib.ListN.{length};
 ghost use Rattle.model.specs.Jobs.{parseEnding, lineOf, program, lineBytes};
-ghost use Rattle.expander.specs.Lines.{lineIs, Lent};
+ghost use Rattle.expander.specs.Lines.{lineIs, jobBudget, Lent};
 ghost use Rattle.expander.specs.Bytes.{Printed};
 
 const BUDGET: u32 = 400;
@@ -25,7 +25,7 @@ pub struct Line {
 
 // The line of parsing an image, after so many units.
 fn parsed(image: &[u8], before: u32, table: &mut [u32], tree: &mut [u8]) -> Line
-    requires { ⌜ (before ≤ 400) × Lent (now table) (now tree) ⌝ }
+    requires { ⌜ (before ≤ jobBudget) × Lent (now table) (now tree) ⌝ }
     ensures { λ r. ⌜ lineIs r ≡ lineOf before (parseEnding (now (image .entry)) programBudget mostImage) ⌝ }
 {
     let p = parse::meirhuppa_parse(image, BUDGET, table, tree);

@@ -6,6 +6,7 @@ use lib.ListN.{length, take}
 use Rattle.model.specs.Jobs as m
 use Rattle.model.specs.Jobs.{outputAfter}
 use Rattle.refusals.specs.Refusing.{refusalOf}
+use Rattle.numbers.specs.Limits.{mostImage}
 use Rattle.finish.specs.declared.Ending.{Ending}
 use Rattle.finish.specs.declared.Ending.the-variants.{Refused, Named, Written}
 
@@ -25,4 +26,4 @@ pub record EndsAs (e : m.Ending) (out out′ : List ℕ) (r : Ending) : Type 0 w
   pub is : endingOf out′ r ≡ e
   pub left : out′ ≡ outputAfter e out
   pub inside : lengthOf r ≤ length out′
-  pub short : lengthOf r ≤ 65536
+  pub short : lengthOf r ≤ mostImage

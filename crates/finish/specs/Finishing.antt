@@ -9,7 +9,7 @@ use Rattle.model.specs.Resolving.{Bind}
 use Rattle.model.specs.Reading as m
 use Rattle.model.specs.Writing.{numBytes, headBytes, bindsBytes, stxBytes, treeBytes}
 use Rattle.model.specs.Jobs.{fitted}
-use Rattle.store.specs.Sizes.{storeSize}
+use Rattle.store.specs.Sizes.{mostBindings, storeSize}
 use Rattle.steps.specs.declared.State.{State}
 use Rattle.steps.specs.declared.Out.{Out}
 use Rattle.steps.specs.States.{Room}
@@ -50,7 +50,7 @@ pub record Came {A : Type 0} (K : Images A) (s : List ℕ) (f : Front) (l : List
 
 -- the store is whole, and holds no more than it has room for
 pub record Held (store : List ℕ) (t : State) : Type 0 where
-  pub few : t .bindings ≤ 512
+  pub few : t .bindings ≤ mostBindings
   pub wide : storeSize ≤ length store
 
 pub record FrontReady (s : List ℕ) (f : Front) (store : List ℕ) (t : State) : Type 0 where

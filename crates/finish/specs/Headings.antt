@@ -6,6 +6,7 @@ use lib.ListN.{length}
 use Rattle.model.specs.Reading as m
 use Rattle.model.specs.Writing.{numBytes, wordsBytes, headBytes}
 use Rattle.steps.specs.declared.State.{State}
+use Rattle.numbers.specs.Limits.{oneByte}
 use Rattle.head.specs.declared.Front.{Front}
 use Rattle.head.specs.Fronts.{Headed}
 use Rattle.writer.specs.Putting.{Wrote}
@@ -28,11 +29,11 @@ pub record Longer (s : List ℕ) (f : Front) (t : State) : Type 0 where
 
 -- the length is that of either kind
 pub record HeadLength (s : List ℕ) (f : Front) (t : State) (r : ℕ) : Type 0 where
-  pub means : (g : Headed s f) (kind : ℕ) → kind < 128 → r ≡ length (headBytes kind (headAfter (g .words) t))
+  pub means : (g : Headed s f) (kind : ℕ) → kind < oneByte → r ≡ length (headBytes kind (headAfter (g .words) t))
 
 pub record Fitting (s : List ℕ) (f : Front) (kind : ℕ) (t : State) (out : List ℕ) : Type 0 where
   pub longer : Longer s f t
-  pub one-byte : kind < 128
+  pub one-byte : kind < oneByte
   pub fits : length (headBytes kind (headAfter (longer .headed .words) t)) ≤ length out
 
 pub record PutsHead (s : List ℕ) (f : Front) (kind : ℕ) (t : State) (out out′ : List ℕ) (r : ℕ) : Type 0 where

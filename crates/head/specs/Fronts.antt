@@ -5,7 +5,7 @@ use mathlib.Core.List.{List, _++_}
 use lib.ListN.{length}
 use Rattle.model.specs.Reading as m
 use Rattle.model.specs.Writing.{headBytes}
-use Rattle.numbers.specs.Limits.{mostImage}
+use Rattle.numbers.specs.Limits.{mostImage, oneByte}
 use Rattle.head.specs.declared.Head.{Head}
 use Rattle.head.specs.declared.Front.{Front}
 
@@ -22,7 +22,7 @@ pub record Headed (s : List ℕ) (f : Front) : Type 0 where
   pub kind : ℕ
   pub words : List (List ℕ)
   pub rest : List ℕ
-  pub one-byte : kind < 128
+  pub one-byte : kind < oneByte
   pub is : s ≡ headBytes kind (wholeHead words (f .head)) ++ rest
   pub count : f .head .words ≡ length words
   pub ends : f .end ≡ length (headBytes kind (wholeHead words (f .head)))

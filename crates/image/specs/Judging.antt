@@ -12,11 +12,15 @@ use Rattle.model.specs.Reading.{Read, Reader, Image, got, fault, next, give, ne
 use Rattle.model.specs.Jobs.{closed}
 use Rattle.refusals.specs.Refusing.{refusalOf}
 use Rattle.codec_laws.specs.WellFormed.{Bytes, HeadFits}
+use Rattle.numbers.specs.Limits as limits
+use Rattle.numbers.specs.Limits.{mostImage}
+use Rattle.scopes.specs.Sets.{setScopes}
 use Rattle.store.specs.Words.{bindsOf}
+use Rattle.store.specs.Sizes.{mostBindings}
 use Rattle.head.specs.declared.Counts.{Counts}
 use Rattle.head.specs.declared.Front.{Front}
 use Rattle.head.specs.Heads.{headOf, declares}
-use Rattle.head.specs.Fronts.{Headed}
+use Rattle.head.specs.Fronts.{mostNames, Headed}
 use Rattle.bindings.specs.Sections.{readAll}
 use Rattle.roots.specs.MeasuredObjects.{measureStx}
 use Rattle.roots.specs.Measuring.{wholeSyntax}
@@ -42,10 +46,10 @@ sizeIn (judged.Fault f) = fault (refusalOf f)
 pub record RestGood (f : Front) (s l : List ℕ) (j : Judgement) : Type 0 where
   pub front-is : j .front ≡ f
   pub binds-read : readAll (declares (f .head)) s ≡ got (bindsOf l (j .bindings)) (drop (j .root - f .end) s)
-  pub few-binds : j .bindings ≤ 512
+  pub few-binds : j .bindings ≤ mostBindings
   pub behind : f .end ≤ j .root
   pub within : j .root ≤ f .end + length s
-  pub root-measured : measureStx (f .head .words + 4) (f .head .scopes) 64 (drop (j .root - f .end) s) ≡ got (j .size) []
+  pub root-measured : measureStx (f .head .words + 4) (f .head .scopes) limits.mostNesting (drop (j .root - f .end) s) ≡ got (j .size) []
 
 pub record BehindHead (f : Front) (s l : List ℕ) (r : Judged) : Type 0 where
   pub is : measureRest (declares (f .head)) s ≡ sizeIn r
@@ -85,23 +89,23 @@ pub record Good {A : Type 0} (K : Kind A) (s l : List ℕ) (j : Judgement) : Typ
   pub reads : readImage (K .whole) s ≡ got image []
   -- the slice holds bytes: with `reads`, what the laws of images ask
   pub bytes : Bytes s
-  pub short : length s ≤ 65536
+  pub short : length s ≤ mostImage
   -- the head
   pub head-is : j .front .head ≡ headOf (image .head)
   pub head-fits : HeadFits (image .head)
   pub headed : Headed s (j .front)
   pub same-words : headed .words ≡ image .head .words
   pub names-from : 4 + j .front .head .words ≤ j .front .head .names
-  pub names-to : j .front .head .names ≤ 1024
-  pub scopes-to : j .front .head .scopes ≤ 256
+  pub names-to : j .front .head .names ≤ mostNames
+  pub scopes-to : j .front .head .scopes ≤ setScopes
   -- the bindings
   pub binds-are : bindsOf l (j .bindings) ≡ image .binds
-  pub few-binds : j .bindings ≤ 512
+  pub few-binds : j .bindings ≤ mostBindings
   -- the root
   pub root-within : j .root ≤ length s
   pub root-reads : K .root (image .head) (drop (j .root) s) ≡ got (image .root) []
   pub size-is : j .size ≡ K .size (image .root)
-  pub size-to : j .size ≤ 65536
+  pub size-to : j .size ≤ mostImage
 
 pub record Judges {A : Type 0} (K : Kind A) (s l : List ℕ) (r : Judged) : Type 0 where
   pub is : readImage (K .whole) s ≡ judgedAs K s l r

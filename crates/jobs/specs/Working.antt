@@ -17,13 +17,14 @@ use Rattle.model.specs.Jobs.{withImage, worked, start, reached, fitted}
 use Rattle.refusals.specs.Refusing.{refusalOf}
 use Rattle.table.specs.Lending.{Lent}
 use Rattle.store.specs.Words.{bindsOf}
+use Rattle.store.specs.Sizes.{mostBindings}
 use Rattle.things.specs.Rep.{Rep}
 use Rattle.steps.specs.declared.State.{State}
 use Rattle.steps.specs.declared.Stop.{Stop}
 use Rattle.steps.specs.declared.Out.{Out}
 use Rattle.steps.specs.declared.Answer.{Answer}
 use Rattle.steps.specs.declared.Answer.the-variants.{Done, Refused}
-use Rattle.steps.specs.States.{stateOf, paid, Room}
+use Rattle.steps.specs.States.{mostEntries, stateOf, paid, Room}
 use Rattle.image.specs.declared.Judgement.{Judgement}
 use Rattle.image.specs.Judging.{Kind, syntaxKind, treeKind, Good}
 use Rattle.finish.specs.Finishing.{Images, imageBytes, treeImages, syntaxImages}
@@ -41,13 +42,13 @@ unfolding fitted reached
 writes images budget room h x s = fitted room (imageBytes (images (s .binds)) (reached h s) x) (budget - s .left)
 
 abbrev pub evaluating : Job Tree Tree
-evaluating = record { kind = treeKind; work = evaluate 128; ends = writes (λ b. treeImages) }
+evaluating = record { kind = treeKind; work = evaluate mostEntries; ends = writes (λ b. treeImages) }
 
 abbrev pub parsing : Job Stx Tree
-parsing = record { kind = syntaxKind; work = parse 128 0; ends = writes (λ b. treeImages) }
+parsing = record { kind = syntaxKind; work = parse mostEntries 0; ends = writes (λ b. treeImages) }
 
 abbrev pub expanding : ℕ → Job Stx Stx
-expanding ph = record { kind = syntaxKind; work = expand 128 (ofRoot ph); ends = writes syntaxImages }
+expanding ph = record { kind = syntaxKind; work = expand mostEntries (ofRoot ph); ends = writes syntaxImages }
 
 -- nothing is written
 abbrev pub resolving : ℕ → Job Stx ℕ
@@ -98,5 +99,5 @@ pub record Worked {A B : Type 0} (J : Job A B) (thing : B → Tree) (image store
   pub means : (g : Good (J .kind) image store j) → cameTo thing s store′ l (J .work (g .image .root) (stateOf s (bindsOf store))) r
 
 abbrev pub FewBindings : Answer → Type 0
-FewBindings (Done o) = o .state .bindings ≤ 512
+FewBindings (Done o) = o .state .bindings ≤ mostBindings
 FewBindings (Refused f) = Unit {0}

@@ -9,8 +9,10 @@ use Rattle.model.specs.Refusals.{layout, overLimit}
 use Rattle.model.specs.Reading as m
 use Rattle.model.specs.Reading.{Reader, _>>=_, _>>_, give, fail, need, num, numBelow, atEnd}
 use Rattle.numbers.specs.Answers.{answerAt}
+use Rattle.numbers.specs.Limits.{mostNesting}
 use Rattle.roots.specs.MeasuredObjects.{readContentOf, measureStx}
 use Rattle.head.specs.declared.Counts.{Counts}
+use Rattle.head.specs.Fronts.{mostNames}
 use Rattle.roots.specs.declared.Extent.{Extent}
 use Rattle.roots.specs.declared.TreeRead.{TreeRead}
 use Rattle.roots.specs.declared.TreeRead.the-variants.{Read, Fault}
@@ -109,11 +111,11 @@ thenEnd root = do
   give r
 
 unfoldable pub wholeSyntax : Counts → Reader ℕ
-wholeSyntax k = thenEnd (measureStx (k .symbols) (k .scopes) 64)
+wholeSyntax k = thenEnd (measureStx (k .symbols) (k .scopes) mostNesting)
 
 -- around the root there is no function
 unfoldable pub noneAround : List ℕ
-noneAround = replicate 1024 0
+noneAround = replicate mostNames 0
 
 unfoldable pub wholeTree : Counts → Reader Extent
-wholeTree k = thenEnd (measureTree k 64 0 noneAround)
+wholeTree k = thenEnd (measureTree k mostNesting 0 noneAround)

@@ -14,6 +14,10 @@ use Rattle.steps.specs.declared.Charged.{Charged}
 use Rattle.steps.specs.declared.Charged.the-variants.{Paid, Refused}
 use Rattle.table.specs.Sizes.{tableSize, unitSize}
 
+-- entries in progress: the model's mostEntries
+abbrev pub mostEntries : ℕ
+mostEntries = 128
+
 -- what the first n places of the store stand for. Evaluate and parse take any; expand takes what its store's contents are.
 abbrev pub Store : Type 0
 Store = ℕ → List Bind
