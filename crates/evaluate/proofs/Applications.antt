@@ -48,8 +48,8 @@ module _ {l : List ℕ} {s : State} {c : ℕ} {x : Cell} (e : x ≡ getCell l c)
   pub app-head-ready : ReadyApplication l s c → Ready Rep l s (x .head)
   app-head-ready r = record { thing = r .first; shown = cons-at (r .shown) e .shown; room = r .room }
 
-  module _ {left : ℕ} {l1 : List ℕ} {a : Answer} (v : Evaluates left l l1 s (x .head) a) where
-    pub app-head-refused : {f : Stop} → a ≡ Refused f → Applies left l l1 s c (Refused f)
+  module _ {entries : ℕ} {l1 : List ℕ} {a : Answer} (v : Evaluates entries l l1 s (x .head) a) where
+    pub app-head-refused : {f : Stop} → a ≡ Refused f → Applies entries l l1 s c (Refused f)
     unfolding evalEntry
     app-head-refused {f} k = record { means = λ b t ts w. stops f (then-no _ (on-refused (v .means b t (cons-at w e .shown)) (ap ended k))) }
 
@@ -60,10 +60,10 @@ module _ {l : List ℕ} {s : State} {c : ℕ} {x : Cell} (e : x ≡ getCell l c)
           let g = on-done (v .means (λ n. []) (r .first) (p .shown)) (ap ended k) in
           record { value = g .value; things = r .others; shown = g .shown; shown-parts = carryP (p .shown-others) (g .later .kept) (g .later .grows); room = room-later (r .room) (g .later) len }
 
-      pub call-less : {T : ℕ} → ReadyApplication l s c → s .units * 4 + 2 ≡ T → o .state .units * 4 + 3 < T
+      pub call-less : {T : ℕ} → ReadyApplication l s c → s .left * 4 + 2 ≡ T → o .state .left * 4 + 3 < T
       call-less r z = let g = on-done (v .means (λ n. []) (r .first) (cons-at (r .shown) e .shown)) (ap ended k) in omega (arith, g .later .spent)
 
-      pub app-called : {l2 : List ℕ} {r : Answer} → Calls left l1 l2 (o .state) (o .at) (x .tail) r → Applies left l l2 s c r
+      pub app-called : {l2 : List ℕ} {r : Answer} → Calls entries l1 l2 (o .state) (o .at) (x .tail) r → Applies entries l l2 s c r
       unfolding evalEntry callOf
       app-called d =
           record {
@@ -109,13 +109,13 @@ pub call-args-ready : {l : List ℕ} {s : State} {f c : ℕ} → ReadyCall l s f
 call-args-ready r = record { thing = r .things; shown = r .shown-parts; room = r .room }
 
 module _ {l : List ℕ} {s : State} {f c : ℕ} {y : Bool} (h : TestedP l f c y) where
-  pub call-refused : {left : ℕ} → y ≡ false → Calls left l l s f c (Refused (record { refusal = NotApplicable; units = s .units }))
+  pub call-refused : {entries : ℕ} → y ≡ false → Calls entries l l s f c (Refused (record { refusal = NotApplicable; left = s .left }))
   unfolding callOf
   call-refused k =
-      record { means = λ b t ts a d. stops (record { refusal = NotApplicable; units = s .units }) (then-no _ (unless-no notApplicable (stateOf s b) (sym (h .means (s .top) t ts a d) ∙ k))) }
+      record { means = λ b t ts a d. stops (record { refusal = NotApplicable; left = s .left }) (then-no _ (unless-no notApplicable (stateOf s b) (sym (h .means (s .top) t ts a d) ∙ k))) }
 
-  module _ (k : y ≡ true) {left : ℕ} {l1 : List ℕ} {a : Gathered} (v : Gathers left l l1 s c a) where
-    pub call-args-refused : {e : Stop} → a ≡ all.Refused e → Calls left l l1 s f c (Refused e)
+  module _ (k : y ≡ true) {entries : ℕ} {l1 : List ℕ} {a : Gathered} (v : Gathers entries l l1 s c a) where
+    pub call-args-refused : {e : Stop} → a ≡ all.Refused e → Calls entries l l1 s f c (Refused e)
     unfolding callOf
     call-args-refused {e} z =
         record {
@@ -133,15 +133,15 @@ module _ {l : List ℕ} {s : State} {f c : ℕ} {y : Bool} (h : TestedP l f c y)
             shown = carry (r .shown) (g .later .kept) (g .later .grows);
             given = g .shown;
             able =
-                rw (each-count (λ u. evaluate left u) (r .things) (g .value) (stateOf s (λ n. [])) (stateOf (o .state) (λ n. [])) (g .is))
+                rw (each-count (λ u. evaluate entries u) (r .things) (g .value) (stateOf s (λ n. [])) (stateOf (o .state) (λ n. [])) (g .is))
                 (sym (h .means (s .top) (r .value) (r .things) (r .shown) (r .shown-parts)) ∙ k);
             room = room-later (r .room) (g .later) len;
           }
 
-      pub apply-less : {T : ℕ} → ReadyCall l s f c → s .units * 4 + 3 ≡ T → o .state .units * 4 + 2 < T
+      pub apply-less : {T : ℕ} → ReadyCall l s f c → s .left * 4 + 3 ≡ T → o .state .left * 4 + 2 < T
       apply-less r w = let g = on-done (v .means (λ n. []) (r .things) (r .shown-parts)) (ap gathered z) in omega (arith, g .later .spent)
 
-      pub call-applied : {l2 : List ℕ} {r : Answer} → Does left l1 l2 (o .state) f (o .x) (o .y) (o .z) r → Calls left l l2 s f c r
+      pub call-applied : {l2 : List ℕ} {r : Answer} → Does entries l1 l2 (o .state) f (o .x) (o .y) (o .z) r → Calls entries l l2 s f c r
       unfolding callOf
       call-applied d =
           record {
@@ -150,14 +150,14 @@ module _ {l : List ℕ} {s : State} {f c : ℕ} {y : Bool} (h : TestedP l f c y)
                 let able : applicable t (tcount ts) ≡ true = sym (h .means (s .top) t ts p w) ∙ k in
                 since 0 0 (g .later) (omega arith) (omega arith) (then-ok _ (unless-ok notApplicable (stateOf s b) able) ∙ then-ok _ (g .is))
                 (d .means b t (g .value) (carry p (g .later .kept) (g .later .grows)) (g .shown)
-                (rw (each-count (λ u. evaluate left u) ts (g .value) (stateOf s b) (stateOf (o .state) b) (g .is)) able));
+                (rw (each-count (λ u. evaluate entries u) ts (g .value) (stateOf s b) (stateOf (o .state) b) (g .is)) able));
           }
 
 -- ---- arguments
 
-pub args-none : {left : ℕ} {l : List ℕ} {s : State} {c : ℕ} → c ≡ 0 → Gathers left l l s c (all.All (record { x = 0; y = 0; z = 0; state = s }))
+pub args-none : {entries : ℕ} {l : List ℕ} {s : State} {c : ℕ} → c ≡ 0 → Gathers entries l l s c (all.All (record { x = 0; y = 0; z = 0; state = s }))
 unfolding eachTree
-args-none {left} {l} {s} h =
+args-none {entries} {l} {s} h =
     record {
       means = λ b ts r.
           rw (none-at r h) (gives (record { x = 0; y = 0; z = 0; state = s }) (record { value = tnil; is = refl; shown = no-more; later = later-refl l s }));
@@ -170,8 +170,8 @@ module _ {l : List ℕ} {s : State} {c : ℕ} {x : Cell} (n : ¬ (c ≡ 0)) (e :
   pub args-head-ready : Ready RepP l s c → Ready Rep l s (x .head)
   args-head-ready r = let p = part-at (r .shown) n e in record { thing = p .first; shown = p .cell .shown; room = r .room }
 
-  module _ {left : ℕ} {l1 : List ℕ} {a : Answer} (v : Evaluates left l l1 s (x .head) a) where
-    pub args-head-refused : {f : Stop} → a ≡ Refused f → Gathers left l l1 s c (all.Refused f)
+  module _ {entries : ℕ} {l1 : List ℕ} {a : Answer} (v : Evaluates entries l l1 s (x .head) a) where
+    pub args-head-refused : {f : Stop} → a ≡ Refused f → Gathers entries l l1 s c (all.Refused f)
     unfolding eachTree
     args-head-refused {f} k =
         record { means = λ b ts w. let p = part-at w n e in rw (p .is) (stops f (then-no _ (on-refused (v .means b (p .first) (p .cell .shown)) (ap ended k)))) }
@@ -183,14 +183,14 @@ module _ {l : List ℕ} {s : State} {c : ℕ} {x : Cell} (n : ¬ (c ≡ 0)) (e :
           let g = on-done (v .means (λ n. []) (p .first) (p .cell .shown)) (ap ended k) in
           record { thing = p .others; shown = carryP (p .cell .shown-others) (g .later .kept) (g .later .grows); room = room-later (r .room) (g .later) len }
 
-      pub args-tail-less : {T : ℕ} → Ready RepP l s c → s .units * 4 + 2 ≡ T → o .state .units * 4 + 2 < T
+      pub args-tail-less : {T : ℕ} → Ready RepP l s c → s .left * 4 + 2 ≡ T → o .state .left * 4 + 2 < T
       args-tail-less r z =
           let p = part-at (r .shown) n e in
           let g = on-done (v .means (λ n. []) (p .first) (p .cell .shown)) (ap ended k) in
           omega (arith, g .later .spent)
 
-      module _ {l2 : List ℕ} {d : Gathered} (w : Gathers left l1 l2 (o .state) (x .tail) d) where
-        pub args-tail-refused : {f : Stop} → d ≡ all.Refused f → Gathers left l l2 s c (all.Refused f)
+      module _ {l2 : List ℕ} {d : Gathered} (w : Gathers entries l1 l2 (o .state) (x .tail) d) where
+        pub args-tail-refused : {f : Stop} → d ≡ all.Refused f → Gathers entries l l2 s c (all.Refused f)
         unfolding eachTree
         args-tail-refused {f} z =
             record {
@@ -201,7 +201,7 @@ module _ {l : List ℕ} {s : State} {c : ℕ} {x : Cell} (n : ¬ (c ≡ 0)) (e :
                   rw (p .is) (stops f (then-ok _ (g .is) ∙ then-no _ h));
             }
 
-        pub args-more : {u : Values} → d ≡ all.All u → Gathers left l l2 s c (all.All (record { x = o .at; y = u .x; z = u .y; state = u .state }))
+        pub args-more : {u : Values} → d ≡ all.All u → Gathers entries l l2 s c (all.All (record { x = o .at; y = u .x; z = u .y; state = u .state }))
         unfolding eachTree
         args-more {u} z =
             record {
@@ -260,7 +260,7 @@ module _ {l : List ℕ} {s : State} {f x y z : ℕ} {p : Node} (r : ReadyApply l
           room = r .room;
         }
 
-    pub apply-function : {left : ℕ} {l1 : List ℕ} {a : Answer} → DoesFunction left l l1 s (p .content) u x a → Does left l l1 s f x y z a
+    pub apply-function : {entries : ℕ} {l1 : List ℕ} {a : Answer} → DoesFunction entries l l1 s (p .content) u x a → Does entries l l1 s f x y z a
     unfolding apply functionOf
     apply-function d =
         record {
@@ -273,7 +273,7 @@ module _ {l : List ℕ} {s : State} {f x y z : ℕ} {p : Node} (r : ReadyApply l
     pub primitive-ready : ReadyPrimitive l s (p .content) x y z
     primitive-ready = let w = prim-at (tcount (r .values)) (r .shown) e h (r .able) in record { values = r .values; given = r .given; able = w .able; room = r .room }
 
-    pub apply-primitive : {left : ℕ} {l1 : List ℕ} {a : Answer} → DoesPrimitive l l1 s (p .content) x y z a → Does left l l1 s f x y z a
+    pub apply-primitive : {entries : ℕ} {l1 : List ℕ} {a : Answer} → DoesPrimitive l l1 s (p .content) x y z a → Does entries l l1 s f x y z a
     unfolding apply
     apply-primitive d = record { means = λ b t ts q g able. let w = prim-at (tcount ts) q e h able in rw (w .is) (d .means b ts g (w .able)) }
 

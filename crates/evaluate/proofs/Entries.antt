@@ -23,7 +23,7 @@ use Rattle.table.specs.declared.Node.{Node}
 use Rattle.things.specs.Rep.{Rep, is-var, is-app, is-fun, is-lst, is-datum, is-atom, is-list}
 use Rattle.things.proofs.Frame.{below}
 use Rattle.things.proofs.ByTag.{tag-is, var-at, app-at}
-use Rattle.steps.proofs.Laws.{Entry, entry-refused, entry-goes, enter-left, enter-went, later-refl, later-paid, ready-paid, since}
+use Rattle.steps.proofs.Laws.{Entry, entry-refused, entry-goes, enter-spare, enter-went, later-refl, later-paid, ready-paid, since}
 use Rattle.evaluate.specs.Evaluation.{ReadyApplication, Evaluates, Forms, Applies}
 use Rattle.table.specs.Sizes.{nodeSize, unitSize}
 
@@ -33,24 +33,24 @@ pub entry : (t : Tree) → Entry (λ d. evaluate d t) (λ d. evalEntry (λ u. ev
 unfolding evaluate
 entry t = record { none = λ y. refl; some = λ d y. refl }
 
-pub entry-stops : {left : ℕ} {s : State} {x : Charged} {e : Stop} {l : List ℕ} {i : ℕ} → x ≡ enterOf left s → x ≡ charged.Refused e → Evaluates left l l s i (Refused e)
-entry-stops {left} {s} {e = e} h k = record { means = λ b t w. stops e (entry-refused (entry t) left s b h k) }
+pub entry-stops : {entries : ℕ} {s : State} {x : Charged} {e : Stop} {l : List ℕ} {i : ℕ} → x ≡ enterOf entries s → x ≡ charged.Refused e → Evaluates entries l l s i (Refused e)
+entry-stops {entries} {s} {e = e} h k = record { means = λ b t w. stops e (entry-refused (entry t) entries s b h k) }
 
-module _ (left : ℕ) (s : State) {u : State} {x : Charged} (h : x ≡ enterOf left s) (e : x ≡ charged.Paid u) where
-  pub entry-left : 1 ≤ left
-  entry-left = enter-left left s h e
+module _ (entries : ℕ) (s : State) {u : State} {x : Charged} (h : x ≡ enterOf entries s) (e : x ≡ charged.Paid u) where
+  pub entry-spare : 1 ≤ entries
+  entry-spare = enter-spare entries s h e
 
-  pub entry-less : {T : ℕ} → s .units * 4 ≡ T → u .units * 4 + 3 < T
-  entry-less k = let q = enter-went left s h e in omega (arith, q .enough, ap (λ (y : State). y .units) (q .is))
+  pub entry-less : {T : ℕ} → s .left * 4 ≡ T → u .left * 4 + 3 < T
+  entry-less k = let q = enter-went entries s h e in omega (arith, q .enough, ap (λ (y : State). y .left) (q .is))
 
   pub entry-ready : {l : List ℕ} {i : ℕ} → Ready Rep l s i → Ready Rep l u i
-  entry-ready r = ready-paid r (enter-went left s h e)
+  entry-ready r = ready-paid r (enter-went entries s h e)
 
-  pub entry-formed : {l l1 : List ℕ} {i : ℕ} {r : Answer} → Forms (left - 1) l l1 u i r → Evaluates left l l1 s i r
+  pub entry-formed : {l l1 : List ℕ} {i : ℕ} {r : Answer} → Forms (entries - 1) l l1 u i r → Evaluates entries l l1 s i r
   entry-formed {l} {l1} {i} {r} f =
-      let q = enter-went left s h e in
+      let q = enter-went entries s h e in
       let at : s .top ≡ u .top = sym (ap (λ (y : State). y .top) (q .is)) in
-      record { means = λ b t w. since 1 unitSize (later-paid l q) (omega arith) (omega arith) (entry-goes (entry t) left s b h e) (f .means b t (rw at at w)) }
+      record { means = λ b t w. since 1 unitSize (later-paid l q) (omega arith) (omega arith) (entry-goes (entry t) entries s b h e) (f .means b t (rw at at w)) }
 
 -- ---- form
 
@@ -69,21 +69,21 @@ value-is e self y (is-atom a q z) n6 n7 = refl
 value-is e self y (is-list a q z r) n6 n7 = refl
 
 module _ {l : List ℕ} {s : State} {i : ℕ} {o : Node} (e : o ≡ getNode l i) where
-  pub form-var : {left : ℕ} → o .tag ≡ variableTag → Forms left l l s i (Refused (record { refusal = Unowned; units = s .units }))
+  pub form-var : {entries : ℕ} → o .tag ≡ variableTag → Forms entries l l s i (Refused (record { refusal = Unowned; left = s .left }))
   unfolding evalEntry
-  form-var h = record { means = λ b t r. stops (record { refusal = Unowned; units = s .units }) (rw (var-at r e h) refl) }
+  form-var h = record { means = λ b t r. stops (record { refusal = Unowned; left = s .left }) (rw (var-at r e h) refl) }
 
   pub form-ready : Ready Rep l s i → o .tag ≡ applicationTag → ReadyApplication l s (o .content)
   form-ready r h = let p = app-at (r .shown) e h in record { first = p .first; others = p .others; shown = p .shown; room = r .room }
 
-  pub form-app : {left : ℕ} {l1 : List ℕ} {r : Answer} → o .tag ≡ applicationTag → Applies left l l1 s (o .content) r → Forms left l l1 s i r
+  pub form-app : {entries : ℕ} {l1 : List ℕ} {r : Answer} → o .tag ≡ applicationTag → Applies entries l l1 s (o .content) r → Forms entries l l1 s i r
   form-app h a = record { means = λ b t w. let p = app-at w e h in rw (p .is) (a .means b (p .first) (p .others) (p .shown)) }
 
-  pub form-value : {left : ℕ} → ¬ (o .tag ≡ variableTag) → ¬ (o .tag ≡ applicationTag) → Forms left l l s i (Done (record { at = i; state = s }))
-  form-value {left} n6 n7 =
+  pub form-value : {entries : ℕ} → ¬ (o .tag ≡ variableTag) → ¬ (o .tag ≡ applicationTag) → Forms entries l l s i (Done (record { at = i; state = s }))
+  form-value {entries} n6 n7 =
       record {
         means = λ b t r.
-            gives (record { at = i; state = s }) (record { value = t; is = value-is e (λ u. evaluate left u) (stateOf s b) r n6 n7; shown = r; later = later-refl l s });
+            gives (record { at = i; state = s }) (record { value = t; is = value-is e (λ u. evaluate entries u) (stateOf s b) r n6 n7; shown = r; later = later-refl l s });
       }
 
-pub ruleset entries = (entry-stops, entry-left, entry-less, entry-ready, entry-formed, form-inside, form-var, form-ready, form-app, form-value)
+pub ruleset entry-laws = (entry-stops, entry-spare, entry-less, entry-ready, entry-formed, form-inside, form-var, form-ready, form-app, form-value)

@@ -29,23 +29,23 @@ use Rattle.substitution.specs.Substituting.{Substituted}
 use Rattle.steps.proofs.Laws.{Went, charge-went, charge-failed, charge-ok, charge-no, room-later, since, then-ok, then-no, unless-ok, unless-no}
 use Rattle.evaluate.specs.Evaluation.{ReadyFunction, functionOf, Evaluates, DoesFunction}
 
-pub function-stops : {left : ℕ} {l : List ℕ} {s : State} {n x : ℕ} {body : Body} {g : Charged} {e : Stop} → g ≡ chargeOf (body .size) s → g ≡ charged.Refused e
-    → DoesFunction left l l s n body x (Refused e)
+pub function-stops : {entries : ℕ} {l : List ℕ} {s : State} {n x : ℕ} {body : Body} {g : Charged} {e : Stop} → g ≡ chargeOf (body .size) s → g ≡ charged.Refused e
+    → DoesFunction entries l l s n body x (Refused e)
 unfolding functionOf
 function-stops {s = s} {body = body} {e = e} h k =
     let q = charge-failed (body .size) s h k in
     record { means = λ b t v p w z. stops e (rw (q .is) (then-no _ (charge-no (tsize t) s b (omega (arith, q .short, z))))) }
 
 -- what is left pays for less than the size at which sizes are cut
-few : {l : List ℕ} {s : State} → Room l s → s .units < 4097
+few : {l : List ℕ} {s : State} → Room l s → s .left < 4097
 few r = omega (arith, r .fits, r .small)
 
 module _ {l : List ℕ} {s u : State} {x : ℕ} {body : Body} {g : Charged} (r : ReadyFunction l s body x) (h : g ≡ chargeOf (body .size) s) (e : g ≡ charged.Paid u) where
   went : Went (body .size) s u
   went = charge-went (body .size) s h e
 
-  left-is : u .units ≡ s .units - body .size
-  left-is = ap (λ (y : State). y .units) (went .is)
+  left-is : u .left ≡ s .left - body .size
+  left-is = ap (λ (y : State). y .left) (went .is)
 
   pub substitute-ready : t.Ready l (u .top) (body .at) x
   substitute-ready =
@@ -83,7 +83,7 @@ module _ {l : List ℕ} {s u : State} {x : ℕ} {body : Body} {g : Charged} (r :
         }
 
     module _ {ex : Extent} (w : Measured l1 at ex) where
-      pub function-deep : {left : ℕ} → 64 < ex .nesting → DoesFunction left l l1 s n body x (Refused (record { refusal = TooDeep; units = u .units }))
+      pub function-deep : {entries : ℕ} → 64 < ex .nesting → DoesFunction entries l l1 s n body x (Refused (record { refusal = TooDeep; left = u .left }))
       unfolding functionOf madeTree mostNesting
       function-deep k =
           let low = few (r .room) in
@@ -91,7 +91,7 @@ module _ {l : List ℕ} {s u : State} {x : ℕ} {body : Body} {g : Charged} (r :
             means = λ b t v a c z.
                 let d = next t a z v c in
                 let deep : 64 < tnesting (substitute n v t) = omega (arith, k, w .means top1 (substitute n v t) (d .0) .nesting) in
-                stops (record { refusal = TooDeep; units = u .units })
+                stops (record { refusal = TooDeep; left = u .left })
                 (then-ok _ (charge-ok (tsize t) s b (omega (arith, went .enough, low, z)))
                 ∙ then-no _ (then-no _ (unless-no tooDeep (stateOf (paid (tsize t) s) b) (lt-leb (tnesting (substitute n v t)) 64 deep)))
                 ∙ ap (λ (j : ℕ). no tooDeep j) (omega (arith, went .enough, low, z, left-is)));
@@ -103,9 +103,9 @@ module _ {l : List ℕ} {s u : State} {x : ℕ} {body : Body} {g : Charged} (r :
             let d = next (r .thing) (r .shown) (r .sized) (r .value) (r .given) in
             record { thing = substitute n (r .value) (r .thing); shown = d .0; room = room-later (r .room) (d .1) len }
 
-        pub function-done : {left : ℕ} {l2 : List ℕ} {a : Answer} → Evaluates left l1 l2 (raisedTo top1 u) at a → DoesFunction left l l2 s n body x a
+        pub function-done : {entries : ℕ} {l2 : List ℕ} {a : Answer} → Evaluates entries l1 l2 (raisedTo top1 u) at a → DoesFunction entries l l2 s n body x a
         unfolding functionOf madeTree mostNesting
-        function-done {left} {l2} {a} v2 =
+        function-done {entries} {l2} {a} v2 =
             let low = few (r .room) in
             record {
               means = λ b t v c d z.
@@ -115,11 +115,11 @@ module _ {l : List ℕ} {s u : State} {x : ℕ} {body : Body} {g : Charged} (r :
                   since 0 0 (y .1) (omega arith) (omega arith)
                   (then-ok _ (charge-ok (tsize t) s b (omega (arith, went .enough, low, z)))
                   ∙ then-ok _ (then-ok _ (unless-ok tooDeep (stateOf (paid (tsize t) s) b) (le-leb (tnesting (substitute n v t)) 64 nest)))
-                  ∙ ap (λ (j : m.State). evaluate left (substitute n v t) j) same)
+                  ∙ ap (λ (j : m.State). evaluate entries (substitute n v t) j) same)
                   (v2 .means b (substitute n v t) (y .0));
             }
 
-  pub function-less : {T : ℕ} → s .units * 4 + 1 ≡ T → u .units * 4 < T
+  pub function-less : {T : ℕ} → s .left * 4 + 1 ≡ T → u .left * 4 < T
   function-less k = omega (arith, went .enough, left-is)
 
 pub ruleset functions = (function-stops, substitute-ready, substituted-seen, function-deep, function-ready-again, function-less, function-done)

@@ -22,7 +22,7 @@ use Rattle.things.specs.Rep.{Rep}
 use Rattle.things.specs.Measuring.{Seen}
 use Rattle.things.proofs.Frame.{carry}
 use Rattle.primitives.specs.Working.{Given, no-more, one-more}
-use Rattle.steps.proofs.Laws.{entry-refused, entry-goes, enter-left, enter-went, later-paid, later-trans, room-later, room-paid, on-done, on-refused, since, then-ok, then-no, unless-ok, unless-no}
+use Rattle.steps.proofs.Laws.{entry-refused, entry-goes, enter-spare, enter-went, later-paid, later-trans, room-later, room-paid, on-done, on-refused, since, then-ok, then-no, unless-ok, unless-no}
 use Rattle.evaluate.specs.Testing.{Tested}
 use Rattle.evaluate.specs.Evaluation.{ReadyApply, ReadyOne, callOf, Evaluates, Does, AppliesValue, CallsOne}
 use Rattle.evaluate.proofs.Entries.{entry}
@@ -30,26 +30,26 @@ use Rattle.table.specs.Sizes.{unitSize}
 
 -- ---- apply_value
 
-pub value-stops : {left : ℕ} {s : State} {x : Charged} {e : Stop} {l : List ℕ} {f i : ℕ} → x ≡ enterOf left s → x ≡ charged.Refused e → AppliesValue left l l s f i (Refused e)
-value-stops {left} {s} {e = e} h k = record { means = λ b t u p q. stops e (entry-refused (entry (app t (tcons u tnil))) left s b h k) }
+pub value-stops : {entries : ℕ} {s : State} {x : Charged} {e : Stop} {l : List ℕ} {f i : ℕ} → x ≡ enterOf entries s → x ≡ charged.Refused e → AppliesValue entries l l s f i (Refused e)
+value-stops {entries} {s} {e = e} h k = record { means = λ b t u p q. stops e (entry-refused (entry (app t (tcons u tnil))) entries s b h k) }
 
-module _ (left : ℕ) (s : State) {u : State} {x : Charged} (h : x ≡ enterOf left s) (e : x ≡ charged.Paid u) where
-  pub value-left : 1 ≤ left
-  value-left = enter-left left s h e
+module _ (entries : ℕ) (s : State) {u : State} {x : Charged} (h : x ≡ enterOf entries s) (e : x ≡ charged.Paid u) where
+  pub value-spare : 1 ≤ entries
+  value-spare = enter-spare entries s h e
 
   same-top : s .top ≡ u .top
-  same-top = sym (ap (λ (y : State). y .top) (enter-went left s h e .is))
+  same-top = sym (ap (λ (y : State). y .top) (enter-went entries s h e .is))
 
   pub value-head-ready : {l : List ℕ} {f i : ℕ} → ReadyOne l s f i → Ready Rep l u f
-  value-head-ready r = record { thing = r .value; shown = rw same-top at (r .shown); room = room-paid (r .room) (enter-went left s h e) }
+  value-head-ready r = record { thing = r .value; shown = rw same-top at (r .shown); room = room-paid (r .room) (enter-went entries s h e) }
 
-  module _ {l l1 : List ℕ} {f : ℕ} {a : Answer} (v : Evaluates (left - 1) l l1 u f a) where
-    pub value-head-refused : {i : ℕ} {d : Stop} → a ≡ Refused d → AppliesValue left l l1 s f i (Refused d)
+  module _ {l l1 : List ℕ} {f : ℕ} {a : Answer} (v : Evaluates (entries - 1) l l1 u f a) where
+    pub value-head-refused : {i : ℕ} {d : Stop} → a ≡ Refused d → AppliesValue entries l l1 s f i (Refused d)
     unfolding evalEntry
     value-head-refused {i} {d} k =
         record {
           means = λ b t w p q.
-              stops d (entry-goes (entry (app t (tcons w tnil))) left s b h e ∙ then-no _ (on-refused (v .means b t (rw same-top at p)) (ap ended k)));
+              stops d (entry-goes (entry (app t (tcons w tnil))) entries s b h e ∙ then-no _ (on-refused (v .means b t (rw same-top at p)) (ap ended k)));
         }
 
     module _ {o : Out} (k : a ≡ Done o) where
@@ -62,19 +62,19 @@ module _ (left : ℕ) (s : State) {u : State} {x : Charged} (h : x ≡ enterOf l
             thing = r .thing;
             shown = g .shown;
             given = carry c (g .later .kept) (g .later .grows);
-            room = room-later (room-paid (r .room) (enter-went left s h e)) (g .later) len;
+            room = room-later (room-paid (r .room) (enter-went entries s h e)) (g .later) len;
           }
 
-      pub value-called : {i : ℕ} {l2 : List ℕ} {r : Answer} → CallsOne (left - 1) l1 l2 (o .state) (o .at) i r → AppliesValue left l l2 s f i r
+      pub value-called : {i : ℕ} {l2 : List ℕ} {r : Answer} → CallsOne (entries - 1) l1 l2 (o .state) (o .at) i r → AppliesValue entries l l2 s f i r
       unfolding evalEntry callOf
       value-called {i} d =
-          let paid = later-paid l (enter-went left s h e) in
+          let paid = later-paid l (enter-went entries s h e) in
           record {
             means = λ b t w p q.
                 let g = on-done (v .means b t (rw same-top at p)) (ap ended k) in
                 let c : Rep l (u .top) i w = rw same-top at q in
                 since 1 unitSize (later-trans 1 unitSize paid (g .later) (omega arith) (omega arith)) (omega arith) (omega arith)
-                (entry-goes (entry (app t (tcons w tnil))) left s b h e ∙ then-ok _ (g .is))
+                (entry-goes (entry (app t (tcons w tnil))) entries s b h e ∙ then-ok _ (g .is))
                 (d .means b (g .value) w (g .shown) (carry c (g .later .kept) (g .later .grows)));
           }
 
@@ -87,13 +87,13 @@ pub one-ready : {l : List ℕ} {s : State} {f i : ℕ} → ReadyOne l s f i → 
 one-ready r = record { thing = r .thing; shown = r .given; room = r .room }
 
 module _ {l : List ℕ} {s : State} {f i : ℕ} {y : Bool} (h : Tested l f 1 y) where
-  pub one-refused : {left : ℕ} → y ≡ false → CallsOne left l l s f i (Refused (record { refusal = NotApplicable; units = s .units }))
+  pub one-refused : {entries : ℕ} → y ≡ false → CallsOne entries l l s f i (Refused (record { refusal = NotApplicable; left = s .left }))
   unfolding callOf tcount
   one-refused k =
-      record { means = λ b t u p q. stops (record { refusal = NotApplicable; units = s .units }) (then-no _ (unless-no notApplicable (stateOf s b) (sym (h .means (s .top) t p) ∙ k))) }
+      record { means = λ b t u p q. stops (record { refusal = NotApplicable; left = s .left }) (then-no _ (unless-no notApplicable (stateOf s b) (sym (h .means (s .top) t p) ∙ k))) }
 
-  module _ (k : y ≡ true) {left : ℕ} {l1 : List ℕ} {a : Answer} (v : Evaluates left l l1 s i a) where
-    pub one-argument-refused : {e : Stop} → a ≡ Refused e → CallsOne left l l1 s f i (Refused e)
+  module _ (k : y ≡ true) {entries : ℕ} {l1 : List ℕ} {a : Answer} (v : Evaluates entries l l1 s i a) where
+    pub one-argument-refused : {e : Stop} → a ≡ Refused e → CallsOne entries l l1 s f i (Refused e)
     unfolding callOf tcount eachTree
     one-argument-refused {e} z =
         record {
@@ -116,7 +116,7 @@ module _ {l : List ℕ} {s : State} {f i : ℕ} {y : Bool} (h : Tested l f 1 y) 
             room = room-later (r .room) (g .later) len;
           }
 
-      pub one-applied : {l2 : List ℕ} {r : Answer} → Does left l1 l2 (o .state) f (o .at) 0 0 r → CallsOne left l l2 s f i r
+      pub one-applied : {l2 : List ℕ} {r : Answer} → Does entries l1 l2 (o .state) f (o .at) 0 0 r → CallsOne entries l l2 s f i r
       unfolding callOf tcount eachTree
       one-applied d =
           record {
@@ -128,4 +128,4 @@ module _ {l : List ℕ} {s : State} {f i : ℕ} {y : Bool} (h : Tested l f 1 y) 
                 (d .means b t (tcons (g .value) tnil) (carry p (g .later .kept) (g .later .grows)) (one-more (g .shown) none) (sym (h .means (s .top) t p) ∙ k));
           }
 
-pub ruleset uses = (value-stops, value-left, value-head-ready, value-head-refused, value-call-ready, value-called, one-seen, one-ready, one-refused, one-argument-refused, one-apply-ready, one-applied)
+pub ruleset uses = (value-stops, value-spare, value-head-ready, value-head-refused, value-call-ready, value-called, one-seen, one-ready, one-refused, one-argument-refused, one-apply-ready, one-applied)

@@ -30,7 +30,7 @@ table =
 
 -- of 9 units, loading took 4
 abbrev start : ℕ → State
-start n = record { top = 115; units = n; names = 5; scopes = 0; bindings = 0 }
+start n = record { top = 115; left = n; names = 5; scopes = 0; bindings = 0 }
 
 abbrev sample : Tree
 sample = app (fun 4 (var 4)) (tcons (datum (number 9)) tnil)

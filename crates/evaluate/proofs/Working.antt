@@ -63,8 +63,8 @@ module _ {l : List ℕ} {s u : State} {p x y z : ℕ} {g : Charged} (r : ReadyPr
   went : Went 1 s u
   went = charge-went 1 s h e
 
-  left-is : u .units ≡ s .units - 1
-  left-is = ap (λ (v : State). v .units) (went .is)
+  left-is : u .left ≡ s .left - 1
+  left-is = ap (λ (v : State). v .left) (went .is)
 
   pub primitive-able : ReadyAll l (u .top) p x y z
   primitive-able =
@@ -82,14 +82,14 @@ module _ {l : List ℕ} {s u : State} {p x y z : ℕ} {g : Charged} (r : ReadyPr
     worked : Works l l1 (s .top) p x y z w
     worked = rw (went .is) at d
 
-    pub primitive-wrong : w ≡ Wrong → DoesPrimitive l l1 s p x y z (Refused (record { refusal = WrongArgument; units = u .units }))
+    pub primitive-wrong : w ≡ Wrong → DoesPrimitive l l1 s p x y z (Refused (record { refusal = WrongArgument; left = u .left }))
     unfolding applyPrimitive orWrongKind
     primitive-wrong k =
         record {
           means = λ b ts a c.
               let o = taken (primitiveOf p) (tcount ts) c in
               rw (o .is)
-              (stops (record { refusal = WrongArgument; units = u .units })
+              (stops (record { refusal = WrongArgument; left = u .left })
               (then-ok _ (charge-ok 1 s b (went .enough))
               ∙ ap (λ (v : Option Tree). orWrongKind v (stateOf (paid 1 s) b)) (on-wrong (worked .means (o .which) (o .is) ts a (o .able)) k)
               ∙ ap (λ (n : ℕ). no wrongArgument n) (sym left-is)));
@@ -109,7 +109,7 @@ module _ {l : List ℕ} {s u : State} {p x y z : ℕ} {g : Charged} (r : ReadyPr
           }
 
       module _ {ex : Extent} (f : Measured l1 (j .at) ex) where
-        pub primitive-deep : 64 < ex .nesting → DoesPrimitive l l1 s p x y z (Refused (record { refusal = TooDeep; units = u .units }))
+        pub primitive-deep : 64 < ex .nesting → DoesPrimitive l l1 s p x y z (Refused (record { refusal = TooDeep; left = u .left }))
         unfolding applyPrimitive orWrongKind madeTree mostNesting
         primitive-deep n =
             record {
@@ -117,7 +117,7 @@ module _ {l : List ℕ} {s u : State} {p x y z : ℕ} {g : Charged} (r : ReadyPr
                   let o = taken (primitiveOf p) (tcount ts) c in
                   let v = on-piece (worked .means (o .which) (o .is) ts a (o .able)) k in
                   let deep : 64 < tnesting (v .value) = omega (arith, n, f .means (j .top) (v .value) (v .shown) .nesting) in
-                  rw (o .is) (stops (record { refusal = TooDeep; units = u .units })
+                  rw (o .is) (stops (record { refusal = TooDeep; left = u .left })
                   (then-ok _ (charge-ok 1 s b (went .enough))
                   ∙ ap (λ (t : Option Tree). orWrongKind t (stateOf (paid 1 s) b)) (v .is)
                   ∙ then-no _ (unless-no tooDeep (stateOf (paid 1 s) b) (lt-leb (tnesting (v .value)) 64 deep))

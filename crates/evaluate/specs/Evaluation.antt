@@ -89,19 +89,19 @@ functionOf self n v b = do
 -- ---- what is given
 
 -- an entry charges at least one unit, and needs none of the words that it pays for
-pub record Evaluates (left : ℕ) (l l′ : List ℕ) (s : State) (i : ℕ) (r : Answer) : Type 0 where
-  pub means : (b : Store) (t : Tree) → Rep l (s .top) i t → Agrees (placed Rep) 1 unitSize l l′ s b (evaluate left t (stateOf s b)) (ended r)
+pub record Evaluates (entries : ℕ) (l l′ : List ℕ) (s : State) (i : ℕ) (r : Answer) : Type 0 where
+  pub means : (b : Store) (t : Tree) → Rep l (s .top) i t → Agrees (placed Rep) 1 unitSize l l′ s b (evaluate entries t (stateOf s b)) (ended r)
 
-pub record Forms (left : ℕ) (l l′ : List ℕ) (s : State) (i : ℕ) (r : Answer) : Type 0 where
-  pub means : (b : Store) (t : Tree) → Rep l (s .top) i t → Agrees (placed Rep) 0 0 l l′ s b (evalEntry (λ u. evaluate left u) t (stateOf s b)) (ended r)
+pub record Forms (entries : ℕ) (l l′ : List ℕ) (s : State) (i : ℕ) (r : Answer) : Type 0 where
+  pub means : (b : Store) (t : Tree) → Rep l (s .top) i t → Agrees (placed Rep) 0 0 l l′ s b (evalEntry (λ u. evaluate entries u) t (stateOf s b)) (ended r)
 
-pub record Applies (left : ℕ) (l l′ : List ℕ) (s : State) (c : ℕ) (r : Answer) : Type 0 where
+pub record Applies (entries : ℕ) (l l′ : List ℕ) (s : State) (c : ℕ) (r : Answer) : Type 0 where
   pub means : (b : Store) (t : Tree) (ts : Trees) → RepP l (s .top) c (tcons t ts)
-      → Agrees (placed Rep) 0 0 l l′ s b (evalEntry (λ u. evaluate left u) (app t ts) (stateOf s b)) (ended r)
+      → Agrees (placed Rep) 0 0 l l′ s b (evalEntry (λ u. evaluate entries u) (app t ts) (stateOf s b)) (ended r)
 
-pub record Calls (left : ℕ) (l l′ : List ℕ) (s : State) (f c : ℕ) (r : Answer) : Type 0 where
+pub record Calls (entries : ℕ) (l l′ : List ℕ) (s : State) (f c : ℕ) (r : Answer) : Type 0 where
   pub means : (b : Store) (t : Tree) (ts : Trees) → Rep l (s .top) f t → RepP l (s .top) c ts
-      → Agrees (placed Rep) 0 0 l l′ s b (callOf (λ u. evaluate left u) t ts (stateOf s b)) (ended r)
+      → Agrees (placed Rep) 0 0 l l′ s b (callOf (λ u. evaluate entries u) t ts (stateOf s b)) (ended r)
 
 abbrev pub valued : Shape Trees Values
 valued = record { shows = λ l o ts. Given l (o .state .top) (o .x) (o .y) (o .z) ts; state = λ o. o .state }
@@ -110,25 +110,25 @@ abbrev pub gathered : Gathered → Ended Values
 gathered (All v) = done v
 gathered (Refused f) = refused f
 
-pub record Gathers (left : ℕ) (l l′ : List ℕ) (s : State) (c : ℕ) (r : Gathered) : Type 0 where
-  pub means : (b : Store) (ts : Trees) → RepP l (s .top) c ts → Agrees valued 0 0 l l′ s b (eachTree (λ u. evaluate left u) ts (stateOf s b)) (gathered r)
+pub record Gathers (entries : ℕ) (l l′ : List ℕ) (s : State) (c : ℕ) (r : Gathered) : Type 0 where
+  pub means : (b : Store) (ts : Trees) → RepP l (s .top) c ts → Agrees valued 0 0 l l′ s b (eachTree (λ u. evaluate entries u) ts (stateOf s b)) (gathered r)
 
-pub record Does (left : ℕ) (l l′ : List ℕ) (s : State) (f x y z : ℕ) (r : Answer) : Type 0 where
+pub record Does (entries : ℕ) (l l′ : List ℕ) (s : State) (f x y z : ℕ) (r : Answer) : Type 0 where
   pub means : (b : Store) (t : Tree) (ts : Trees) → Rep l (s .top) f t → Given l (s .top) x y z ts → applicable t (tcount ts) ≡ true
-      → Agrees (placed Rep) 0 0 l l′ s b (apply (λ u. evaluate left u) t ts (stateOf s b)) (ended r)
+      → Agrees (placed Rep) 0 0 l l′ s b (apply (λ u. evaluate entries u) t ts (stateOf s b)) (ended r)
 
-pub record DoesFunction (left : ℕ) (l l′ : List ℕ) (s : State) (n : ℕ) (body : Body) (x : ℕ) (r : Answer) : Type 0 where
+pub record DoesFunction (entries : ℕ) (l l′ : List ℕ) (s : State) (n : ℕ) (body : Body) (x : ℕ) (r : Answer) : Type 0 where
   pub means : (b : Store) (t v : Tree) → Rep l (s .top) (body .at) t → Rep l (s .top) x v → body .size ≡ min mostSize (tsize t)
-      → Agrees (placed Rep) 0 0 l l′ s b (functionOf (λ u. evaluate left u) n v t (stateOf s b)) (ended r)
+      → Agrees (placed Rep) 0 0 l l′ s b (functionOf (λ u. evaluate entries u) n v t (stateOf s b)) (ended r)
 
 pub record DoesPrimitive (l l′ : List ℕ) (s : State) (p x y z : ℕ) (r : Answer) : Type 0 where
   pub means : (b : Store) (ts : Trees) → Given l (s .top) x y z ts → takes (primitiveOf p) (tcount ts) ≡ true
       → Agrees (placed Rep) 0 0 l l′ s b (applyPrimitive (primitiveOf p) ts (stateOf s b)) (ended r)
 
 -- the application of t to u, evaluated
-pub record AppliesValue (left : ℕ) (l l′ : List ℕ) (s : State) (f x : ℕ) (r : Answer) : Type 0 where
-  pub means : (b : Store) (t u : Tree) → Rep l (s .top) f t → Rep l (s .top) x u → Agrees (placed Rep) 1 unitSize l l′ s b (evaluate left (app t (tcons u tnil)) (stateOf s b)) (ended r)
+pub record AppliesValue (entries : ℕ) (l l′ : List ℕ) (s : State) (f x : ℕ) (r : Answer) : Type 0 where
+  pub means : (b : Store) (t u : Tree) → Rep l (s .top) f t → Rep l (s .top) x u → Agrees (placed Rep) 1 unitSize l l′ s b (evaluate entries (app t (tcons u tnil)) (stateOf s b)) (ended r)
 
-pub record CallsOne (left : ℕ) (l l′ : List ℕ) (s : State) (f x : ℕ) (r : Answer) : Type 0 where
+pub record CallsOne (entries : ℕ) (l l′ : List ℕ) (s : State) (f x : ℕ) (r : Answer) : Type 0 where
   pub means : (b : Store) (t u : Tree) → Rep l (s .top) f t → Rep l (s .top) x u
-      → Agrees (placed Rep) 0 0 l l′ s b (callOf (λ v. evaluate left v) t (tcons u tnil) (stateOf s b)) (ended r)
+      → Agrees (placed Rep) 0 0 l l′ s b (callOf (λ v. evaluate entries v) t (tcons u tnil) (stateOf s b)) (ended r)

@@ -1,4 +1,4 @@
-// Document 01, 'Parsing and evaluating': evaluating a tree in the table. `left` is how many entries there are to spare.
+// Document 01, 'Parsing and evaluating': evaluating a tree in the table. `entries` is how many there are to spare.
 use primitives::Part;
 use refusals::Refusal;
 use scopes::Name;
@@ -76,75 +76,75 @@ fn applicable_to(table: &[u32], f: u32, c: u32) -> bool
 // ---- the cycle
 
 // One entry.
-pub fn evaluate(table: &mut [u32], s: State, i: u32, left: u32) -> Answer
+pub fn evaluate(table: &mut [u32], s: State, i: u32, entries: u32) -> Answer
     requires { ⌜ Ready Rep (now table) s i ⌝ }
-    ensures { λ r. ⌜ Evaluates left (now (table .entry)) (now (table .exit)) s i r ⌝ }
+    ensures { λ r. ⌜ Evaluates entries (now (table .entry)) (now (table .exit)) s i r ⌝ }
 {
-    match s.enter(left) {
+    match s.enter(entries) {
         Charged::Refused(e) => Answer::Refused(e),
-        Charged::Paid(t) => form(table, t, i, left - 1),
+        Charged::Paid(t) => form(table, t, i, entries - 1),
     }
 }
 
 // What its form asks for, the entry charged.
-fn form(table: &mut [u32], s: State, i: u32, left: u32) -> Answer
+fn form(table: &mut [u32], s: State, i: u32, entries: u32) -> Answer
     requires { ⌜ Ready Rep (now table) s i ⌝ }
-    ensures { λ r. ⌜ Forms left (now (table .entry)) (now (table .exit)) s i r ⌝ }
+    ensures { λ r. ⌜ Forms entries (now (table .entry)) (now (table .exit)) s i r ⌝ }
 {
     let o = table::get_node(table, i);
     let tag = o.tag;
     if tag == Node::VARIABLE {
         return Answer::Refused(Stop {
             refusal: Refusal::Unowned,
-            units: s.units,
+            left: s.left,
         });
     }
     if tag == Node::APPLICATION {
-        return application(table, s, o.content, left);
+        return application(table, s, o.content, entries);
     }
     Answer::Done(Out { at: i, state: s })
 }
 
 // The chain c of a head and arguments.
-fn application(table: &mut [u32], s: State, c: u32, left: u32) -> Answer
+fn application(table: &mut [u32], s: State, c: u32, entries: u32) -> Answer
     requires { ⌜ ReadyApplication (now table) s c ⌝ }
-    ensures { λ r. ⌜ Applies left (now (table .entry)) (now (table .exit)) s c r ⌝ }
+    ensures { λ r. ⌜ Applies entries (now (table .entry)) (now (table .exit)) s c r ⌝ }
 {
     let cell = table::get_cell(table, c);
-    match evaluate(table, s, cell.head, left) {
+    match evaluate(table, s, cell.head, entries) {
         Answer::Refused(e) => Answer::Refused(e),
         Answer::Done(o) => {
             let s1 = o.state;
-            call(table, s1, o.at, cell.tail, left)
+            call(table, s1, o.at, cell.tail, entries)
         }
     }
 }
 
 // The value f applied to what the chain c evaluates to.
-fn call(table: &mut [u32], s: State, f: u32, c: u32, left: u32) -> Answer
+fn call(table: &mut [u32], s: State, f: u32, c: u32, entries: u32) -> Answer
     requires { ⌜ ReadyCall (now table) s f c ⌝ }
-    ensures { λ r. ⌜ Calls left (now (table .entry)) (now (table .exit)) s f c r ⌝ }
+    ensures { λ r. ⌜ Calls entries (now (table .entry)) (now (table .exit)) s f c r ⌝ }
 {
     if applicable_to(table, f, c) {
-        match arguments(table, s, c, left) {
+        match arguments(table, s, c, entries) {
             Gathered::Refused(e) => Answer::Refused(e),
             Gathered::All(v) => {
                 let s1 = v.state;
-                apply(table, s1, f, v.x, v.y, v.z, left)
+                apply(table, s1, f, v.x, v.y, v.z, entries)
             }
         }
     } else {
         Answer::Refused(Stop {
             refusal: Refusal::NotApplicable,
-            units: s.units,
+            left: s.left,
         })
     }
 }
 
 // The values of the chain c, from left to right.
-fn arguments(table: &mut [u32], s: State, c: u32, left: u32) -> Gathered
+fn arguments(table: &mut [u32], s: State, c: u32, entries: u32) -> Gathered
     requires { ⌜ Ready RepP (now table) s c ⌝ }
-    ensures { λ r. ⌜ Gathers left (now (table .entry)) (now (table .exit)) s c r ⌝ }
+    ensures { λ r. ⌜ Gathers entries (now (table .entry)) (now (table .exit)) s c r ⌝ }
 {
     if c == 0 {
         return Gathered::All(Values {
@@ -155,11 +155,11 @@ fn arguments(table: &mut [u32], s: State, c: u32, left: u32) -> Gathered
         });
     }
     let place = table::get_cell(table, c);
-    match evaluate(table, s, place.head, left) {
+    match evaluate(table, s, place.head, entries) {
         Answer::Refused(e) => Gathered::Refused(e),
         Answer::Done(first) => {
             let s1 = first.state;
-            match arguments(table, s1, place.tail, left) {
+            match arguments(table, s1, place.tail, entries) {
                 Gathered::Refused(e) => Gathered::Refused(e),
                 Gathered::All(others) => {
                     let s2 = others.state;
@@ -176,23 +176,30 @@ fn arguments(table: &mut [u32], s: State, c: u32, left: u32) -> Gathered
 }
 
 // The value f of as many values as it takes.
-fn apply(table: &mut [u32], s: State, f: u32, x: u32, y: u32, z: u32, left: u32) -> Answer
+fn apply(table: &mut [u32], s: State, f: u32, x: u32, y: u32, z: u32, entries: u32) -> Answer
     requires { ⌜ ReadyApply (now table) s f x y z ⌝ }
-    ensures { λ r. ⌜ Does left (now (table .entry)) (now (table .exit)) s f x y z r ⌝ }
+    ensures { λ r. ⌜ Does entries (now (table .entry)) (now (table .exit)) s f x y z r ⌝ }
 {
     let o = table::get_node(table, f);
     let tag = o.tag;
     if tag == Node::FUNCTION {
         let body = table::get_body(table, f);
-        return apply_function(table, s, Name(o.content), body, x, left);
+        return apply_function(table, s, Name(o.content), body, x, entries);
     }
     apply_primitive(table, s, o.content, x, y, z)
 }
 
 // The function of that name and body of the value x.
-fn apply_function(table: &mut [u32], s: State, name: Name, body: Body, x: u32, left: u32) -> Answer
+fn apply_function(
+    table: &mut [u32],
+    s: State,
+    name: Name,
+    body: Body,
+    x: u32,
+    entries: u32,
+) -> Answer
     requires { ⌜ ReadyFunction (now table) s body x ⌝ }
-    ensures { λ r. ⌜ DoesFunction left (now (table .entry)) (now (table .exit)) s (name .0) body x r ⌝ }
+    ensures { λ r. ⌜ DoesFunction entries (now (table .entry)) (now (table .exit)) s (name .0) body x r ⌝ }
 {
     match s.charge(body.size) {
         Charged::Refused(e) => Answer::Refused(e),
@@ -202,12 +209,12 @@ fn apply_function(table: &mut [u32], s: State, name: Name, body: Body, x: u32, l
             if State::MOST_NESTING < e.nesting {
                 return Answer::Refused(Stop {
                     refusal: Refusal::TooDeep,
-                    units: t.units,
+                    left: t.left,
                 });
             }
             let mut s1 = t;
             s1.top = m.top;
-            evaluate(table, s1, m.at, left)
+            evaluate(table, s1, m.at, entries)
         }
     }
 }
@@ -222,7 +229,7 @@ fn apply_primitive(table: &mut [u32], s: State, p: u32, x: u32, y: u32, z: u32) 
         Charged::Paid(u) => match primitives::primitive(table, u.top, p, x, y, z) {
             Part::Wrong => Answer::Refused(Stop {
                 refusal: Refusal::WrongArgument,
-                units: u.units,
+                left: u.left,
             }),
             Part::Piece(m) => {
                 let mut s1 = u;
@@ -231,7 +238,7 @@ fn apply_primitive(table: &mut [u32], s: State, p: u32, x: u32, y: u32, z: u32) 
                 if State::MOST_NESTING < e.nesting {
                     return Answer::Refused(Stop {
                         refusal: Refusal::TooDeep,
-                        units: s1.units,
+                        left: s1.left,
                     });
                 }
                 Answer::Done(Out {
@@ -245,39 +252,39 @@ fn apply_primitive(table: &mut [u32], s: State, p: u32, x: u32, y: u32, z: u32) 
 
 // ---- a macro's use: the value f applied to x, as the application of the two would be, which is not made and so not tested for its nesting
 
-pub fn apply_value(table: &mut [u32], s: State, f: u32, x: u32, left: u32) -> Answer
+pub fn apply_value(table: &mut [u32], s: State, f: u32, x: u32, entries: u32) -> Answer
     requires { ⌜ ReadyOne (now table) s f x ⌝ }
-    ensures { λ r. ⌜ AppliesValue left (now (table .entry)) (now (table .exit)) s f x r ⌝ }
+    ensures { λ r. ⌜ AppliesValue entries (now (table .entry)) (now (table .exit)) s f x r ⌝ }
 {
-    match s.enter(left) {
+    match s.enter(entries) {
         Charged::Refused(e) => Answer::Refused(e),
-        Charged::Paid(t) => match evaluate(table, t, f, left - 1) {
+        Charged::Paid(t) => match evaluate(table, t, f, entries - 1) {
             Answer::Refused(e) => Answer::Refused(e),
             Answer::Done(o) => {
                 let s1 = o.state;
-                call_one(table, s1, o.at, x, left - 1)
+                call_one(table, s1, o.at, x, entries - 1)
             }
         },
     }
 }
 
 // The value f applied to what the tree x evaluates to.
-fn call_one(table: &mut [u32], s: State, f: u32, x: u32, left: u32) -> Answer
+fn call_one(table: &mut [u32], s: State, f: u32, x: u32, entries: u32) -> Answer
     requires { ⌜ ReadyOne (now table) s f x ⌝ }
-    ensures { λ r. ⌜ CallsOne left (now (table .entry)) (now (table .exit)) s f x r ⌝ }
+    ensures { λ r. ⌜ CallsOne entries (now (table .entry)) (now (table .exit)) s f x r ⌝ }
 {
     if applicable(table, f, 1) {
-        match evaluate(table, s, x, left) {
+        match evaluate(table, s, x, entries) {
             Answer::Refused(e) => Answer::Refused(e),
             Answer::Done(o) => {
                 let s1 = o.state;
-                apply(table, s1, f, o.at, 0, 0, left)
+                apply(table, s1, f, o.at, 0, 0, entries)
             }
         }
     } else {
         Answer::Refused(Stop {
             refusal: Refusal::NotApplicable,
-            units: s.units,
+            left: s.left,
         })
     }
 }

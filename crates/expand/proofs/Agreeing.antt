@@ -14,7 +14,7 @@ use Rattle.table.specs.Sizes.{unitSize}
 -- s0 is s with r units more
 pub record Owed (r : ℕ) (s s0 : State) : Type 0 where
   pub top : s0 .top ≡ s .top
-  pub units : s0 .units ≡ s .units + r
+  pub left : s0 .left ≡ s .left + r
 
 pub over : {n v k w : ℕ} {l l1 l2 : List ℕ} {s s1 t1 s0 s2 : State} (j u g r : ℕ) → Later n v l l1 s s1 → Owed g s1 t1 → Owed r s s0 → j + g ≤ n + k + r → u + unitSize * g ≤ v + w + unitSize * r
     → Later k w l1 l2 t1 s2 → Later j u l l2 s0 s2
@@ -24,8 +24,8 @@ over {l = l} {l1 = l1} {l2 = l2} {s = s} {s1 = s1} {t1 = t1} {s0 = s0} j u g r p
     record {
       kept = rw (b .top) k2;
       grows = omega (arith, p .grows, q .grows, a .top, b .top);
-      fits = omega (arith, p .fits, q .fits, a .top, a .units, b .top, b .units);
-      spent = omega (arith, p .spent, q .spent, a .units, b .units);
+      fits = omega (arith, p .fits, q .fits, a .top, a .left, b .top, b .left);
+      spent = omega (arith, p .spent, q .spent, a .left, b .left);
     }
 
 pub beyond : {A O : Type 0} {S : Shape A O} {n v k w : ℕ} {l l1 l2 : List ℕ} {s s1 t1 s0 : State} {b : Store} {q q′ : m.Out A} {x : Ended O} (j u g r : ℕ)

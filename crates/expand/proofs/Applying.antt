@@ -28,14 +28,14 @@ use Rattle.scoping.specs.Changing.{objects}
 use Rattle.expand.specs.Making.{ReadyList, Lists}
 use Rattle.expand.specs.Leaves.{around}
 use Rattle.expand.specs.InPlace.{ShownNext, nexts, onwardOf, ReadyMacro, rewrittenRule, Rewritten}
-use Rattle.expand.specs.Cycle.{entries, partsOf, Ready, ReadyParts, ReadyChain, ReadyOnward, Expanded, ExpandedOnward, ExpandedApplication, ExpandedParts, ExpandedMacro}
+use Rattle.expand.specs.Cycle.{expansion, partsOf, Ready, ReadyParts, ReadyChain, ReadyOnward, Expanded, ExpandedOnward, ExpandedApplication, ExpandedParts, ExpandedMacro}
 use Rattle.expand.specs.declared.Surroundings.{Surroundings}
 use Rattle.expand.specs.declared.rewriting.Next.{Next}
 use Rattle.expand.specs.declared.rewriting.Onward.{Onward}
 use Rattle.expand.specs.declared.rewriting.Onward.the-variants as onward
 use Rattle.expand.proofs.Agreeing.{beyond}
 use Rattle.expand.proofs.Leaves.{owes-one}
-use Rattle.expand.proofs.InPlace.{unitsOf, onward-less, onward-ready, onward-goes}
+use Rattle.expand.proofs.InPlace.{leftOf, onward-less, onward-ready, onward-goes}
 use Rattle.expand.proofs.Rules.{macro-split}
 use Rattle.table.specs.Sizes.{cellSize, twoCells}
 use Rattle.expand.proofs.Within.{within-paid}
@@ -53,7 +53,7 @@ module _ {at : Surroundings} {st st1 l l1 : List ℕ} (s : State) {c : ℕ} {a :
 
   module _ {o : Out} (e : a ≡ Done o) where
     parts-gave : (ps : Stxs) (g : Env) → RepP l (s .top) c (fromStxs ps) → RepE l (s .top) (at .meanings) g
-        → Gave partsOf 0 0 l l1 s (bindsOf st1) (expandAll (entries (at .left) (around g at)) ps (stateOf s (bindsOf st))) o
+        → Gave partsOf 0 0 l l1 s (bindsOf st1) (expandAll (expansion (at .entries) (around g at)) ps (stateOf s (bindsOf st))) o
     parts-gave ps g w y = on-done (v .means ps g w y) (ap ended e)
 
     pub application-list : {i : ℕ} → ReadyChain l st (unpaid s) i c at → length l1 ≡ length l → ReadyList l1 (o .state) i (o .at)
@@ -86,13 +86,13 @@ module _ {l st : List ℕ} {x : Onward} {at : Surroundings} (r : ReadyOnward l s
   pub in-place-declared : Declared (o .scope)
   in-place-declared = r .next o e .shown .declared
 
-  pub in-place-ready : {left ph : ℕ} {p : ScopeSet} → Ready l st (o .state) (o .at) (record { left = left; phase = ph; meanings = o .meanings; prunable = p })
+  pub in-place-ready : {entries ph : ℕ} {p : ScopeSet} → Ready l st (o .state) (o .at) (record { entries = entries; phase = ph; meanings = o .meanings; prunable = p })
   in-place-ready =
       let q = r .next o e in
       record { thing = q .further .object; shown = q .shown .rep; within = record { meant = q .shown .meant; known = q .shown .known; room = q .room; held = q .held } }
 
-pub in-place-less : {x : Onward} {o : Next} {T : ℕ} → x ≡ onward.Done o → unitsOf x * 32 + 1 ≡ T → o .state .units * 32 < T
-in-place-less e z = omega (arith, ap unitsOf e)
+pub in-place-less : {x : Onward} {o : Next} {T : ℕ} → x ≡ onward.Done o → leftOf x * 32 + 1 ≡ T → o .state .left * 32 < T
+in-place-less e z = omega (arith, ap leftOf e)
 
 pub in-place-refused : {at : Surroundings} {st l : List ℕ} {x : Onward} {f : Stop} → x ≡ onward.Refused f → ExpandedOnward at st st l l x (Refused f)
 in-place-refused {f = f} e = record {
@@ -101,13 +101,13 @@ in-place-refused {f = f} e = record {
 }
 
 pub in-place-expanded : {at : Surroundings} {st st1 l l1 : List ℕ} {x : Onward} {o : Next} {p : ScopeSet} {r : Answer} → x ≡ onward.Done o → scopesOf p ≡ add (o .scope .0) (scopesOf (at .prunable))
-    → Expanded (record { left = at .left; phase = at .phase; meanings = o .meanings; prunable = p }) st st1 l l1 (o .state) (o .at) r → ExpandedOnward at st st1 l l1 x r
+    → Expanded (record { entries = at .entries; phase = at .phase; meanings = o .meanings; prunable = p }) st st1 l l1 (o .state) (o .at) r → ExpandedOnward at st st1 l l1 x r
 in-place-expanded {at} {st} {st1} {l} {l1} {x} {o} {p} {r} e wider a = record {
   means = λ n k h w.
       let same : o ≡ n = cc in
       let v : ShownNext at l o k = rw same w in
       let there : k .there ≡ record { phase = at .phase; meanings = v .meant; prunable = scopesOf p } = v .there ∙ (λ i. record { phase = at .phase; meanings = v .meant; prunable = (sym wider) i }) in
-      let d : Agrees objects 1 twoCells l l1 (o .state) (bindsOf st1) (expand (at .left) (k .there) (k .object) (stateOf (o .state) (bindsOf st))) (ended r) = rw there (a .means (k .object) (v .meant) (v .rep) (v .known)) in
+      let d : Agrees objects 1 twoCells l l1 (o .state) (bindsOf st1) (expand (at .entries) (k .there) (k .object) (stateOf (o .state) (bindsOf st))) (ended r) = rw there (a .means (k .object) (v .meant) (v .rep) (v .known)) in
       rw same at d;
   refused = λ g h. let z : _≡_ {A = ℕ} 0 1 = cc in absurd (omega arith);
 }
@@ -115,20 +115,20 @@ in-place-expanded {at} {st} {st1} {l} {l1} {x} {o} {p} {r} e wider a = record {
 -- ---- a macro's use
 
 module _ {at : Surroundings} {l l1 : List ℕ} {s : State} {i w : ℕ} {x : Onward} (v : Rewritten at l l1 s i w x) where
-  made-of : (r : ReadyMacro l s i w at) (q : Store) → Agrees (nexts at) 1 cellSize l l1 s q (rewrittenRule (at .left) (around (r .meant) at) (r .value) (r .thing) (stateOf s q)) (onwardOf x)
+  made-of : (r : ReadyMacro l s i w at) (q : Store) → Agrees (nexts at) 1 cellSize l l1 s q (rewrittenRule (at .entries) (around (r .meant) at) (r .value) (r .thing) (stateOf s q)) (onwardOf x)
   made-of r q = v .means q (r .thing) (r .value) (r .meant) (r .shown) (r .shown-value) (r .known)
 
   pub macro-next-ready : {st : List ℕ} → ReadyMacro l s i w at → Held st s → length l1 ≡ length l → ReadyOnward l1 st x at
   macro-next-ready r h len = onward-ready (made-of r (λ n. [])) (r .room) h len refl
 
-  pub macro-less : {T : ℕ} → ReadyMacro l s i w at → s .units * 32 + 18 ≡ T → unitsOf x * 32 + 1 < T
+  pub macro-less : {T : ℕ} → ReadyMacro l s i w at → s .left * 32 + 18 ≡ T → leftOf x * 32 + 1 < T
   macro-less r z = omega (arith, onward-less x (made-of r (λ n. [])))
 
   pub macro-expanded : {st st1 l2 : List ℕ} {r : Answer} → ExpandedOnward at st st1 l1 l2 x r → ExpandedMacro at st st1 l l2 s i w r
   macro-expanded {st} p =
       record {
         means = λ y t g a b k.
-            since 1 twoCells (later-refl l s) (omega arith) (omega arith) (macro-split (entries (at .left)) (at .left) (around g at) (stateOf s (bindsOf st)) t y)
+            since 1 twoCells (later-refl l s) (omega arith) (omega arith) (macro-split (expansion (at .entries)) (at .entries) (around g at) (stateOf s (bindsOf st)) t y)
             (onward-goes x (v .means (bindsOf st) y t g a b k) p);
       }
 

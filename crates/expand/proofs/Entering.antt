@@ -29,7 +29,7 @@ use Rattle.steps.specs.declared.Answer.{Answer}
 use Rattle.steps.specs.declared.Answer.the-variants.{Done, Refused}
 use Rattle.steps.specs.declared.Charged.{Charged}
 use Rattle.steps.specs.declared.Charged.the-variants as charged
-use Rattle.steps.proofs.Laws.{Went, enter-left, enter-went, entry-refused, entry-goes, later-refl}
+use Rattle.steps.proofs.Laws.{Went, enter-spare, enter-went, entry-refused, entry-goes, later-refl}
 use Rattle.parse.specs.Shown.{Held}
 use Rattle.parse.specs.Parsing.{unpaid}
 use Rattle.forms.proofs.Shapes.{nil-at, first-at}
@@ -40,7 +40,7 @@ use Rattle.environment.proofs.Laws.{on-lambda, on-let-syntax, on-quote, on-synt
 use Rattle.scoping.specs.Changing.{objects}
 use Rattle.expand.specs.Leaves.{around, ReadyName, ExpandedName, ReadyTail, ExpandedQuote, ExpandedSyntax}
 use Rattle.expand.specs.InPlace.{ReadyMacro}
-use Rattle.expand.specs.Cycle.{entries, Ready, ReadyChain, ReadyForm, ReadyLet, Expanded, ExpandedEntry, ExpandedList, ExpandedApplication, ExpandedLambda, ExpandedLetSyntax, ExpandedMacro}
+use Rattle.expand.specs.Cycle.{expansion, Ready, ReadyChain, ReadyForm, ReadyLet, Expanded, ExpandedEntry, ExpandedList, ExpandedApplication, ExpandedLambda, ExpandedLetSyntax, ExpandedMacro}
 use Rattle.expand.specs.declared.Surroundings.{Surroundings}
 use Rattle.expand.proofs.Agreeing.{beyond}
 use Rattle.expand.proofs.Leaves.{owes-none, owes-one}
@@ -52,8 +52,8 @@ use Rattle.expand.proofs.Within.{within-paid}
 unpaid-is : {s u : State} → Went 1 s u → unpaid u ≡ s
 unfolding unpaid
 unpaid-is {s} {u} w =
-    let n : s .units - 1 + 1 ≡ s .units = omega (arith, w .enough) in
-    rw (w .is) (λ j. record { top = s .top; units = n j; names = s .names; scopes = s .scopes; bindings = s .bindings })
+    let n : s .left - 1 + 1 ≡ s .left = omega (arith, w .enough) in
+    rw (w .is) (λ j. record { top = s .top; left = n j; names = s .names; scopes = s .scopes; bindings = s .bindings })
 
 top-is : {s u : State} → Went 1 s u → u .top ≡ s .top
 top-is w = ap (λ (y : State). y .top) (w .is)
@@ -61,33 +61,33 @@ top-is w = ap (λ (y : State). y .top) (w .is)
 -- ---- expand
 
 abbrev inEntry : Surroundings → Surroundings
-inEntry at = record { left = at .left - 1; phase = at .phase; meanings = at .meanings; prunable = at .prunable }
+inEntry at = record { entries = at .entries - 1; phase = at .phase; meanings = at .meanings; prunable = at .prunable }
 
-module _ (at : Surroundings) (s : State) {u : State} {x : Charged} (h : x ≡ enterOf (at .left) s) (e : x ≡ charged.Paid u) where
-  pub enter-one : 1 ≤ at .left
-  enter-one = enter-left (at .left) s h e
+module _ (at : Surroundings) (s : State) {u : State} {x : Charged} (h : x ≡ enterOf (at .entries) s) (e : x ≡ charged.Paid u) where
+  pub enter-one : 1 ≤ at .entries
+  enter-one = enter-spare (at .entries) s h e
 
-  pub enter-less : {T : ℕ} → s .units * 32 ≡ T → u .units * 32 + 20 < T
-  enter-less k = let q = enter-went (at .left) s h e in omega (arith, q .enough, ap (λ (y : State). y .units) (q .is))
+  pub enter-less : {T : ℕ} → s .left * 32 ≡ T → u .left * 32 + 20 < T
+  enter-less k = let q = enter-went (at .entries) s h e in omega (arith, q .enough, ap (λ (y : State). y .left) (q .is))
 
   pub enter-ready : {l st : List ℕ} {i : ℕ} → Ready l st s i at → Ready l st (unpaid u) i (inEntry at)
   enter-ready r =
-      rw (unpaid-is (enter-went (at .left) s h e)) (record { thing = r .thing; shown = r .shown; within = record { meant = r .within .meant; known = r .within .known; room = r .within .room; held = r .within .held } })
+      rw (unpaid-is (enter-went (at .entries) s h e)) (record { thing = r .thing; shown = r .shown; within = record { meant = r .within .meant; known = r .within .known; room = r .within .room; held = r .within .held } })
 
   pub enter-goes : {st st1 l l1 : List ℕ} {i : ℕ} {r : Answer} → ExpandedEntry (inEntry at) st st1 l l1 u i r → Expanded at st st1 l l1 s i r
   enter-goes {st} {st1} {l} {l1} {i} {r} f =
-      let w = enter-went (at .left) s h e in
+      let w = enter-went (at .entries) s h e in
       record {
         means = λ y g q k.
             let a = f .means y g (rw (top-is w) q) (rw (top-is w) k) in
-            let d : Agrees objects 1 twoCells l l1 s (bindsOf st1) (expandEntry (entries (at .left - 1)) (at .left - 1) (around g at) y (stateOf u (bindsOf st))) (ended r) = rw (unpaid-is w) at a in
-            rw (entry-goes (expand-entry (around g at) y) (at .left) s (bindsOf st) h e) d;
+            let d : Agrees objects 1 twoCells l l1 s (bindsOf st1) (expandEntry (expansion (at .entries - 1)) (at .entries - 1) (around g at) y (stateOf u (bindsOf st))) (ended r) = rw (unpaid-is w) at a in
+            rw (entry-goes (expand-entry (around g at) y) (at .entries) s (bindsOf st) h e) d;
       }
 
-pub enter-stops : {at : Surroundings} {st : List ℕ} {s : State} {x : Charged} {f : Stop} {l : List ℕ} {i : ℕ} → x ≡ enterOf (at .left) s → x ≡ charged.Refused f
+pub enter-stops : {at : Surroundings} {st : List ℕ} {s : State} {x : Charged} {f : Stop} {l : List ℕ} {i : ℕ} → x ≡ enterOf (at .entries) s → x ≡ charged.Refused f
     → Expanded at st st l l s i (Refused f)
 enter-stops {at} {st} {s} {f = f} h e =
-    record { means = λ y g q k. stops f (entry-refused (expand-entry (around g at) y) (at .left) s (bindsOf st) h e) }
+    record { means = λ y g q k. stops f (entry-refused (expand-entry (around g at) y) (at .entries) s (bindsOf st) h e) }
 
 -- ---- an entry by its tag
 
@@ -126,7 +126,7 @@ module _ {st l : List ℕ} (s : State) {i : ℕ} {at : Surroundings} {o : Node} 
         means = λ x g w k.
             let q = symbol-at w e h in
             let w2 : Rep l (s .top) i (stx (atom (q .0) (symbol (q .1 .0)))) = rw (q .1 .1) at w in
-            rw (q .1 .1, entry-symbol (entries (at .left)) (at .left) (around g at) (stateOf s (bindsOf st)) (q .0) (q .1 .0)) (a .means (q .0) (q .1 .0) g w2 k);
+            rw (q .1 .1, entry-symbol (expansion (at .entries)) (at .entries) (around g at) (stateOf s (bindsOf st)) (q .0) (q .1 .0)) (a .means (q .0) (q .1 .0) g w2 k);
       }
 
   pub entry-other : Ready l st (unpaid s) i at → ¬ (o .tag ≡ listTag) → ¬ (o .tag ≡ 0) → ExpandedEntry at st st l l s i (Done (record { at = i; state = s }))
@@ -135,9 +135,9 @@ module _ {st l : List ℕ} (s : State) {i : ℕ} {at : Surroundings} {o : Node} 
       record {
         means = λ x g w k.
             let q = atom-at w e (omega (arith, stx-tag w e, n5)) in
-            let rule : expandEntry (entries (at .left)) (at .left) (around g at) x (stateOf s (bindsOf st)) ≡ ok x (stateOf s (bindsOf st)) =
-            ap (λ (v : Stx). expandEntry (entries (at .left)) (at .left) (around g at) v (stateOf s (bindsOf st))) (same-object (q .is))
-            ∙ entry-atom (entries (at .left)) (at .left) (around g at) (stateOf s (bindsOf st)) (q .sets) (q .value) (λ t. n0 (q .tag ∙ t))
+            let rule : expandEntry (expansion (at .entries)) (at .entries) (around g at) x (stateOf s (bindsOf st)) ≡ ok x (stateOf s (bindsOf st)) =
+            ap (λ (v : Stx). expandEntry (expansion (at .entries)) (at .entries) (around g at) v (stateOf s (bindsOf st))) (same-object (q .is))
+            ∙ entry-atom (expansion (at .entries)) (at .entries) (around g at) (stateOf s (bindsOf st)) (q .sets) (q .value) (λ t. n0 (q .tag ∙ t))
             ∙ ap (λ (v : Stx). ok v (stateOf s (bindsOf st))) (sym (same-object (q .is))) in
             gives _ (record {
               value = x;
@@ -150,12 +150,12 @@ module _ {st l : List ℕ} (s : State) {i : ℕ} {at : Surroundings} {o : Node} 
 -- ---- a list by its head's meaning
 
 same-form : (at : Surroundings) (g : Env) (y : ms.State) {l l1 : List ℕ} {s : State} {b : Store} {x : Ended Out} (t : Tree) (k : Sets) {ps qs : Stxs} → ps ≡ qs
-    → Agrees objects 1 twoCells l l1 s b (expandMacro (entries (at .left)) (at .left) (around g at) t (list k ps) y) x → Agrees objects 1 twoCells l l1 s b (expandMacro (entries (at .left)) (at .left) (around g at) t (list k qs) y) x
+    → Agrees objects 1 twoCells l l1 s b (expandMacro (expansion (at .entries)) (at .entries) (around g at) t (list k ps) y) x → Agrees objects 1 twoCells l l1 s b (expandMacro (expansion (at .entries)) (at .entries) (around g at) t (list k qs) y) x
 same-form at g y t k e a = rw e at a
 
 pub list-empty : {at : Surroundings} {st l : List ℕ} {s : State} {i c : ℕ} {r : Answer} → c ≡ 0 → r ≡ Refused (stopOf NoRule s) → ExpandedList at st st l l s i c r
 list-empty {at} {st} {l} {s} h same =
-    rw same (record { means = λ k ps g u w z. rw (nil-at ps w h) (stops _ (entry-empty (entries (at .left)) (at .left) (around g at) (stateOf s (bindsOf st)) k)) })
+    rw same (record { means = λ k ps g u w z. rw (nil-at ps w h) (stops _ (entry-empty (expansion (at .entries)) (at .entries) (around g at) (stateOf s (bindsOf st)) k)) })
 
 module _ {st l : List ℕ} (s : State) {i c : ℕ} {at : Surroundings} where
   pub list-inside : ReadyChain l st (unpaid s) i c at → ¬ (c ≡ 0) → c + cellSize ≤ length l
@@ -210,7 +210,7 @@ module _ {st l : List ℕ} (s : State) {i c : ℕ} {at : Surroundings} where
               means = λ k ps g u v y.
                   let q = first-at ps v h e in
                   let m = on-lambda (p .means (s .top) (q .first) g (q .cell .shown) y) z in
-                  rw (q .is, list-means (entries (at .left)) (at .left) (around g at) (stateOf s (bindsOf st)) k (q .first) (q .others) m, form-lambda (entries (at .left)) (at .left) (around g at) (stateOf s (bindsOf st)) k (q .first) (q .others))
+                  rw (q .is, list-means (expansion (at .entries)) (at .entries) (around g at) (stateOf s (bindsOf st)) k (q .first) (q .others) m, form-lambda (expansion (at .entries)) (at .entries) (around g at) (stateOf s (bindsOf st)) k (q .first) (q .others))
                   (a .means k (q .first) (q .others) g (rw (q .is) at u) (q .cell .shown) (q .cell .shown-others) y);
             }
 
@@ -220,7 +220,7 @@ module _ {st l : List ℕ} (s : State) {i c : ℕ} {at : Surroundings} where
               means = λ k ps g u v y.
                   let q = first-at ps v h e in
                   let m = on-let-syntax (p .means (s .top) (q .first) g (q .cell .shown) y) z in
-                  rw (q .is, list-means (entries (at .left)) (at .left) (around g at) (stateOf s (bindsOf st)) k (q .first) (q .others) m, form-let-syntax (entries (at .left)) (at .left) (around g at) (stateOf s (bindsOf st)) k (q .first) (q .others))
+                  rw (q .is, list-means (expansion (at .entries)) (at .entries) (around g at) (stateOf s (bindsOf st)) k (q .first) (q .others) m, form-let-syntax (expansion (at .entries)) (at .entries) (around g at) (stateOf s (bindsOf st)) k (q .first) (q .others))
                   (a .means (q .others) g (q .cell .shown-others) y);
             }
 
@@ -231,7 +231,7 @@ module _ {st l : List ℕ} (s : State) {i c : ℕ} {at : Surroundings} where
                   let q = first-at ps v h e in
                   let m = on-variable (p .means (s .top) (q .first) g (q .cell .shown) y) z in
                   let d = a .means k ps g u v y in
-                  rw (q .is, list-means (entries (at .left)) (at .left) (around g at) (stateOf s (bindsOf st)) k (q .first) (q .others) (m .is), form-variable (entries (at .left)) (at .left) (around g at) (stateOf s (bindsOf st)) k (q .first) (q .others) (m .sets) (m .symb))
+                  rw (q .is, list-means (expansion (at .entries)) (at .entries) (around g at) (stateOf s (bindsOf st)) k (q .first) (q .others) (m .is), form-variable (expansion (at .entries)) (at .entries) (around g at) (stateOf s (bindsOf st)) k (q .first) (q .others) (m .sets) (m .symb))
                   (rw (q .is) at d);
             }
 
@@ -242,7 +242,7 @@ module _ {st l : List ℕ} (s : State) {i c : ℕ} {at : Surroundings} where
                   let q = first-at ps v h e in
                   let m = on-unknown (p .means (s .top) (q .first) g (q .cell .shown) y) z in
                   let d = a .means k ps g u v y in
-                  rw (q .is, list-means (entries (at .left)) (at .left) (around g at) (stateOf s (bindsOf st)) k (q .first) (q .others) m, form-unknown (entries (at .left)) (at .left) (around g at) (stateOf s (bindsOf st)) k (q .first) (q .others))
+                  rw (q .is, list-means (expansion (at .entries)) (at .entries) (around g at) (stateOf s (bindsOf st)) k (q .first) (q .others) m, form-unknown (expansion (at .entries)) (at .entries) (around g at) (stateOf s (bindsOf st)) k (q .first) (q .others))
                   (rw (q .is) at d);
             }
 
@@ -253,7 +253,7 @@ module _ {st l : List ℕ} (s : State) {i c : ℕ} {at : Surroundings} where
                   let q = first-at ps v h e in
                   let m = on-macro (p .means (s .top) (q .first) g (q .cell .shown) y) z in
                   let d = a .means (list k ps) (m .value) g u (m .shown) y in
-                  rw (q .is, list-means (entries (at .left)) (at .left) (around g at) (stateOf s (bindsOf st)) k (q .first) (q .others) (m .is), form-macro (entries (at .left)) (at .left) (around g at) (stateOf s (bindsOf st)) k (q .first) (q .others) (m .value))
+                  rw (q .is, list-means (expansion (at .entries)) (at .entries) (around g at) (stateOf s (bindsOf st)) k (q .first) (q .others) (m .is), form-macro (expansion (at .entries)) (at .entries) (around g at) (stateOf s (bindsOf st)) k (q .first) (q .others) (m .value))
                   (same-form at g (stateOf s (bindsOf st)) (m .value) k (q .is) (beyond 1 twoCells 0 1 (later-refl l s) (owes-none s) (owes-one s) (omega arith) (omega arith) refl d));
             }
 
@@ -263,7 +263,7 @@ module _ {st l : List ℕ} (s : State) {i c : ℕ} {at : Surroundings} where
             means = λ k ps g u v y.
                 let q = first-at ps v h e in
                 let m = on-quote (p .means (s .top) (q .first) g (q .cell .shown) y) z in
-                rw (q .is, list-means (entries (at .left)) (at .left) (around g at) (stateOf s (bindsOf st)) k (q .first) (q .others) m, form-quote (entries (at .left)) (at .left) (around g at) (stateOf s (bindsOf st)) k (q .first) (q .others))
+                rw (q .is, list-means (expansion (at .entries)) (at .entries) (around g at) (stateOf s (bindsOf st)) k (q .first) (q .others) m, form-quote (expansion (at .entries)) (at .entries) (around g at) (stateOf s (bindsOf st)) k (q .first) (q .others))
                 (a .means (bindsOf st) (list k (cons (q .first) (q .others))) (q .others) (rw (q .is) at u) (q .cell .shown-others));
           }
 
@@ -273,7 +273,7 @@ module _ {st l : List ℕ} (s : State) {i c : ℕ} {at : Surroundings} where
             means = λ k ps g u v y.
                 let q = first-at ps v h e in
                 let m = on-syntax (p .means (s .top) (q .first) g (q .cell .shown) y) z in
-                rw (q .is, list-means (entries (at .left)) (at .left) (around g at) (stateOf s (bindsOf st)) k (q .first) (q .others) m, form-syntax (entries (at .left)) (at .left) (around g at) (stateOf s (bindsOf st)) k (q .first) (q .others))
+                rw (q .is, list-means (expansion (at .entries)) (at .entries) (around g at) (stateOf s (bindsOf st)) k (q .first) (q .others) m, form-syntax (expansion (at .entries)) (at .entries) (around g at) (stateOf s (bindsOf st)) k (q .first) (q .others))
                 (a .means (bindsOf st) g k (q .first) (q .others) (rw (q .is) at u) (q .cell .shown) (q .cell .shown-others));
           }
 
@@ -282,7 +282,7 @@ module _ {st l : List ℕ} (s : State) {i c : ℕ} {at : Surroundings} where
           rw same (record {
             means = λ k ps g u v y.
                 let q = first-at ps v h e in
-                rw (q .is) (stops _ (list-unclear (entries (at .left)) (at .left) (around g at) (stateOf s (bindsOf st)) k (q .first) (q .others) (on-meaning-unclear (p .means (s .top) (q .first) g (q .cell .shown) y) z)));
+                rw (q .is) (stops _ (list-unclear (expansion (at .entries)) (at .entries) (around g at) (stateOf s (bindsOf st)) k (q .first) (q .others) (on-meaning-unclear (p .means (s .top) (q .first) g (q .cell .shown) y) z)));
           })
 
 pub ruleset laws = (

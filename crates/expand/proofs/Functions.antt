@@ -38,12 +38,12 @@ use Rattle.scoping.specs.declared.Bound.the-variants as bounds
 use Rattle.expand.specs.Making.{ReadyThree, ThreeLists}
 use Rattle.expand.specs.Leaves.{around}
 use Rattle.expand.specs.InPlace.{furtherRule, nexts, onwardOf, ReadyScoped, scopedRule, Scoped}
-use Rattle.expand.specs.Cycle.{entries, ReadyForm, ReadyFunction, ReadyAbstraction, ReadyOnward, abstractionRule, ExpandedOnward, ExpandedLambda, ExpandedFunction, ExpandedAbstraction}
+use Rattle.expand.specs.Cycle.{expansion, ReadyForm, ReadyFunction, ReadyAbstraction, ReadyOnward, abstractionRule, ExpandedOnward, ExpandedLambda, ExpandedFunction, ExpandedAbstraction}
 use Rattle.expand.specs.declared.Surroundings.{Surroundings}
 use Rattle.expand.specs.declared.rewriting.Onward.{Onward}
 use Rattle.expand.proofs.Agreeing.{beyond}
 use Rattle.expand.proofs.Leaves.{owes-one, owes-two}
-use Rattle.expand.proofs.InPlace.{unitsOf, onward-less, onward-ready, onward-goes}
+use Rattle.expand.proofs.InPlace.{leftOf, onward-less, onward-ready, onward-goes}
 use Rattle.expand.proofs.Rules.{function-split}
 use Rattle.table.specs.Sizes.{cellSize, twoCells, nodeSpare, tripleSpare}
 use Rattle.expand.proofs.Within.{within-later, within-paid}
@@ -117,13 +117,13 @@ module _ {st l : List ℕ} (s : State) {i head id body : ℕ} {at : Surroundings
   module _ {st1 l1 : List ℕ} {z : Bound} (v : BindsFresh (at .phase) st st1 l l1 s id z) where
     pub function-refused : {f : Stop} → z ≡ bounds.Refused f → ExpandedFunction at st st1 l l1 s i head id body (Refused f)
     function-refused e =
-        record { means = λ k qs h c x y g u w a b t. stops _ (function-split (entries (at .left)) (at .left) (around g at) (stateOf s (bindsOf st)) k h c x y ∙ then-no _ (on-refused (v .means c x a) (ap boundOf e))) }
+        record { means = λ k qs h c x y g u w a b t. stops _ (function-split (expansion (at .entries)) (at .entries) (around g at) (stateOf s (bindsOf st)) k h c x y ∙ then-no _ (on-refused (v .means c x a) (ap boundOf e))) }
 
     module _ {o : Binder} (e : z ≡ bounds.Done o) where
       bound-to : (c : Sets) (x : ℕ) → Rep l (s .top) id (stx (atom c (symbol x))) → Gave (binders x) 1 nodeSpare l l1 s (bindsOf st1) (bindFresh (at .phase) c x (stateOf s (bindsOf st))) o
       bound-to c x a = on-done (v .means c x a) (ap boundOf e)
 
-      pub function-less : {T : ℕ} → s .units * 32 + 17 ≡ T → o .state .units * 32 + 16 < T
+      pub function-less : {T : ℕ} → s .left * 32 + 17 ≡ T → o .state .left * 32 + 16 < T
       unfolding unpaid
       function-less t = omega (arith, bound-to (r .binder) (r .symb) (r .shown-id) .later .spent)
 
@@ -152,7 +152,7 @@ module _ {st l : List ℕ} (s : State) {i head id body : ℕ} {at : Surroundings
             means = λ k qs h c x y g u w a b t.
                 let j = bound-to c x a in
                 beyond 1 twoCells 2 1 (j .later) (owes-two (o .state)) (owes-one s) (omega arith) (omega arith)
-                (function-split (entries (at .left)) (at .left) (around g at) (stateOf s (bindsOf st)) k h c x y ∙ then-ok _ (j .is))
+                (function-split (expansion (at .entries)) (at .entries) (around g at) (stateOf s (bindsOf st)) k h c x y ∙ then-ok _ (j .is))
                 (f .means k qs h (j .value) x y g (carry u (j .later .kept) (j .later .grows)) (carry w (j .later .kept) (j .later .grows)) (j .shown) (carry b (j .later .kept) (j .later .grows)) (carryE t (j .later .kept) (j .later .grows)));
           }
 
@@ -182,12 +182,12 @@ module _ {at : Surroundings} {l l1 : List ℕ} {b : Binder} {body : ℕ} {x : On
     pub abstraction-next-ready : length l1 ≡ length l → ReadyOnward l1 st x at
     abstraction-next-ready len = onward-ready (inside st (r .binder) (r .symb) (r .thing) (r .within .meant) (r .shown-binder) (r .shown-body) (r .within .known)) (r .within .room) (r .within .held) len refl
 
-    pub abstraction-less : {T : ℕ} → b .state .units * 32 + 16 ≡ T → unitsOf x * 32 + 1 < T
+    pub abstraction-less : {T : ℕ} → b .state .left * 32 + 16 ≡ T → leftOf x * 32 + 1 < T
     abstraction-less z = omega (arith, onward-less x (inside st (r .binder) (r .symb) (r .thing) (r .within .meant) (r .shown-binder) (r .shown-body) (r .within .known)))
 
   module _ {st st1 l2 : List ℕ} {a : Answer} (w : ExpandedOnward at st st1 l1 l2 x a) where
     abstraction-goes : (k : m.Binder) (n : ℕ) (y : Stx) (g : Env) → ShownBinder n l b k → Rep l (b .state .top) body (stx y) → RepE l (b .state .top) (at .meanings) g
-        → Agrees objects 2 nodeSpare l l2 (b .state) (bindsOf st1) (after (scopedRule (around g at) k (variable (k .sets) n) y (stateOf (b .state) (bindsOf st))) (furtherRule (entries (at .left)))) (ended a)
+        → Agrees objects 2 nodeSpare l l2 (b .state) (bindsOf st1) (after (scopedRule (around g at) k (variable (k .sets) n) y (stateOf (b .state) (bindsOf st))) (furtherRule (expansion (at .entries)))) (ended a)
     abstraction-goes k n y g p q t = onward-goes x (inside st k n y g p q t) w
 
     pub abstraction-refused : {i head : ℕ} {f : Stop} → a ≡ Refused f → ExpandedAbstraction at st st1 l l2 b i head body (Refused f)
@@ -196,7 +196,7 @@ module _ {at : Surroundings} {l l1 : List ℕ} {b : Binder} {body : ℕ} {x : On
 
     module _ {o : Out} (e : a ≡ Done o) where
       scoped-to : (k : m.Binder) (n : ℕ) (y : Stx) (g : Env) → ShownBinder n l b k → Rep l (b .state .top) body (stx y) → RepE l (b .state .top) (at .meanings) g
-          → Gave objects 2 nodeSpare l l2 (b .state) (bindsOf st1) (after (scopedRule (around g at) k (variable (k .sets) n) y (stateOf (b .state) (bindsOf st))) (furtherRule (entries (at .left)))) o
+          → Gave objects 2 nodeSpare l l2 (b .state) (bindsOf st1) (after (scopedRule (around g at) k (variable (k .sets) n) y (stateOf (b .state) (bindsOf st))) (furtherRule (expansion (at .entries)))) o
       scoped-to k n y g p q t = on-done (abstraction-goes k n y g p q t) (ap ended e)
 
       pub abstraction-three-ready : {i head : ℕ} → ReadyAbstraction l st b i head body at → length l1 ≡ length l → length l2 ≡ length l1 → ReadyThree l2 (o .state) i head (b .at) (o .at)

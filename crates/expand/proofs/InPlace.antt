@@ -38,7 +38,7 @@ use Rattle.scoping.specs.declared.Marking.{Marking}
 use Rattle.scoping.specs.declared.Marking.the-variants as marking
 use Rattle.expand.specs.Leaves.{around, ReadyValue, valueRule, Values, ReadyTranscribed, transcribeRule, Transcribes}
 use Rattle.expand.specs.InPlace.{Further, furtherRule, Named, nexts, onwardOf, ReadyScoped, scopedRule, Scoped, ReadyDefined, definedRule, Defined, ReadyMacro, rewrittenRule, Rewritten}
-use Rattle.expand.specs.Cycle.{entries, ReadyOnward, ExpandedOnward}
+use Rattle.expand.specs.Cycle.{expansion, ReadyOnward, ExpandedOnward}
 use Rattle.expand.specs.declared.Surroundings.{Surroundings}
 use Rattle.expand.specs.declared.rewriting.Onward.{Onward}
 use Rattle.expand.specs.declared.rewriting.Onward.the-variants as onward
@@ -110,13 +110,13 @@ module _ {st l : List ℕ} {s : State} {b : Binder} {right body : ℕ} {at : Sur
   pub defined-value-ready : ReadyValue l st s right
   defined-value-ready = record { thing = r .thing; shown = r .shown; room = r .within .room; held = r .within .held }
 
-module _ (at : Surroundings) {st l l1 : List ℕ} {s : State} {right : ℕ} {a : Answer} (v : Values (at .left) (at .phase + 1) st l l1 s right a) where
+module _ (at : Surroundings) {st l l1 : List ℕ} {s : State} {right : ℕ} {a : Answer} (v : Values (at .entries) (at .phase + 1) st l l1 s right a) where
   pub defined-refused : {b : Binder} {body : ℕ} {f : Stop} → a ≡ Refused f → Defined at st l l1 s b right body (onward.Refused f)
   unfolding definedRule
   defined-refused e = record { means = λ k u y g n w z c. stops _ (then-no _ (on-refused (v .means u w) (ap ended e))) }
 
   module _ {o : Out} (e : a ≡ Done o) where
-    value-to : (u : Stx) → Rep l (s .top) right (stx u) → Gave trees 1 twoCells l l1 s (bindsOf st) (valueRule (at .left) (at .phase + 1) u (stateOf s (bindsOf st))) o
+    value-to : (u : Stx) → Rep l (s .top) right (stx u) → Gave trees 1 twoCells l l1 s (bindsOf st) (valueRule (at .entries) (at .phase + 1) u (stateOf s (bindsOf st))) o
     value-to u w = on-done (v .means u w) (ap ended e)
 
     pub defined-scoped-ready : {b : Binder} {body : ℕ} → ReadyDefined l st s b right body at → length l1 ≡ length l → ReadyScoped l1 (o .state) b 1 (o .at) body at
@@ -174,9 +174,9 @@ module _ (at : Surroundings) {l l1 : List ℕ} {s : State} {i : ℕ} {z : Markin
           few = g .shown .few;
         }
 
-    module _ {w : ℕ} {l2 : List ℕ} {a : Answer} (d : Transcribes (at .left) (at .phase) (o .intro .0) l1 l2 (o .state) w (o .at) a) where
+    module _ {w : ℕ} {l2 : List ℕ} {a : Answer} (d : Transcribes (at .entries) (at .phase) (o .intro .0) l1 l2 (o .state) w (o .at) a) where
       transcribed : (q : Store) (x : Stx) (t : Tree) (p : Rep l (s .top) i (stx x)) → Rep l (s .top) w t
-          → Agrees objects 1 nodeSpare l1 l2 (o .state) q (transcribeRule (at .left) (at .phase) (marked-to q x p .value .intro) t (marked-to q x p .value .object) (stateOf (o .state) q)) (ended a)
+          → Agrees objects 1 nodeSpare l1 l2 (o .state) q (transcribeRule (at .entries) (at .phase) (marked-to q x p .value .intro) t (marked-to q x p .value .object) (stateOf (o .state) q)) (ended a)
       transcribed q x t p u = let j = marked-to q x p in rw (sym (j .shown .intro)) (d .means q t (j .value .object) (carry u (j .later .kept) (j .later .grows)) (j .shown .rep))
 
       pub rewritten-refused : {f : Stop} → a ≡ Refused f → Rewritten at l l2 s i w (onward.Refused f)
@@ -207,12 +207,12 @@ module _ (at : Surroundings) {l l1 : List ℕ} {s : State} {i : ℕ} {z : Markin
 
 -- ---- what is expanded next
 
--- the units that its expansion starts with
-abbrev pub unitsOf : Onward → ℕ
-unitsOf (onward.Done o) = o .state .units
-unitsOf (onward.Refused f) = 0
+-- the units that are left where its expansion starts
+abbrev pub leftOf : Onward → ℕ
+leftOf (onward.Done o) = o .state .left
+leftOf (onward.Refused f) = 0
 
-pub onward-less : {at : Surroundings} {n v : ℕ} {l l1 : List ℕ} {s : State} {b : Store} {q : ms.Out Further} (x : Onward) → Agrees (nexts at) n v l l1 s b q (onwardOf x) → unitsOf x ≤ s .units
+pub onward-less : {at : Surroundings} {n v : ℕ} {l l1 : List ℕ} {s : State} {b : Store} {q : ms.Out Further} (x : Onward) → Agrees (nexts at) n v l l1 s b q (onwardOf x) → leftOf x ≤ s .left
 onward-less (onward.Done o) a = omega (arith, on-done a refl .later .spent)
 onward-less (onward.Refused f) a = omega arith
 
@@ -225,7 +225,7 @@ onward-ready a r h len len2 =
     }
 
 pub onward-goes : {at : Surroundings} {st st1 l l1 l2 : List ℕ} {s : State} {q : ms.Out Further} {r : Answer} (x : Onward) → Agrees (nexts at) 1 cellSize l l1 s (bindsOf st) q (onwardOf x) → ExpandedOnward at st st1 l1 l2 x r
-    → Agrees objects 2 nodeSpare l l2 s (bindsOf st1) (after q (furtherRule (entries (at .left)))) (ended r)
+    → Agrees objects 2 nodeSpare l l2 s (bindsOf st1) (after q (furtherRule (expansion (at .entries)))) (ended r)
 onward-goes (onward.Done o) a e = let j = on-done a refl in since 2 nodeSpare (j .later) (omega arith) (omega arith) (then-ok _ (j .is)) (e .means o (j .value) refl (j .shown))
 onward-goes (onward.Refused f) a e = rw (e .refused f refl) (stops f (then-no _ (on-refused a refl)))
 

@@ -34,7 +34,7 @@ use Rattle.environment.proofs.Frame.{carryE}
 use Rattle.scoping.specs.Changing.{objects}
 use Rattle.expand.specs.declared.Surroundings.{Surroundings}
 use Rattle.expand.specs.Leaves.{around, Within}
-use Rattle.expand.specs.Cycle.{entries, Ready, ReadyParts, Expanded, ExpandedParts}
+use Rattle.expand.specs.Cycle.{expansion, Ready, ReadyParts, Expanded, ExpandedParts}
 use Rattle.expand.proofs.Within.{within-later}
 
 -- ps turned round, and then us
@@ -53,7 +53,7 @@ handedOn done us = λ y. ok (turnObjects done us) y
 
 -- the rule for the parts
 abbrev pub all : Surroundings → Env → Stxs → m.Step Stxs
-all at e ps = expandAll (entries (at .left) (around e at)) ps
+all at e ps = expandAll (expansion (at .entries) (around e at)) ps
 
 -- `from` is left of the chain of ps, and `turned` is what the parts before it became, the last first
 pub record Half (at : Surroundings) (st st′ l : List ℕ) (s t : State) (from turned : ℕ) (ps : Stxs) (e : Env) : Type 0 where
@@ -70,7 +70,7 @@ pub record Going (at : Surroundings) (st l : List ℕ) (s : State) (c : ℕ) (st
   pub long : length l′ ≡ length l
   pub wide : length st′ ≡ length st
   pub few : t .bindings ≤ 512
-  pub spent : t .units ≤ s .units
+  pub spent : t .left ≤ s .left
   pub means : (ps : Stxs) (e : Env) → RepP l (s .top) c (fromStxs ps) → RepE l (s .top) (at .meanings) e → Half at st st′ l′ s t from turned ps e
 
 pub parts-start : {at : Surroundings} {st l : List ℕ} {s : State} {c : ℕ} → ReadyParts l st s c at → Going at st l s c st l s c 0
@@ -102,7 +102,7 @@ module _ {at : Surroundings} {st l : List ℕ} {s : State} {c : ℕ} (r : ReadyP
   within : Within l1 st1 t at
   within = within-later (r .within) so-far (g .few) (g .long) (g .wide)
 
-  pub part-less : {T : ℕ} → s .units * 32 + 3 ≡ T → t .units * 32 < T
+  pub part-less : {T : ℕ} → s .left * 32 + 3 ≡ T → t .left * 32 < T
   part-less k = omega (arith, g .spent)
 
   module _ (n : ¬ (from ≡ 0)) where
@@ -129,7 +129,7 @@ module _ {at : Surroundings} {st l : List ℕ} {s : State} {c : ℕ} (r : ReadyP
 
         module _ {o : Out} (k : a ≡ Done o) where
           gave : (z : Stx) (d : Env) → Rep l1 (t .top) (x .head) (stx z) → RepE l1 (t .top) (at .meanings) d
-              → Gave objects 1 twoCells l1 l2 t (bindsOf st2) (expand (at .left) (around d at) z (stateOf t (bindsOf st1))) o
+              → Gave objects 1 twoCells l1 l2 t (bindsOf st2) (expand (at .entries) (around d at) z (stateOf t (bindsOf st1))) o
           gave z d w y = on-done (v .means z d w y) (ap ended k)
 
           linkable : {i : ℕ} {z : Stx} → length l2 ≡ length l1 → Rep l2 (o .state .top) i (stx z) → Linkable l2 (o .state .top) i turned

@@ -61,15 +61,15 @@ unfolding unpaid
 unmade l s = record { kept = later-refl l s .kept; grows = omega arith; fits = omega arith; spent = omega arith }
 
 pub owes-none : (s : State) → Owed 0 s s
-owes-none s = record { top = refl; units = omega arith }
+owes-none s = record { top = refl; left = omega arith }
 
 pub owes-one : (s : State) → Owed 1 s (unpaid s)
 unfolding unpaid
-owes-one s = record { top = refl; units = refl }
+owes-one s = record { top = refl; left = refl }
 
 pub owes-two : (s : State) → Owed 2 s (unpaid (unpaid s))
 unfolding unpaid
-owes-two s = record { top = refl; units = omega arith }
+owes-two s = record { top = refl; left = omega arith }
 
 -- ---- an identifier
 
@@ -231,13 +231,13 @@ few-after s o st d t {v} h e =
 pub value-parse : {l st : List ℕ} {s : State} {i : ℕ} → ReadyValue l st s i → pp.Ready l st s i
 value-parse r = record { thing = r .thing; shown = r .shown; room = r .room; held = r .held }
 
-module _ {left ph : ℕ} {st l l1 : List ℕ} {s : State} {i : ℕ} {a : Answer} (v : Parsed left ph st l l1 s i a) where
-  pub value-refused : {f : Stop} → a ≡ Refused f → Values left ph st l l1 s i (Refused f)
+module _ {entries ph : ℕ} {st l l1 : List ℕ} {s : State} {i : ℕ} {a : Answer} (v : Parsed entries ph st l l1 s i a) where
+  pub value-refused : {f : Stop} → a ≡ Refused f → Values entries ph st l l1 s i (Refused f)
   unfolding valueRule
   value-refused e = record { means = λ x w. stops _ (then-no _ (on-refused (v .means x w) (ap ended e))) }
 
   module _ {o : Out} (e : a ≡ Done o) where
-    parsed-to : (x : Stx) → Rep l (s .top) i (stx x) → Gave trees 1 twoCells l l1 s (bindsOf st) (parse left ph x (stateOf s (bindsOf st))) o
+    parsed-to : (x : Stx) → Rep l (s .top) i (stx x) → Gave trees 1 twoCells l l1 s (bindsOf st) (parse entries ph x (stateOf s (bindsOf st))) o
     parsed-to x w = on-done (v .means x w) (ap ended e)
 
     pub value-evaluate : ReadyValue l st s i → length l1 ≡ length l → agr.Ready Rep l1 (o .state) (o .at)
@@ -247,11 +247,11 @@ module _ {left ph : ℕ} {st l l1 : List ℕ} {s : State} {i : ℕ} {a : Answer}
 
     -- with what is known of bindings
     as-tree : (t : Tree) {s1 : State} {l2 : List ℕ} {q : agr.Ended Out} → s1 .bindings ≤ 512
-        → Agrees (agr.placed Rep) 1 unitSize l1 l2 s1 (bindsOf st) (evaluate left t (stateOf s1 (bindsOf st))) q → Agrees trees 1 unitSize l1 l2 s1 (bindsOf st) (evaluate left t (stateOf s1 (bindsOf st))) q
-    as-tree t {s1} h (gives p g) = gives p (record { value = g .value; is = g .is; shown = record { rep = g .shown; few = few-after s1 p st left t h (g .is) }; later = g .later })
+        → Agrees (agr.placed Rep) 1 unitSize l1 l2 s1 (bindsOf st) (evaluate entries t (stateOf s1 (bindsOf st))) q → Agrees trees 1 unitSize l1 l2 s1 (bindsOf st) (evaluate entries t (stateOf s1 (bindsOf st))) q
+    as-tree t {s1} h (gives p g) = gives p (record { value = g .value; is = g .is; shown = record { rep = g .shown; few = few-after s1 p st entries t h (g .is) }; later = g .later })
     as-tree t h (stops f g) = stops f g
 
-    pub value-done : {l2 : List ℕ} {q : Answer} → Evaluates left l1 l2 (o .state) (o .at) q → Values left ph st l l2 s i q
+    pub value-done : {l2 : List ℕ} {q : Answer} → Evaluates entries l1 l2 (o .state) (o .at) q → Values entries ph st l l2 s i q
     unfolding valueRule
     value-done {l2} {q} d =
         record {
@@ -291,7 +291,7 @@ back-inside r = omega (arith, below (r .shown), r .room .fits)
 module _ {l : List ℕ} {s : State} {i : ℕ} {o : Node} (e : o ≡ getNode l i) where
   pub back-none : {ph k : ℕ} {r : Answer} → listTag < o .tag → r ≡ Refused (stopOf NoSyntax s) → Backs ph k l l s i r
   unfolding backRule orNoSyntax
-  back-none h same = rw same (record { means = λ b t w. stops (record { refusal = NoSyntax; units = s .units }) (rw (not-syntax w e h) refl) })
+  back-none h same = rw same (record { means = λ b t w. stops (record { refusal = NoSyntax; left = s .left }) (rw (not-syntax w e h) refl) })
 
   module _ (h : o .tag ≤ listTag) where
     pub back-ready : ReadyBack l s i → ReadyObject l s i
@@ -306,13 +306,13 @@ module _ {l : List ℕ} {s : State} {i : ℕ} {o : Node} (e : o ≡ getNode l i)
 pub apply-ready : {l : List ℕ} {s : State} {v form : ℕ} → ReadyTranscribed l s v form → ReadyOne l s v form
 apply-ready r = record { value = r .value; thing = stx (r .thing); shown = r .shown; given = r .shown-form; room = r .room }
 
-module _ {left : ℕ} {l l1 : List ℕ} {s : State} {v form : ℕ} {a : Answer} (d : AppliesValue left l l1 s v form a) where
-  pub apply-refused : {ph k : ℕ} {f : Stop} → a ≡ Refused f → Transcribes left ph k l l1 s v form (Refused f)
+module _ {entries : ℕ} {l l1 : List ℕ} {s : State} {v form : ℕ} {a : Answer} (d : AppliesValue entries l l1 s v form a) where
+  pub apply-refused : {ph k : ℕ} {f : Stop} → a ≡ Refused f → Transcribes entries ph k l l1 s v form (Refused f)
   unfolding transcribeRule
   apply-refused e = record { means = λ b t x u w. stops _ (then-no _ (on-refused (d .means b t (stx x) u w) (ap ended e))) }
 
   module _ {o : Out} (e : a ≡ Done o) where
-    applied-to : (b : Store) (t : Tree) (x : Stx) → Rep l (s .top) v t → Rep l (s .top) form (stx x) → Gave (agr.placed Rep) 1 unitSize l l1 s b (evaluate left (app t (tcons (stx x) tnil)) (stateOf s b)) o
+    applied-to : (b : Store) (t : Tree) (x : Stx) → Rep l (s .top) v t → Rep l (s .top) form (stx x) → Gave (agr.placed Rep) 1 unitSize l l1 s b (evaluate entries (app t (tcons (stx x) tnil)) (stateOf s b)) o
     applied-to b t x u w = on-done (d .means b t (stx x) u w) (ap ended e)
 
     pub apply-back : ReadyTranscribed l s v form → length l1 ≡ length l → ReadyBack l1 (o .state) (o .at)
@@ -322,10 +322,10 @@ module _ {left : ℕ} {l l1 : List ℕ} {s : State} {v form : ℕ} {a : Answer} 
           thing = g .value;
           shown = g .shown;
           room = room-later (r .room) (g .later) len;
-          few = few-after s o [] left (app (r .value) (tcons (stx (r .thing)) tnil)) (r .few) (g .is);
+          few = few-after s o [] entries (app (r .value) (tcons (stx (r .thing)) tnil)) (r .few) (g .is);
         }
 
-    pub apply-done : {ph k : ℕ} {l2 : List ℕ} {q : Answer} → Backs ph k l1 l2 (o .state) (o .at) q → Transcribes left ph k l l2 s v form q
+    pub apply-done : {ph k : ℕ} {l2 : List ℕ} {q : Answer} → Backs ph k l1 l2 (o .state) (o .at) q → Transcribes entries ph k l l2 s v form q
     unfolding transcribeRule
     apply-done f =
         record { means = λ b t x u w. let g = applied-to b t x u w in since 1 nodeSpare (g .later) (omega arith) (omega arith) (then-ok _ (g .is)) (f .means b (g .value) (g .shown)) }

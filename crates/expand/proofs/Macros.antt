@@ -42,13 +42,13 @@ use Rattle.scoping.specs.declared.Bound.{Bound}
 use Rattle.scoping.specs.declared.Bound.the-variants as bounds
 use Rattle.expand.specs.Leaves.{around}
 use Rattle.expand.specs.InPlace.{nexts, onwardOf, ReadyDefined, definedRule, Defined, rhsRule, bindingRule}
-use Rattle.expand.specs.Cycle.{entries, Ready, ReadyLet, ReadyOnward, ReadyBinding, ReadyRhs, Expanded, ExpandedOnward, ExpandedLetSyntax, OnwardBinding, OnwardRhs}
+use Rattle.expand.specs.Cycle.{expansion, Ready, ReadyLet, ReadyOnward, ReadyBinding, ReadyRhs, Expanded, ExpandedOnward, ExpandedLetSyntax, OnwardBinding, OnwardRhs}
 use Rattle.expand.specs.declared.Surroundings.{Surroundings}
 use Rattle.expand.specs.declared.rewriting.Onward.{Onward}
 use Rattle.expand.specs.declared.rewriting.Onward.the-variants as onward
 use Rattle.expand.proofs.Agreeing.{beyond}
 use Rattle.expand.proofs.Leaves.{owes-none, owes-one}
-use Rattle.expand.proofs.InPlace.{unitsOf, onward-less, onward-ready, onward-goes}
+use Rattle.expand.proofs.InPlace.{leftOf, onward-less, onward-ready, onward-goes}
 use Rattle.expand.proofs.Rules.{binding-split}
 use Rattle.table.specs.Sizes.{cellSize, twoCells, nodeSpare}
 use Rattle.expand.proofs.Within.{within-later, within-paid}
@@ -92,13 +92,13 @@ module _ {st l : List ℕ} (s : State) {tail : ℕ} {at : Surroundings} where
               record { binder = n .sets; symb = n .symb; thing = q .second; object = q .third; shown = rw (n .is) at (q .shown); shown-right = q .shown-second; shown-body = q .shown-third; within = within-paid s (r .within) }
 
           module _ {st1 l1 : List ℕ} {x : Onward} (v : OnwardBinding at st st1 l l1 s a b c x) where
-            let-inside : (r : ReadyBinding l st s a b c at) → Agrees (nexts at) 1 cellSize l l1 s (bindsOf st1) (bindingRule (entries (at .left)) (at .left) (around (r .within .meant) at) (r .binder) (r .symb) (r .thing) (r .object) (stateOf s (bindsOf st))) (onwardOf x)
+            let-inside : (r : ReadyBinding l st s a b c at) → Agrees (nexts at) 1 cellSize l l1 s (bindsOf st1) (bindingRule (expansion (at .entries)) (at .entries) (around (r .within .meant) at) (r .binder) (r .symb) (r .thing) (r .object) (stateOf s (bindsOf st))) (onwardOf x)
             let-inside r = v .means (r .binder) (r .symb) (r .thing) (r .object) (r .within .meant) (r .shown) (r .shown-right) (r .shown-body) (r .within .known)
 
             pub let-next-ready : ReadyLet l st (unpaid s) tail at → length l1 ≡ length l → length st1 ≡ length st → ReadyOnward l1 st1 x at
             let-next-ready r len len2 = let q = let-binding-ready r in onward-ready (let-inside q) (q .within .room) (q .within .held) len len2
 
-            pub let-less : {T : ℕ} → ReadyLet l st (unpaid s) tail at → s .units * 32 + 18 ≡ T → unitsOf x * 32 + 1 < T
+            pub let-less : {T : ℕ} → ReadyLet l st (unpaid s) tail at → s .left * 32 + 18 ≡ T → leftOf x * 32 + 1 < T
             let-less r z = omega (arith, onward-less x (let-inside (let-binding-ready r)))
 
             pub let-expanded : {st2 l2 : List ℕ} {r : Answer} → ExpandedOnward at st1 st2 l1 l2 x r → ExpandedLetSyntax at st st2 l l2 s tail r
@@ -109,7 +109,7 @@ module _ {st l : List ℕ} (s : State) {tail : ℕ} {at : Surroundings} where
                       let q = on-three (h .means (s .top) ps w) e in
                       let n = is-identifier (q .first) (sym (f .means (s .top) (q .first) (q .shown)) ∙ t) in
                       let y = onward-goes x (v .means (n .sets) (n .symb) (q .second) (q .third) g (rw (n .is) at (q .shown)) (q .shown-second) (q .shown-third) k) p in
-                      rw (q .is, n .is) (beyond 1 twoCells 0 1 (later-refl l s) (owes-none s) (owes-one s) (omega arith) (omega arith) (binding-split (entries (at .left)) (at .left) (around g at) (stateOf s (bindsOf st)) (n .sets) (n .symb) (q .second) (q .third)) y);
+                      rw (q .is, n .is) (beyond 1 twoCells 0 1 (later-refl l s) (owes-none s) (owes-one s) (omega arith) (omega arith) (binding-split (expansion (at .entries)) (at .entries) (around g at) (stateOf s (bindsOf st)) (n .sets) (n .symb) (q .second) (q .third)) y);
                 }
 
 -- ---- binding
@@ -127,7 +127,7 @@ module _ {st l : List ℕ} {s : State} {id right body : ℕ} {at : Surroundings}
       let-bound : (c : Sets) (x : ℕ) → Rep l (s .top) id (stx (atom c (symbol x))) → Gave (binders x) 1 nodeSpare l l1 s (bindsOf st1) (bindFresh (at .phase) c x (stateOf s (bindsOf st))) o
       let-bound c x a = on-done (v .means c x a) (ap boundOf e)
 
-      pub binding-less : {T : ℕ} → s .units * 32 + 17 ≡ T → o .state .units * 32 + 18 < T
+      pub binding-less : {T : ℕ} → s .left * 32 + 17 ≡ T → o .state .left * 32 + 18 < T
       binding-less t = omega (arith, let-bound (r .binder) (r .symb) (r .shown) .later .spent)
 
       pub binding-rhs-ready : length l1 ≡ length l → length st1 ≡ length st → ReadyRhs l1 st1 o right body at
@@ -158,24 +158,24 @@ module _ {st l : List ℕ} {s : State} {id right body : ℕ} {at : Surroundings}
 pub rhs-up : (at : Surroundings) → at .phase < 2 → at .phase + 1 < 2 ^ 32
 rhs-up at h = omega arith
 
-pub rhs-phase : {st l : List ℕ} {b : Binder} {right body : ℕ} {at : Surroundings} → 2 ≤ at .phase → OnwardRhs at st st l l b right body (onward.Refused (record { refusal = NoPhase; units = b .state .units }))
+pub rhs-phase : {st l : List ℕ} {b : Binder} {right body : ℕ} {at : Surroundings} → 2 ≤ at .phase → OnwardRhs at st st l l b right body (onward.Refused (record { refusal = NoPhase; left = b .state .left }))
 unfolding rhsRule lastPhase
 rhs-phase {st} {b = b} {at = at} h = record { means = λ n u y g d w z k. stops _ (then-no _ (unless-no ref.noPhase (stateOf (b .state) (bindsOf st)) (lt-leb (at .phase + 1) 2 (omega arith)))) }
 
 -- of the right-hand side
 abbrev aboveOf : Surroundings → ScopeSet → Surroundings
-aboveOf at p = record { left = at .left; phase = at .phase + 1; meanings = 0; prunable = p }
+aboveOf at p = record { entries = at .entries; phase = at .phase + 1; meanings = 0; prunable = p }
 
 module _ {st l : List ℕ} {s : State} {right : ℕ} (at : Surroundings) (h : at .phase < 2) {p : ScopeSet} (f : scopesOf p ≡ 0) {st1 l1 : List ℕ} {a : Answer} (v : Expanded (aboveOf at p) st st1 l l1 s right a) where
-  above : (g : Env) (u : Stx) → Rep l (s .top) right (stx u) → Agrees objects 1 twoCells l l1 s (bindsOf st1) (expand (at .left) (ofRightHandSide (around g at)) u (stateOf s (bindsOf st))) (ended a)
+  above : (g : Env) (u : Stx) → Rep l (s .top) right (stx u) → Agrees objects 1 twoCells l l1 s (bindsOf st1) (expand (at .entries) (ofRightHandSide (around g at)) u (stateOf s (bindsOf st))) (ended a)
   above g u w = rw f at (v .means u coreOnly w is-core)
 
-  starts : (g : Env) (k : m.Binder) (u y : Stx) → rhsRule (entries (at .left)) (at .left) (around g at) k u y (stateOf s (bindsOf st))
-      ≡ after (expand (at .left) (ofRightHandSide (around g at)) u (stateOf s (bindsOf st))) (λ t. definedRule (at .left) (around g at) k t y)
+  starts : (g : Env) (k : m.Binder) (u y : Stx) → rhsRule (expansion (at .entries)) (at .entries) (around g at) k u y (stateOf s (bindsOf st))
+      ≡ after (expand (at .entries) (ofRightHandSide (around g at)) u (stateOf s (bindsOf st))) (λ t. definedRule (at .entries) (around g at) k t y)
   unfolding rhsRule lastPhase
   starts g k u y = then-ok _ (unless-ok ref.noPhase (stateOf s (bindsOf st)) (le-leb (at .phase + 1) 2 (omega arith)))
 
-  right-to : {o : Out} → a ≡ Done o → (g : Env) (u : Stx) → Rep l (s .top) right (stx u) → Gave objects 1 twoCells l l1 s (bindsOf st1) (expand (at .left) (ofRightHandSide (around g at)) u (stateOf s (bindsOf st))) o
+  right-to : {o : Out} → a ≡ Done o → (g : Env) (u : Stx) → Rep l (s .top) right (stx u) → Gave objects 1 twoCells l l1 s (bindsOf st1) (expand (at .entries) (ofRightHandSide (around g at)) u (stateOf s (bindsOf st))) o
   right-to e g u w = on-done (above g u w) (ap ended e)
 
 module _ {st l : List ℕ} {b : Binder} {right body : ℕ} {at : Surroundings} (h : at .phase < 2) {p : ScopeSet} where

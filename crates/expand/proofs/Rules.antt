@@ -21,9 +21,9 @@ use Rattle.scoping.specs.Fresh.{Marked, marksRule, markRule}
 use Rattle.steps.proofs.Laws.{after-after}
 use Rattle.expand.specs.Leaves.{nameRule, quoteRule, valueRule, backRule, transcribeRule}
 use Rattle.expand.specs.InPlace.{Further, furtherRule, scopedRule, definedRule, rhsRule, bindingRule, rewrittenRule}
-use Rattle.expand.specs.Cycle.{entries, abstractionRule}
+use Rattle.expand.specs.Cycle.{expansion, abstractionRule}
 
-pub expand-entry : (here : m.Surroundings) (x : Stx) → Entry (λ d. expand d here x) (λ d. expandEntry (entries d) d here x)
+pub expand-entry : (here : m.Surroundings) (x : Stx) → Entry (λ d. expand d here x) (λ d. expandEntry (expansion d) d here x)
 unfolding expand
 expand-entry here x = record { none = λ y. refl; some = λ d y. refl }
 

@@ -32,8 +32,8 @@ use Rattle.expand.specs.declared.rewriting.Onward.{Onward}
 use Rattle.expand.specs.declared.rewriting.Onward.the-variants as onward
 use Rattle.table.specs.Sizes.{cellSize, twoCells, nodeSpare, tripleSpare, unitSize}
 
-abbrev pub entries : ℕ → Expander
-entries left = λ here x. expand left here x
+abbrev pub expansion : ℕ → Expander
+expansion entries = λ here x. expand entries here x
 
 -- ---- chains of objects as results
 
@@ -148,57 +148,57 @@ abstractionRule self here c h b x body = do
 module _ (at : Surroundings) (st st′ l l′ : List ℕ) (s : State) where
   pub record Expanded (i : ℕ) (r : Answer) : Type 0 where
     pub means : (x : Stx) (e : Env) → Rep l (s .top) i (stx x) → RepE l (s .top) (at .meanings) e
-        → Agrees objects 1 twoCells l l′ s (bindsOf st′) (expand (at .left) (around e at) x (stateOf s (bindsOf st))) (ended r)
+        → Agrees objects 1 twoCells l l′ s (bindsOf st′) (expand (at .entries) (around e at) x (stateOf s (bindsOf st))) (ended r)
 
   pub record ExpandedEntry (i : ℕ) (r : Answer) : Type 0 where
     pub means : (x : Stx) (e : Env) → Rep l (s .top) i (stx x) → RepE l (s .top) (at .meanings) e
-        → Agrees objects 1 twoCells l l′ (unpaid s) (bindsOf st′) (expandEntry (entries (at .left)) (at .left) (around e at) x (stateOf s (bindsOf st))) (ended r)
+        → Agrees objects 1 twoCells l l′ (unpaid s) (bindsOf st′) (expandEntry (expansion (at .entries)) (at .entries) (around e at) x (stateOf s (bindsOf st))) (ended r)
 
   pub record ExpandedList (i c : ℕ) (r : Answer) : Type 0 where
     pub means : (k : Sets) (ps : Stxs) (e : Env) → Rep l (s .top) i (stx (list k ps)) → RepP l (s .top) c (fromStxs ps) → RepE l (s .top) (at .meanings) e
-        → Agrees objects 1 twoCells l l′ (unpaid s) (bindsOf st′) (expandEntry (entries (at .left)) (at .left) (around e at) (list k ps) (stateOf s (bindsOf st))) (ended r)
+        → Agrees objects 1 twoCells l l′ (unpaid s) (bindsOf st′) (expandEntry (expansion (at .entries)) (at .entries) (around e at) (list k ps) (stateOf s (bindsOf st))) (ended r)
 
   pub record ExpandedApplication (i c : ℕ) (r : Answer) : Type 0 where
     pub means : (k : Sets) (ps : Stxs) (e : Env) → Rep l (s .top) i (stx (list k ps)) → RepP l (s .top) c (fromStxs ps) → RepE l (s .top) (at .meanings) e
-        → Agrees objects 1 twoCells l l′ (unpaid s) (bindsOf st′) (expandApplication (entries (at .left)) (around e at) k ps (stateOf s (bindsOf st))) (ended r)
+        → Agrees objects 1 twoCells l l′ (unpaid s) (bindsOf st′) (expandApplication (expansion (at .entries)) (around e at) k ps (stateOf s (bindsOf st))) (ended r)
 
   pub record ExpandedParts (c : ℕ) (r : Answer) : Type 0 where
     pub means : (ps : Stxs) (e : Env) → RepP l (s .top) c (fromStxs ps) → RepE l (s .top) (at .meanings) e
-        → Agrees partsOf 0 0 l l′ s (bindsOf st′) (expandAll (entries (at .left) (around e at)) ps (stateOf s (bindsOf st))) (ended r)
+        → Agrees partsOf 0 0 l l′ s (bindsOf st′) (expandAll (expansion (at .entries) (around e at)) ps (stateOf s (bindsOf st))) (ended r)
 
   pub record ExpandedLambda (i head tail : ℕ) (r : Answer) : Type 0 where
     pub means : (k : Sets) (h : Stx) (ps : Stxs) (e : Env) → Rep l (s .top) i (stx (list k (cons h ps))) → Rep l (s .top) head (stx h) → RepP l (s .top) tail (fromStxs ps) → RepE l (s .top) (at .meanings) e
-        → Agrees objects 1 twoCells l l′ (unpaid s) (bindsOf st′) (expandLambda (entries (at .left)) (around e at) k h ps (stateOf s (bindsOf st))) (ended r)
+        → Agrees objects 1 twoCells l l′ (unpaid s) (bindsOf st′) (expandLambda (expansion (at .entries)) (around e at) k h ps (stateOf s (bindsOf st))) (ended r)
 
   pub record ExpandedFunction (i head id body : ℕ) (r : Answer) : Type 0 where
     pub means : (k : Sets) (qs : Stxs) (h : Stx) (c : Sets) (x : ℕ) (y : Stx) (e : Env) → Rep l (s .top) i (stx (list k qs)) → Rep l (s .top) head (stx h) → Rep l (s .top) id (stx (atom c (symbol x))) → Rep l (s .top) body (stx y)
         → RepE l (s .top) (at .meanings) e
-        → Agrees objects 1 twoCells l l′ (unpaid s) (bindsOf st′) (expandFunction (entries (at .left)) (around e at) k h c x y (stateOf s (bindsOf st))) (ended r)
+        → Agrees objects 1 twoCells l l′ (unpaid s) (bindsOf st′) (expandFunction (expansion (at .entries)) (around e at) k h c x y (stateOf s (bindsOf st))) (ended r)
 
   pub record ExpandedLetSyntax (tail : ℕ) (r : Answer) : Type 0 where
     pub means : (ps : Stxs) (e : Env) → RepP l (s .top) tail (fromStxs ps) → RepE l (s .top) (at .meanings) e
-        → Agrees objects 1 twoCells l l′ (unpaid s) (bindsOf st′) (expandLetSyntax (entries (at .left)) (at .left) (around e at) ps (stateOf s (bindsOf st))) (ended r)
+        → Agrees objects 1 twoCells l l′ (unpaid s) (bindsOf st′) (expandLetSyntax (expansion (at .entries)) (at .entries) (around e at) ps (stateOf s (bindsOf st))) (ended r)
 
   pub record OnwardBinding (id right body : ℕ) (r : Onward) : Type 0 where
     pub means : (c : Sets) (x : ℕ) (u y : Stx) (e : Env) → Rep l (s .top) id (stx (atom c (symbol x))) → Rep l (s .top) right (stx u) → Rep l (s .top) body (stx y) → RepE l (s .top) (at .meanings) e
-        → Agrees (nexts at) 1 cellSize l l′ s (bindsOf st′) (bindingRule (entries (at .left)) (at .left) (around e at) c x u y (stateOf s (bindsOf st))) (onwardOf r)
+        → Agrees (nexts at) 1 cellSize l l′ s (bindsOf st′) (bindingRule (expansion (at .entries)) (at .entries) (around e at) c x u y (stateOf s (bindsOf st))) (onwardOf r)
 
   pub record ExpandedMacro (i v : ℕ) (r : Answer) : Type 0 where
     pub means : (x : Stx) (t : Tree) (e : Env) → Rep l (s .top) i (stx x) → Rep l (s .top) v t → RepE l (s .top) (at .meanings) e
-        → Agrees objects 1 twoCells l l′ s (bindsOf st′) (expandMacro (entries (at .left)) (at .left) (around e at) t x (stateOf s (bindsOf st))) (ended r)
+        → Agrees objects 1 twoCells l l′ s (bindsOf st′) (expandMacro (expansion (at .entries)) (at .entries) (around e at) t x (stateOf s (bindsOf st))) (ended r)
 
 module _ (at : Surroundings) (st st′ l l′ : List ℕ) (b : Binder) where
   pub record ExpandedAbstraction (i head body : ℕ) (r : Answer) : Type 0 where
     pub means : (c : Sets) (qs : Stxs) (h : Stx) (k : m.Binder) (x : ℕ) (y : Stx) (e : Env) → Rep l (b .state .top) i (stx (list c qs)) → Rep l (b .state .top) head (stx h) → ShownBinder x l b k → Rep l (b .state .top) body (stx y)
         → RepE l (b .state .top) (at .meanings) e
-        → Agrees objects 2 (nodeSpare + tripleSpare) l l′ (unpaid (unpaid (b .state))) (bindsOf st′) (abstractionRule (entries (at .left)) (around e at) c h k x y (stateOf (b .state) (bindsOf st))) (ended r)
+        → Agrees objects 2 (nodeSpare + tripleSpare) l l′ (unpaid (unpaid (b .state))) (bindsOf st′) (abstractionRule (expansion (at .entries)) (around e at) c h k x y (stateOf (b .state) (bindsOf st))) (ended r)
 
   pub record OnwardRhs (right body : ℕ) (r : Onward) : Type 0 where
     pub means : (k : m.Binder) (u y : Stx) (e : Env) → Named b k → Rep l (b .state .top) right (stx u) → Rep l (b .state .top) body (stx y) → RepE l (b .state .top) (at .meanings) e
-        → Agrees (nexts at) 1 cellSize l l′ (b .state) (bindsOf st′) (rhsRule (entries (at .left)) (at .left) (around e at) k u y (stateOf (b .state) (bindsOf st))) (onwardOf r)
+        → Agrees (nexts at) 1 cellSize l l′ (b .state) (bindsOf st′) (rhsRule (expansion (at .entries)) (at .entries) (around e at) k u y (stateOf (b .state) (bindsOf st))) (onwardOf r)
 
 -- where nothing is to be expanded next, the refusal is handed on
 pub record ExpandedOnward (at : Surroundings) (st st′ l l′ : List ℕ) (n : Onward) (r : Answer) : Type 0 where
   pub means : (o : Next) (k : Further) → n ≡ onward.Done o → ShownNext at l o k
-      → Agrees objects 1 twoCells l l′ (o .state) (bindsOf st′) (furtherRule (entries (at .left)) k (stateOf (o .state) (bindsOf st))) (ended r)
+      → Agrees objects 1 twoCells l l′ (o .state) (bindsOf st′) (furtherRule (expansion (at .entries)) k (stateOf (o .state) (bindsOf st))) (ended r)
   pub refused : (f : Stop) → n ≡ onward.Refused f → r ≡ Refused f

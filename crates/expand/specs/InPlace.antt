@@ -102,7 +102,7 @@ definedRule d here b r body = do
 
 pub record Defined (at : Surroundings) (st l l′ : List ℕ) (s : State) (b : Binder) (right body : ℕ) (r : Onward) : Type 0 where
   pub means : (k : m.Binder) (u y : Stx) (e : Env) → Named b k → Rep l (s .top) right (stx u) → Rep l (s .top) body (stx y) → RepE l (s .top) (at .meanings) e
-      → Agrees (nexts at) 1 cellSize l l′ s (bindsOf st) (definedRule (at .left) (around e at) k u y (stateOf s (bindsOf st))) (onwardOf r)
+      → Agrees (nexts at) 1 cellSize l l′ s (bindsOf st) (definedRule (at .entries) (around e at) k u y (stateOf s (bindsOf st))) (onwardOf r)
 
 -- ---- the right-hand side, expanded one phase up, and the binder before it
 
@@ -140,4 +140,4 @@ rewrittenRule d here v x = do
 
 pub record Rewritten (at : Surroundings) (l l′ : List ℕ) (s : State) (i v : ℕ) (r : Onward) : Type 0 where
   pub means : (q : Store) (x : Stx) (t : Tree) (e : Env) → Rep l (s .top) i (stx x) → Rep l (s .top) v t → RepE l (s .top) (at .meanings) e
-      → Agrees (nexts at) 1 cellSize l l′ s q (rewrittenRule (at .left) (around e at) t x (stateOf s q)) (onwardOf r)
+      → Agrees (nexts at) 1 cellSize l l′ s q (rewrittenRule (at .entries) (around e at) t x (stateOf s q)) (onwardOf r)

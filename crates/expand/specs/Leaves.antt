@@ -113,8 +113,8 @@ valueRule d ph x = do
   t ← parse d ph x
   evaluate d t
 
-pub record Values (left ph : ℕ) (st l l′ : List ℕ) (s : State) (i : ℕ) (r : Answer) : Type 0 where
-  pub means : (x : Stx) → Rep l (s .top) i (stx x) → Agrees trees 1 twoCells l l′ s (bindsOf st) (valueRule left ph x (stateOf s (bindsOf st))) (ended r)
+pub record Values (entries ph : ℕ) (st l l′ : List ℕ) (s : State) (i : ℕ) (r : Answer) : Type 0 where
+  pub means : (x : Stx) → Rep l (s .top) i (stx x) → Agrees trees 1 twoCells l l′ s (bindsOf st) (valueRule entries ph x (stateOf s (bindsOf st))) (ended r)
 
 pub record ReadyBack (l : List ℕ) (s : State) (i : ℕ) : Type 0 where
   pub thing : Tree
@@ -145,6 +145,6 @@ transcribeRule d ph k v x = do
   r ← evaluate d (app v (tcons (stx x) tnil))
   backRule ph k r
 
-pub record Transcribes (left ph k : ℕ) (l l′ : List ℕ) (s : State) (v form : ℕ) (r : Answer) : Type 0 where
+pub record Transcribes (entries ph k : ℕ) (l l′ : List ℕ) (s : State) (v form : ℕ) (r : Answer) : Type 0 where
   pub means : (b : Store) (t : Tree) (x : Stx) → Rep l (s .top) v t → Rep l (s .top) form (stx x)
-      → Agrees objects 1 nodeSpare l l′ s b (transcribeRule left ph k t x (stateOf s b)) (ended r)
+      → Agrees objects 1 nodeSpare l l′ s b (transcribeRule entries ph k t x (stateOf s b)) (ended r)

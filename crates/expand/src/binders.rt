@@ -146,12 +146,12 @@ pub fn rhs(
     if Surroundings::LAST_PHASE <= phase {
         return Onward::Refused(Stop {
             refusal: Refusal::NoPhase,
-            units: s.units,
+            left: s.left,
         });
     }
     let none = ScopeSet::empty();
     let above = Surroundings {
-        left: at.left,
+        entries: at.entries,
         phase: phase + 1,
         meanings: 0,
         prunable: none,

@@ -22,7 +22,7 @@ ghost use Rattle.expand.specs.Cycle.{Ready, ReadyParts, ReadyChain, Read
 // Where an object is expanded.
 pub struct Surroundings {
     // Entries to spare.
-    pub left: u32,
+    pub entries: u32,
     pub phase: u32,
     // The index of the meanings that names have.
     pub meanings: u32,
@@ -39,12 +39,12 @@ pub fn expand(table: &mut [u32], store: &mut [u64], s: State, i: u32, at: Surrou
     requires { ⌜ Ready (now table) (now store) s i at ⌝ }
     ensures { λ r. ⌜ Expanded at (now (store .entry)) (now (store .exit)) (now (table .entry)) (now (table .exit)) s i r ⌝ }
 {
-    match s.enter(at.left) {
+    match s.enter(at.entries) {
         Charged::Refused(f) => Answer::Refused(f),
         Charged::Paid(t) => {
             let prunable = at.prunable;
             let to = Surroundings {
-                left: at.left - 1,
+                entries: at.entries - 1,
                 phase: at.phase,
                 meanings: at.meanings,
                 prunable,
@@ -66,7 +66,7 @@ fn in_place(table: &mut [u32], store: &mut [u64], n: Onward, at: Surroundings) -
             let prunable = at.prunable;
             let more = prunable.add(scope);
             let to = Surroundings {
-                left: at.left,
+                entries: at.entries,
                 phase: at.phase,
                 meanings: x.meanings,
                 prunable: more,

@@ -16,15 +16,22 @@ ghost use Rattle.expand.specs.InPlace.{ReadyScoped, Scoped, ReadyDefined
 // ---- values
 
 // The value of an expanded right-hand side.
-pub fn value_of(table: &mut [u32], store: &[u64], s: State, i: u32, phase: u32, left: u32) -> Answer
+pub fn value_of(
+    table: &mut [u32],
+    store: &[u64],
+    s: State,
+    i: u32,
+    phase: u32,
+    entries: u32,
+) -> Answer
     requires { ⌜ ReadyValue (now table) (now store) s i ⌝ }
-    ensures { λ r. ⌜ Values left phase (now (store .entry)) (now (table .entry)) (now (table .exit)) s i r ⌝ }
+    ensures { λ r. ⌜ Values entries phase (now (store .entry)) (now (table .entry)) (now (table .exit)) s i r ⌝ }
 {
-    match parse::parse(table, store, s, i, phase, left) {
+    match parse::parse(table, store, s, i, phase, entries) {
         Answer::Refused(f) => Answer::Refused(f),
         Answer::Done(o) => {
             let s1 = o.state;
-            evaluate::evaluate(table, s1, o.at, left)
+            evaluate::evaluate(table, s1, o.at, entries)
         }
     }
 }
@@ -49,12 +56,12 @@ pub fn transcribe(
     form: u32,
     phase: u32,
     intro: Scope,
-    left: u32,
+    entries: u32,
 ) -> Answer
     requires { ⌜ ReadyTranscribed (now table) s v form × Declared intro ⌝ }
-    ensures { λ r. ⌜ Transcribes left phase (intro .0) (now (table .entry)) (now (table .exit)) s v form r ⌝ }
+    ensures { λ r. ⌜ Transcribes entries phase (intro .0) (now (table .entry)) (now (table .exit)) s v form r ⌝ }
 {
-    match evaluate::apply_value(table, s, v, form, left) {
+    match evaluate::apply_value(table, s, v, form, entries) {
         Answer::Refused(f) => Answer::Refused(f),
         Answer::Done(o) => {
             let s1 = o.state;
@@ -122,7 +129,7 @@ pub fn defined(
     requires { ⌜ ReadyDefined (now table) (now store) s b right body at ⌝ }
     ensures { λ r. ⌜ Defined at (now (store .entry)) (now (table .entry)) (now (table .exit)) s b right body r ⌝ }
 {
-    match value_of(table, store, s, right, at.phase + 1, at.left) {
+    match value_of(table, store, s, right, at.phase + 1, at.entries) {
         Answer::Refused(f) => Onward::Refused(f),
         Answer::Done(o) => {
             let s1 = o.state;
@@ -141,7 +148,7 @@ pub fn rewritten(table: &mut [u32], s: State, i: u32, v: u32, at: Surroundings) 
         Marking::Done(m) => {
             let s1 = m.state;
             let intro = m.intro;
-            match transcribe(table, s1, v, m.at, at.phase, intro, at.left) {
+            match transcribe(table, s1, v, m.at, at.phase, intro, at.entries) {
                 Answer::Refused(f) => Onward::Refused(f),
                 Answer::Done(o) => {
                     let scope = m.uses;

@@ -77,25 +77,25 @@ module _ {A : Type 0} (K : Images A) (s : List ℕ) (f : Front) (l : List ℕ) (
       let d = length-append (K .front (headAfter (g .words) (o .state))) (K .root x) in
       omega arith
 
-  pub image-too-long : cap < m → Finishes K s f l o budget out out (Refused refusal.TooLong (budget - o .state .units))
+  pub image-too-long : cap < m → Finishes K s f l o budget out out (Refused refusal.TooLong (budget - o .state .left))
   image-too-long u = record {
     means = λ g x shown.
         let a = counted g x shown in
         let over : min 65536 (length out) < length (imageBytes K (headAfter (g .words) (o .state)) x) = omega arith in
-        ends-too-long (imageBytes K (headAfter (g .words) (o .state)) x) out (budget - o .state .units) (over-cap over);
+        ends-too-long (imageBytes K (headAfter (g .words) (o .state)) x) out (budget - o .state .left) (over-cap over);
   }
 
   pub image-fits : m ≤ cap → Came K s f l o → spec.Fits K s f l o out
   image-fits u y = let a = counted (y .longer .headed) (y .value) (y .shown) in record { came = y; fits = omega arith }
 
-  pub image-written : {out′ : List ℕ} → m ≤ cap → PutsImage K s f l o out out′ → Finishes K s f l o budget out out′ (Written m (budget - o .state .units))
+  pub image-written : {out′ : List ℕ} → m ≤ cap → PutsImage K s f l o out out′ → Finishes K s f l o budget out out′ (Written m (budget - o .state .left))
   image-written u p = record {
     means = λ g x shown.
         let a = counted g x shown in
         let same : m ≡ length (imageBytes K (headAfter (g .words) (o .state)) x) = omega arith in
         let fits : length (imageBytes K (headAfter (g .words) (o .state)) x) ≤ length out = omega arith in
         let small : length (imageBytes K (headAfter (g .words) (o .state)) x) ≤ 65536 = omega arith in
-        ends-written (imageBytes K (headAfter (g .words) (o .state)) x) out (budget - o .state .units) same fits small (p .means g x shown fits);
+        ends-written (imageBytes K (headAfter (g .words) (o .state)) x) out (budget - o .state .left) same fits small (p .means g x shown fits);
   }
 
 -- ---- a tree image

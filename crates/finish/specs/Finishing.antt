@@ -73,4 +73,4 @@ pub record PutsImage {A : Type 0} (K : Images A) (s : List ℕ) (f : Front) (l :
 
 pub record Finishes {A : Type 0} (K : Images A) (s : List ℕ) (f : Front) (l : List ℕ) (o : Out) (budget : ℕ) (out out′ : List ℕ) (r : Ending) : Type 0 where
   pub means : (g : Headed s f) (x : A) → Rep l (o .state .top) (o .at) (K .thing x)
-      → EndsAs (fitted (length out) (imageBytes K (headAfter (g .words) (o .state)) x) (budget - o .state .units)) out out′ r
+      → EndsAs (fitted (length out) (imageBytes K (headAfter (g .words) (o .state)) x) (budget - o .state .left)) out out′ r

@@ -59,11 +59,11 @@ pub fn finish_tree(
     budget: u32,
 ) -> Ending
     requires came { ⌜ Came treeImages (now image) f (now table) o ⌝ }
-    requires within { ⌜ o .state .units ≤ budget ⌝ }
+    requires within { ⌜ o .state .left ≤ budget ⌝ }
     ensures { λ r. ⌜ Finishes treeImages (now (image .entry)) f (now (table .entry)) o budget (now (out .entry)) (now (out .exit)) r ⌝ }
 {
     let t = o.state;
-    let units = budget - t.units;
+    let units = budget - t.left;
     let cap = most_for(out.len());
     let front = capped(heading::head_len(image, f, t), cap);
     let n = writer::tree_len(table, o.at, front, cap);
@@ -112,11 +112,11 @@ pub fn finish_syntax(
 ) -> Ending
     requires came { ⌜ Came (syntaxImages (bindsOf (now store) (o .state .bindings))) (now image) f (now table) o ⌝ }
     requires held { ⌜ Held (now store) (o .state) ⌝ }
-    requires within { ⌜ o .state .units ≤ budget ⌝ }
+    requires within { ⌜ o .state .left ≤ budget ⌝ }
     ensures { λ r. ⌜ Finishes (syntaxImages (bindsOf (now (store .entry)) (o .state .bindings))) (now (image .entry)) f (now (table .entry)) o budget (now (out .entry)) (now (out .exit)) r ⌝ }
 {
     let t = o.state;
-    let units = budget - t.units;
+    let units = budget - t.left;
     let cap = most_for(out.len());
     let front = capped(before_root(image, f, store, t), cap);
     let n = writer::object_len(table, o.at, front, cap);

@@ -74,16 +74,16 @@ image-refused J {image} st budget out w e = ends-refused out (reading J image bu
 -- ---- the charge for loading
 
 module _ (j : Judgement) (budget : ℕ) {q : Charged} (c : q ≡ chargeOf (j .size) (begun j budget)) where
-  pub unpaid-units : {f : Stop} → q ≡ Refused f → f .units ≤ budget
-  unpaid-units i = let u = ap (λ (k : Stop). k .units) (charge-failed (j .size) _ c i .is) in omega arith
+  pub unpaid-left : {f : Stop} → q ≡ Refused f → f .left ≤ budget
+  unpaid-left i = let u = ap (λ (k : Stop). k .left) (charge-failed (j .size) _ c i .is) in omega arith
 
   module _ {A B : Type 0} (J : Job A B) {image : List ℕ} (st : List ℕ) {r : Judged} (w : Judges (J .kind) image st r) (e : r ≡ judged.Good j) where
-    pub unpaid-ends : {f : Stop} {x : Ending} (out : List ℕ) → q ≡ Refused f → x ≡ ending.Refused (f .refusal) (budget - f .units) → EndsAs (jobEnding J budget (length out) image) out out x
+    pub unpaid-ends : {f : Stop} {x : Ending} (out : List ℕ) → q ≡ Refused f → x ≡ ending.Refused (f .refusal) (budget - f .left) → EndsAs (jobEnding J budget (length out) image) out out x
     unfolding worked
     unpaid-ends {f} {x} out i y =
         let p = charge-failed (j .size) _ c i in
         let g = w .good j e in
-        let s : after (charge (j .size) (stateOf (begun j budget) (bindsOf st))) (λ u. J .work (g .image .root)) ≡ no (refusalOf (f .refusal)) (f .units) =
+        let s : after (charge (j .size) (stateOf (begun j budget) (bindsOf st))) (λ u. J .work (g .image .root)) ≡ no (refusalOf (f .refusal)) (f .left) =
         rw (p .is) (then-no (λ u. J .work (g .image .root)) (charge-no (j .size) (begun j budget) (bindsOf st) (p .short))) in
         subst (λ (z : Ending). EndsAs (jobEnding J budget (length out) image) out out z) (sym y)
         (ends-refused out (charged J image budget (length out) g ∙ ap (λ (o : m.Out B). worked budget o (J .ends budget (length out) (g .image .head))) s))
@@ -91,7 +91,7 @@ module _ (j : Judgement) (budget : ℕ) {q : Charged} (c : q ≡ chargeOf (j .si
   pub paid-loaded : {A : Type 0} {K : Kind A} {image : List ℕ} {st : List ℕ} {r : Judged} {l : List ℕ} {s : State} → Judges K image st r → r ≡ judged.Good j → Lent l budget → q ≡ Paid s → Loaded K image st j l s
   paid-loaded w e n i = let p = charge-went (j .size) _ c i in record { budget = budget; good = w .good j e; lent = n; enough = p .enough; state-is = p .is }
 
-  pub paid-sum : {s : State} → q ≡ Paid s → s .units + j .size ≡ budget
-  paid-sum i = let p = charge-went (j .size) _ c i in let k = ap (λ (x : State). x .units) (p .is) in omega (arith, p .enough)
+  pub paid-sum : {s : State} → q ≡ Paid s → s .left + j .size ≡ budget
+  paid-sum i = let p = charge-went (j .size) _ c i in let k = ap (λ (x : State). x .left) (p .is) in omega (arith, p .enough)
 
-pub ruleset charging-laws = (image-refused, unpaid-units, unpaid-ends, paid-loaded, paid-sum)
+pub ruleset charging-laws = (image-refused, unpaid-left, unpaid-ends, paid-loaded, paid-sum)

@@ -36,14 +36,14 @@ few-held a {o} st b e w same =
     record { few = few; wide = omega arith }
 
 module _ {A B : Type 0} {J : Job A B} {thing : B → Tree} {image st : List ℕ} {j : Judgement} {s : State} {st′ l : List ℕ} {a : Answer} (v : Worked J thing image st j s st′ l a)
-    {l₀ : List ℕ} (d : Loaded (J .kind) image st j l₀ s) {budget : ℕ} (u : s .units + j .size ≡ budget) where
+    {l₀ : List ℕ} (d : Loaded (J .kind) image st j l₀ s) {budget : ℕ} (u : s .left + j .size ≡ budget) where
   abbrev result : m.Out B
   result = J .work (d .good .image .root) (stateOf s (bindsOf st))
 
   -- the rules' ending by what the work came to
   is-worked : (room : ℕ) → jobEnding J budget room image ≡ worked budget result (J .ends budget room (d .good .image .head))
   is-worked room =
-      let k = ap (λ (x : State). x .units) (d .state-is) in
+      let k = ap (λ (x : State). x .left) (d .state-is) in
       let same : d .budget ≡ budget = omega (arith, d .enough) in
       loaded-is J image budget room (d .good) (omega (arith, d .enough)) (d .state-is ∙ ap (λ (b : ℕ). paid (j .size) (begun j b)) same)
 
@@ -53,20 +53,20 @@ module _ {A B : Type 0} {J : Job A B} {thing : B → Tree} {image st : List ℕ}
   stopped : {f : Stop} → a ≡ Refused f → Stopped s result f
   stopped e = subst (cameTo thing s st′ l result) e (v .means (d .good))
 
-  pub refused-units : {f : Stop} → a ≡ Refused f → f .units ≤ budget
-  refused-units e = omega (arith, stopped e .within)
+  pub refused-left : {f : Stop} → a ≡ Refused f → f .left ≤ budget
+  refused-left e = omega (arith, stopped e .within)
 
-  pub done-units : {o : Out} → a ≡ Done o → o .state .units ≤ budget
-  done-units e = omega (arith, came e .within)
+  pub done-left : {o : Out} → a ≡ Done o → o .state .left ≤ budget
+  done-left e = omega (arith, came e .within)
 
-  pub refused-ends : {f : Stop} {x : Ending} (out : List ℕ) → a ≡ Refused f → x ≡ ending.Refused (f .refusal) (budget - f .units) → EndsAs (jobEnding J budget (length out) image) out out x
+  pub refused-ends : {f : Stop} {x : Ending} (out : List ℕ) → a ≡ Refused f → x ≡ ending.Refused (f .refusal) (budget - f .left) → EndsAs (jobEnding J budget (length out) image) out out x
   unfolding worked
   refused-ends {f} {x} out e y =
       subst (λ (z : Ending). EndsAs (jobEnding J budget (length out) image) out out z) (sym y)
       (ends-refused out (is-worked (length out) ∙ ap (λ (o : m.Out B). worked budget o (J .ends budget (length out) (d .good .image .head))) (stopped e .is)))
 
 module _ {A B : Type 0} {K : Kind A} {work : A → Step B} (I : List Bind → Images B) {thing : B → Tree} {image st : List ℕ} {j : Judgement} {s : State} {st′ l : List ℕ} {a : Answer}
-    (v : Worked (record { kind = K; work = work; ends = writes I }) thing image st j s st′ l a) {l₀ : List ℕ} (d : Loaded K image st j l₀ s) {budget : ℕ} (u : s .units + j .size ≡ budget) {o : Out} (e : a ≡ Done o) where
+    (v : Worked (record { kind = K; work = work; ends = writes I }) thing image st j s st′ l a) {l₀ : List ℕ} (d : Loaded K image st j l₀ s) {budget : ℕ} (u : s .left + j .size ≡ budget) {o : Out} (e : a ≡ Done o) where
   abbrev G : Good K image st j
   G = d .good
 
@@ -89,9 +89,9 @@ module _ {A B : Type 0} {K : Kind A} {work : A → Step B} (I : List Bind → Im
   unfolding worked writes reached
   done-ends {out} {out′} {x} h y =
       let M : Images B = I (bindsOf st′ (o .state .bindings)) in
-      let E : List (List ℕ) → jobs.Ending = λ ws. fitted (length out) (imageBytes M (headAfter ws (o .state)) (R .value)) (budget - o .state .units) in
+      let E : List (List ℕ) → jobs.Ending = λ ws. fitted (length out) (imageBytes M (headAfter ws (o .state)) (R .value)) (budget - o .state .left) in
       let is : jobEnding (record { kind = K; work = work; ends = writes I }) budget (length out) image ≡ E (G .image .head .words) =
       is-worked v d u (length out) ∙ ap (λ (z : m.Out B). worked budget z (writes I budget (length out) (G .image .head))) (R .is) in
       subst (λ (z : jobs.Ending). EndsAs z out out′ x) (ap E (G .same-words) ∙ sym is) (y .means (G .headed) (R .value) (shown (M .thing) h))
 
-pub ruleset ending-laws = (few-held, refused-units, done-units, refused-ends, done-came, done-ends)
+pub ruleset ending-laws = (few-held, refused-left, done-left, refused-ends, done-came, done-ends)

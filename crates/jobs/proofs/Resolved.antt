@@ -43,7 +43,7 @@ use Rattle.image.specs.declared.Judged.the-variants as judged
 use Rattle.image.specs.Judging.{Kind, syntaxKind, Good, Judges}
 use Rattle.jobs.specs.Working.{resolving, jobEnding, begun}
 use Rattle.jobs.specs.Naming.{foundEnding, phased, rootEnding, Agree, RootEnds, Resolved}
-use Rattle.jobs.proofs.Charging.{loaded-is, image-refused, unpaid-units, unpaid-ends}
+use Rattle.jobs.proofs.Charging.{loaded-is, image-refused, unpaid-left, unpaid-ends}
 
 -- ---- the name
 
@@ -108,7 +108,7 @@ pub ruleset root-laws = (root-within, root-words, root-scopes, root-held, root-f
 -- ---- the work
 
 -- the rules' work past the charge, after u units
-work-is : (ph : ℕ) (x : Stx) (t : State) (b : Store) (budget u : ℕ) → budget - t .units ≡ u
+work-is : (ph : ℕ) (x : Stx) (t : State) (b : Store) (budget u : ℕ) → budget - t .left ≡ u
     → worked budget (identifier x (λ c n. resolveAt ph c n) (stateOf t b)) (λ n k. m.named n (budget - k .left)) ≡ rootEnding ph x (b (t .bindings)) u
 unfolding worked identifier resolveAt nameOf rootEnding
 work-is ph (atom c (symbol n)) t b budget u e = by (resolve n (setAt ph c) (b (t .bindings)))
@@ -155,8 +155,8 @@ pub resolved-ends : (j : Judgement) (ph budget : ℕ) {q : Charged} {t : State} 
 resolved-ends j ph budget {t = t} {image = image} st {x = x} c i w e v =
     let g = w .good j e in
     let p = charge-went (j .size) (begun j budget) c i in
-    let k = ap (λ (z : State). z .units) (p .is) in
-    let spent : budget - t .units ≡ j .size = omega (arith, p .enough) in
+    let k = ap (λ (z : State). z .left) (p .is) in
+    let spent : budget - t .left ≡ j .size = omega (arith, p .enough) in
     let binds : t .bindings ≡ j .bindings = ap (λ (z : State). z .bindings) (p .is) in
     let is = loaded-is (resolving ph) image budget 0 g (p .enough) (p .is) ∙ work-is ph (g .image .root) t (bindsOf st) budget (j .size) spent
     ∙ ap (λ (n : ℕ). rootEnding ph (g .image .root) (bindsOf st n) (j .size)) binds in
@@ -166,10 +166,10 @@ pub fault-ends : (ph budget : ℕ) {image : List ℕ} (st : List ℕ) {y : Judge
 fault-ends ph budget st w e = image-refused (resolving ph) st budget [] w e
 
 pub stopped-ends : (j : Judgement) (ph budget : ℕ) {q : Charged} {image : List ℕ} (st : List ℕ) {y : Judged} {f : Stop} {x : Ending} → q ≡ chargeOf (j .size) (begun j budget) → q ≡ charged.Refused f
-    → Judges syntaxKind image st y → y ≡ judged.Good j → x ≡ Refused (f .refusal) (budget - f .units) → EndsAs (jobEnding (resolving ph) budget 0 image) [] [] x
+    → Judges syntaxKind image st y → y ≡ judged.Good j → x ≡ Refused (f .refusal) (budget - f .left) → EndsAs (jobEnding (resolving ph) budget 0 image) [] [] x
 stopped-ends j ph budget st c i w e y = unpaid-ends j budget c (resolving ph) st w e [] i y
 
-pub ruleset resolved-laws = (unpaid-units, judged-good, fault-ends, stopped-ends, resolved-ends)
+pub ruleset resolved-laws = (unpaid-left, judged-good, fault-ends, stopped-ends, resolved-ends)
 
 -- ---- the phase comes first
 

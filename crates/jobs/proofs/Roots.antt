@@ -52,8 +52,8 @@ module _ {A : Type 0} {K : Kind A} {image st : List ℕ} {j : Judgement} {l : Li
   first : s .top ≡ 1
   first = ap (λ (x : State). x .top) (d .state-is)
 
-  paid : s .units + j .size ≡ d .budget
-  paid = let u = ap (λ (x : State). x .units) (d .state-is) in omega (arith, d .enough)
+  paid : s .left + j .size ≡ d .budget
+  paid = let u = ap (λ (x : State). x .left) (d .state-is) in omega (arith, d .enough)
 
 module _ {A : Type 0} {K : Kind A} {image st : List ℕ} {j : Judgement} {l : List ℕ} {s : State} (d : Loaded K image st j l s) {R : List ℕ → Tree → List ℕ → Type 0}
     (t : Tree) (read : R (drop (j .root) image) t []) (sized : j .size ≡ loadSize t) where
@@ -177,16 +177,16 @@ module _ {image st : List ℕ} {j : Judgement} {l : List ℕ} {s : State} (d : L
           (record { thing = object; shown = object-shown; within = record { meant = coreOnly; known = rw core is-core; room = object-room; held = record { few = few; wide = wide } } })
 
       expand-agrees : {st′ l″ : List ℕ} {a : Answer} → scopesOf (at .prunable) ≡ 0 → Expanded at st st′ l′ l″ t (b .at) a
-          → Agrees objects 1 twoCells l′ l″ (raisedTo (b .top) s) (bindsOf st′) (expand (at .left) (ofRoot (at .phase)) object (stateOf s (bindsOf st))) (ended a)
+          → Agrees objects 1 twoCells l′ l″ (raisedTo (b .top) s) (bindsOf st′) (expand (at .entries) (ofRoot (at .phase)) object (stateOf s (bindsOf st))) (ended a)
       expand-agrees {st′} {l″} {a} none e =
           let e′ = subst (λ (z : State). Expanded at st st′ l′ l″ z (b .at) a) te e in
-          subst (λ (p : Scopes). Agrees objects 1 twoCells l′ l″ (raisedTo (b .top) s) (bindsOf st′) (expand (at .left) (record { phase = at .phase; meanings = coreOnly; prunable = p }) object (stateOf s (bindsOf st))) (ended a)) none
+          subst (λ (p : Scopes). Agrees objects 1 twoCells l′ l″ (raisedTo (b .top) s) (bindsOf st′) (expand (at .entries) (record { phase = at .phase; meanings = coreOnly; prunable = p }) object (stateOf s (bindsOf st))) (ended a)) none
           (e′ .means object coreOnly object-shown (rw core is-core))
 
       expand-came : {st′ l″ : List ℕ} (a : Answer) → scopesOf (at .prunable) ≡ 0 → Expanded at st st′ l′ l″ t (b .at) a → length l″ ≡ length l′
-          → cameTo stx s st′ l″ (expand (at .left) (ofRoot (at .phase)) object (stateOf s (bindsOf st))) a
+          → cameTo stx s st′ l″ (expand (at .entries) (ofRoot (at .phase)) object (stateOf s (bindsOf st))) a
       expand-came {st′} a none e more =
-          agreed stx ShownObject (λ k o x r. r .rep) (expand (at .left) (ofRoot (at .phase)) object) (expand-no-rise (at .left) (ofRoot (at .phase)) object) s st st′ a object-room more (expand-agrees none e)
+          agreed stx ShownObject (λ k o x r. r .rep) (expand (at .entries) (ofRoot (at .phase)) object) (expand-no-rise (at .entries) (ofRoot (at .phase)) object) s st st′ a object-room more (expand-agrees none e)
 
       expand-few : {st′ l″ : List ℕ} (a : Answer) → scopesOf (at .prunable) ≡ 0 → Expanded at st st′ l′ l″ t (b .at) a → FewBindings a
       expand-few (Done o) none e = on-done (expand-agrees none e) refl .shown .few
@@ -197,7 +197,7 @@ module _ {image st : List ℕ} {j : Judgement} {l l′ : List ℕ} {s t : State}
   pub parse-worked : {l″ : List ℕ} {a : Answer} → Parsed 128 0 st l′ l″ t (b .at) a → length l″ ≡ length l′ → Worked w.parsing itself image st j s st l″ a
   parse-worked {a = a} e more = record { means = λ g. parse-came (with-good d g) v same te a e more }
 
-  module _ {ph : ℕ} {none : ScopeSet} (ne : scopesOf none ≡ 0) {st′ l″ : List ℕ} {a : Answer} (e : Expanded (record { left = 128; phase = ph; meanings = 0; prunable = none }) st st′ l′ l″ t (b .at) a) where
+  module _ {ph : ℕ} {none : ScopeSet} (ne : scopesOf none ≡ 0) {st′ l″ : List ℕ} {a : Answer} (e : Expanded (record { entries = 128; phase = ph; meanings = 0; prunable = none }) st st′ l′ l″ t (b .at) a) where
     pub expand-worked : length l″ ≡ length l′ → Worked (w.expanding ph) stx image st j s st′ l″ a
     expand-worked more = record { means = λ g. expand-came (with-good d g) v same te refl a ne e more }
 

@@ -63,7 +63,7 @@ jobEnding J budget room image =
 
 -- the state in which the work on an image begins
 abbrev pub begun : Judgement → ℕ → State
-begun j budget = record { top = 1; units = budget; names = j .front .head .names; scopes = j .front .head .scopes; bindings = j .bindings }
+begun j budget = record { top = 1; left = budget; names = j .front .head .names; scopes = j .front .head .scopes; bindings = j .bindings }
 
 -- s is the state past the charge for the root, and the table l has the words for it
 pub record Loaded {A : Type 0} (K : Kind A) (image store : List ℕ) (j : Judgement) (l : List ℕ) (s : State) : Type 0 where
@@ -84,11 +84,11 @@ pub record Result {B : Type 0} (thing : B → Tree) (s : State) (store l : List 
   pub shown : Rep l (o .state .top) (o .at) (thing value)
   pub room : Room l (o .state)
   pub names-from : s .names ≤ o .state .names
-  pub within : o .state .units ≤ s .units
+  pub within : o .state .left ≤ s .left
 
 pub record Stopped {B : Type 0} (s : State) (q : r.Out B) (f : Stop) : Type 0 where
-  pub is : q ≡ no (refusalOf (f .refusal)) (f .units)
-  pub within : f .units ≤ s .units
+  pub is : q ≡ no (refusalOf (f .refusal)) (f .left)
+  pub within : f .left ≤ s .left
 
 -- what an answer says of the work
 abbrev pub cameTo : {B : Type 0} → (B → Tree) → State → List ℕ → List ℕ → r.Out B → Answer → Type 0

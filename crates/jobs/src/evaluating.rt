@@ -37,7 +37,7 @@ fn evaluate_loaded(
     budget: u32,
 ) -> Ending
     requires loaded { ⌜ Loaded treeKind (now image) [] j (now table) s ⌝ }
-    requires paid { ⌜ s .units + j .size ≡ budget ⌝ }
+    requires paid { ⌜ s .left + j .size ≡ budget ⌝ }
     ensures { λ r. ⌜ EndsAs (jobEnding evaluating budget (length (now (out .entry))) (now (image .entry))) (now (out .entry)) (now (out .exit)) r ⌝ }
 {
     match evaluate_root(image, j, table, s) {

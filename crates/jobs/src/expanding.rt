@@ -40,7 +40,7 @@ fn expand_root(
     let b = builder::object(table, s.top, image, j.root, h.scopes);
     let none = ScopeSet::empty();
     let at = Surroundings {
-        left: State::MOST_ENTRIES,
+        entries: State::MOST_ENTRIES,
         phase,
         meanings: 0,
         prunable: none,
@@ -61,7 +61,7 @@ fn expand_loaded(
 ) -> Ending
     requires loaded { ⌜ Loaded syntaxKind (now image) (now store) j (now table) s ⌝ }
     requires wide { ⌜ storeSize ≤ length (now store) ⌝ }
-    requires paid { ⌜ s .units + j .size ≡ budget ⌝ }
+    requires paid { ⌜ s .left + j .size ≡ budget ⌝ }
     ensures { λ r. ⌜ EndsAs (jobEnding (expanding phase) budget (length (now (out .entry))) (now (image .entry))) (now (out .entry)) (now (out .exit)) r ⌝ }
 {
     match expand_root(image, j, store, table, s, phase) {

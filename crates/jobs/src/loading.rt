@@ -21,7 +21,7 @@ pub fn begin(j: Judgement, budget: u32) -> Charged
     let h = f.head;
     let s = State {
         top: 1,
-        units: budget,
+        left: budget,
         names: h.names,
         scopes: h.scopes,
         bindings: j.bindings,
@@ -31,9 +31,9 @@ pub fn begin(j: Judgement, budget: u32) -> Charged
 
 // A refusal, after the units charged.
 pub fn stopped(f: Stop, budget: u32) -> Ending
-    requires { ⌜ f .units ≤ budget ⌝ }
-    ensures { λ r. ⌜ r ≡ Refused (f .refusal) (budget - f .units) ⌝ }
+    requires { ⌜ f .left ≤ budget ⌝ }
+    ensures { λ r. ⌜ r ≡ Refused (f .refusal) (budget - f .left) ⌝ }
 {
     let refusal = f.refusal;
-    Ending::Refused(refusal, budget - f.units)
+    Ending::Refused(refusal, budget - f.left)
 }

@@ -41,7 +41,7 @@ fn parse_loaded(
 ) -> Ending
     requires loaded { ⌜ Loaded syntaxKind (now image) (now store) j (now table) s ⌝ }
     requires wide { ⌜ storeSize ≤ length (now store) ⌝ }
-    requires paid { ⌜ s .units + j .size ≡ budget ⌝ }
+    requires paid { ⌜ s .left + j .size ≡ budget ⌝ }
     ensures { λ r. ⌜ EndsAs (jobEnding parsing budget (length (now (out .entry))) (now (image .entry))) (now (out .entry)) (now (out .exit)) r ⌝ }
 {
     match parse_root(image, j, store, table, s) {

@@ -38,25 +38,25 @@ abbrev handedOn : Trees → Trees → m.Step Trees
 handedOn done us = λ y. ok (turnOnto done us) y
 
 -- `from` is left of the chain of ps, and `turned` is the trees of the parts before it, the last first
-pub record Half (left ph : ℕ) (st l : List ℕ) (s t : State) (from turned : ℕ) (ps : Stxs) : Type 0 where
+pub record Half (entries ph : ℕ) (st l : List ℕ) (s t : State) (from turned : ℕ) (ps : Stxs) : Type 0 where
   pub rest : Stxs
   pub done : Trees
   pub shown : RepP l (t .top) from (fromStxs rest)
   pub made : RepP l (t .top) turned done
-  pub whole : parseAll (λ y. parse left ph y) ps (stateOf s (bindsOf st)) ≡ after (parseAll (λ y. parse left ph y) rest (stateOf t (bindsOf st))) (handedOn done)
+  pub whole : parseAll (λ y. parse entries ph y) ps (stateOf s (bindsOf st)) ≡ after (parseAll (λ y. parse entries ph y) rest (stateOf t (bindsOf st))) (handedOn done)
   pub fits : end t + cellSize * counts done ≤ end s
 
-pub record Going (left ph : ℕ) (st l : List ℕ) (s : State) (c : ℕ) (l′ : List ℕ) (t : State) (from turned : ℕ) : Type 0 where
+pub record Going (entries ph : ℕ) (st l : List ℕ) (s : State) (c : ℕ) (l′ : List ℕ) (t : State) (from turned : ℕ) : Type 0 where
   pub kept : Same (s .top) l l′
   pub grows : s .top ≤ t .top
   pub long : length l′ ≡ length l
   pub few : t .bindings ≤ mostBindings
-  pub spent : t .units ≤ s .units
-  pub means : (ps : Stxs) → RepP l (s .top) c (fromStxs ps) → Half left ph st l′ s t from turned ps
+  pub spent : t .left ≤ s .left
+  pub means : (ps : Stxs) → RepP l (s .top) c (fromStxs ps) → Half entries ph st l′ s t from turned ps
 
-pub parts-start : {left ph : ℕ} {st l : List ℕ} {s : State} {c : ℕ} → ReadyParts l st s c → Going left ph st l s c l s c 0
+pub parts-start : {entries ph : ℕ} {st l : List ℕ} {s : State} {c : ℕ} → ReadyParts l st s c → Going entries ph st l s c l s c 0
 unfolding turnOnto counts
-parts-start {left} {ph} {st} {l} {s} r = record {
+parts-start {entries} {ph} {st} {l} {s} r = record {
   kept = same-refl (s .top) l;
   grows = omega arith;
   long = refl;
@@ -67,19 +67,19 @@ parts-start {left} {ph} {st} {l} {s} r = record {
     done = tnil;
     shown = w;
     made = is-none;
-    whole = sym (after-done (parseAll (λ y. parse left ph y) ps (stateOf s (bindsOf st))));
+    whole = sym (after-done (parseAll (λ y. parse entries ph y) ps (stateOf s (bindsOf st))));
     fits = omega arith;
   };
 }
 
-module _ {left ph : ℕ} {st l : List ℕ} {s : State} {c : ℕ} (r : ReadyParts l st s c) {l1 : List ℕ} {t : State} {from turned : ℕ} (g : Going left ph st l s c l1 t from turned) where
-  half : Half left ph st l1 s t from turned (r .thing)
+module _ {entries ph : ℕ} {st l : List ℕ} {s : State} {c : ℕ} (r : ReadyParts l st s c) {l1 : List ℕ} {t : State} {from turned : ℕ} (g : Going entries ph st l s c l1 t from turned) where
+  half : Half entries ph st l1 s t from turned (r .thing)
   half = g .means (r .thing) (r .shown)
 
   room : Room l1 t
   room = record { fits = omega (arith, half .fits, r .room .fits, g .long); small = omega (arith, r .room .small, g .long); low = omega (arith, r .room .low, g .grows) }
 
-  pub part-less : {T : ℕ} → s .units * 8 + 2 ≡ T → t .units * 8 < T
+  pub part-less : {T : ℕ} → s .left * 8 + 2 ≡ T → t .left * 8 < T
   part-less k = omega (arith, g .spent)
 
   module _ (n : ¬ (from ≡ 0)) where
@@ -95,19 +95,19 @@ module _ {left ph : ℕ} {st l : List ℕ} {s : State} {c : ℕ} (r : ReadyParts
       pub part-falls : x .tail < from
       part-falls = first-at (half .rest) (half .shown) n e .cell .low .1
 
-      module _ {l2 : List ℕ} {a : Answer} (v : Parsed left ph st l1 l2 t (x .head) a) where
-        pub part-refused : {f : Stop} → a ≡ Refused f → ParsedParts left ph st l l2 s c (Refused f)
+      module _ {l2 : List ℕ} {a : Answer} (v : Parsed entries ph st l1 l2 t (x .head) a) where
+        pub part-refused : {f : Stop} → a ≡ Refused f → ParsedParts entries ph st l l2 s c (Refused f)
         unfolding parseAll
         part-refused k = record {
           means = λ ps w.
               let h = g .means ps w in
               let q = first-at (h .rest) (h .shown) n e in
-              stops _ (h .whole ∙ ap (λ (z : Stxs). after (parseAll (λ y. parse left ph y) z (stateOf t (bindsOf st))) (handedOn (h .done))) (q .is)
+              stops _ (h .whole ∙ ap (λ (z : Stxs). after (parseAll (λ y. parse entries ph y) z (stateOf t (bindsOf st))) (handedOn (h .done))) (q .is)
               ∙ then-no _ (then-no _ (on-refused (v .means (q .first) (q .cell .shown)) (ap ended k))));
         }
 
         module _ {o : Out} (k : a ≡ Done o) where
-          gave : (x1 : Stx) → Rep l1 (t .top) (x .head) (stx x1) → Gave trees 1 twoCells l1 l2 t (bindsOf st) (parse left ph x1 (stateOf t (bindsOf st))) o
+          gave : (x1 : Stx) → Rep l1 (t .top) (x .head) (stx x1) → Gave trees 1 twoCells l1 l2 t (bindsOf st) (parse entries ph x1 (stateOf t (bindsOf st))) o
           gave x1 w = on-done (v .means x1 w) (ap ended k)
 
           pub part-linkable : length l2 ≡ length l1 → Linkable l2 (o .state .top) (o .at) turned
@@ -123,7 +123,7 @@ module _ {left ph : ℕ} {st l : List ℕ} {s : State} {c : ℕ} (r : ReadyParts
               }
 
           pub part-more : {l3 : List ℕ} {d : Made} {u : State} → length l2 ≡ length l1 → Linked l2 l3 (o .state .top) (o .at) turned (d .at) (d .top) → length l3 ≡ length l2
-              → u ≡ raisedTo (d .top) (o .state) → Going left ph st l s c l3 u (x .tail) (d .at)
+              → u ≡ raisedTo (d .top) (o .state) → Going entries ph st l s c l3 u (x .tail) (d .at)
           unfolding parseAll turnOnto
           part-more {l3} {d} {u} len y len3 z =
               let q0 = first-at (half .rest) (half .shown) n e in
@@ -145,9 +145,9 @@ module _ {left ph : ℕ} {st l : List ℕ} {s : State} {c : ℕ} (r : ReadyParts
                       shown = carryP (carryP (q .cell .shown-others) (j .later .kept) (j .later .grows)) (y .kept) (omega (arith, y .grows));
                       made = y .means (j .value) (h .done) (j .shown .rep) (carryP (h .made) (j .later .kept) (j .later .grows));
                       whole =
-                          h .whole ∙ ap (λ (z1 : Stxs). after (parseAll (λ y1. parse left ph y1) z1 (stateOf t (bindsOf st))) (handedOn (h .done))) (q .is)
+                          h .whole ∙ ap (λ (z1 : Stxs). after (parseAll (λ y1. parse entries ph y1) z1 (stateOf t (bindsOf st))) (handedOn (h .done))) (q .is)
                           ∙ ap (λ (z1 : m.Out Trees). after z1 (handedOn (h .done))) (then-ok _ (j .is))
-                          ∙ after-after (parseAll (λ y1. parse left ph y1) (q .others) (stateOf (o .state) (bindsOf st))) (λ us. λ y1. ok (tcons (j .value) us) y1) (handedOn (h .done));
+                          ∙ after-after (parseAll (λ y1. parse entries ph y1) (q .others) (stateOf (o .state) (bindsOf st))) (λ us. λ y1. ok (tcons (j .value) us) y1) (handedOn (h .done));
                       fits = omega (arith, more, h .fits, j .later .fits, y .grows);
                     };
               })
@@ -155,17 +155,17 @@ module _ {left ph : ℕ} {st l : List ℕ} {s : State} {c : ℕ} (r : ReadyParts
   pub parts-turnable : from ≡ 0 → Turnable l1 (t .top) turned
   parts-turnable z = record { thing = half .done; shown = half .made; room = omega (arith, half .fits, r .room .fits, g .long); small = room .small; low = room .low }
 
-pub parts-turned : {left ph : ℕ} {st l : List ℕ} {s : State} {c : ℕ} {l1 : List ℕ} {t : State} {from turned : ℕ} → Going left ph st l s c l1 t from turned → from ≡ 0
-    → {l2 : List ℕ} {d : Made} {u : State} → Turned l1 l2 (t .top) turned (d .at) (d .top) → u ≡ raisedTo (d .top) t → ParsedParts left ph st l l2 s c (Done (record { at = d .at; state = u }))
+pub parts-turned : {entries ph : ℕ} {st l : List ℕ} {s : State} {c : ℕ} {l1 : List ℕ} {t : State} {from turned : ℕ} → Going entries ph st l s c l1 t from turned → from ≡ 0
+    → {l2 : List ℕ} {d : Made} {u : State} → Turned l1 l2 (t .top) turned (d .at) (d .top) → u ≡ raisedTo (d .top) t → ParsedParts entries ph st l l2 s c (Done (record { at = d .at; state = u }))
 unfolding parseAll
-parts-turned {left} {ph} {st} {l} {s} {c} {l1} {t} {from} {turned} g z {l2} {d} {u} y e =
+parts-turned {entries} {ph} {st} {l} {s} {c} {l1} {t} {from} {turned} g z {l2} {d} {u} y e =
     record {
       means = λ ps w.
           let h = g .means ps w in
           let k = y .means (h .done) (h .made) in
           rw e (gives (record { at = d .at; state = raisedTo (d .top) t }) (record {
             value = turnOnto (h .done) tnil;
-            is = h .whole ∙ ap (λ (z1 : Stxs). after (parseAll (λ y1. parse left ph y1) z1 (stateOf t (bindsOf st))) (handedOn (h .done))) (nil-at (h .rest) (h .shown) z);
+            is = h .whole ∙ ap (λ (z1 : Stxs). after (parseAll (λ y1. parse entries ph y1) z1 (stateOf t (bindsOf st))) (handedOn (h .done))) (nil-at (h .rest) (h .shown) z);
             shown = record { rep = k .0; few = g .few };
             later = record {
               kept = same-trans (s .top) (t .top) l l1 l2 (g .grows) (g .kept) (y .kept);

@@ -24,7 +24,7 @@ use Rattle.steps.specs.declared.Answer.{Answer}
 use Rattle.steps.specs.declared.Answer.the-variants.{Done, Refused}
 use Rattle.steps.specs.declared.Charged.{Charged}
 use Rattle.steps.specs.declared.Charged.the-variants as charged
-use Rattle.steps.proofs.Laws.{Went, charge-went, charge-failed, enter-left, enter-went, entry-refused, entry-goes, charge-ok, charge-no, then-ok, then-no, later-refl, later-trans, later-paid, room-later, on-done, on-refused, since}
+use Rattle.steps.proofs.Laws.{Went, charge-went, charge-failed, enter-spare, enter-went, entry-refused, entry-goes, charge-ok, charge-no, then-ok, then-no, later-refl, later-trans, later-paid, room-later, on-done, on-refused, since}
 use Rattle.table.specs.Tags.{listTag, variableTag, applicationTag, atomValueTag}
 use Rattle.table.specs.Words.{getNode, getCell, Same}
 use Rattle.table.specs.declared.Node.{Node}
@@ -63,8 +63,8 @@ use Rattle.store.specs.Sizes.{bindingSize}
 unpaid-is : {s u : State} → Went 1 s u → unpaid u ≡ s
 unfolding unpaid
 unpaid-is {s} {u} w =
-    let n : s .units - 1 + 1 ≡ s .units = omega (arith, w .enough) in
-    rw (w .is) (λ j. record { top = s .top; units = n j; names = s .names; scopes = s .scopes; bindings = s .bindings })
+    let n : s .left - 1 + 1 ≡ s .left = omega (arith, w .enough) in
+    rw (w .is) (λ j. record { top = s .top; left = n j; names = s .names; scopes = s .scopes; bindings = s .bindings })
 
 top-is : {s u : State} → Went 1 s u → u .top ≡ s .top
 top-is w = ap (λ (y : State). y .top) (w .is)
@@ -94,29 +94,29 @@ node-roomy s r = record { fits = omega (arith, r .room .fits); small = r .room .
 
 -- ---- parse
 
-module _ (left : ℕ) (s : State) {u : State} {x : Charged} (h : x ≡ enterOf left s) (e : x ≡ charged.Paid u) where
-  pub enter-one : 1 ≤ left
-  enter-one = enter-left left s h e
+module _ (entries : ℕ) (s : State) {u : State} {x : Charged} (h : x ≡ enterOf entries s) (e : x ≡ charged.Paid u) where
+  pub enter-one : 1 ≤ entries
+  enter-one = enter-spare entries s h e
 
-  pub enter-less : {T : ℕ} → s .units * 8 ≡ T → u .units * 8 + 6 < T
-  enter-less k = let q = enter-went left s h e in omega (arith, q .enough, ap (λ (y : State). y .units) (q .is))
+  pub enter-less : {T : ℕ} → s .left * 8 ≡ T → u .left * 8 + 6 < T
+  enter-less k = let q = enter-went entries s h e in omega (arith, q .enough, ap (λ (y : State). y .left) (q .is))
 
   pub enter-ready : {l st : List ℕ} {i : ℕ} → Ready l st s i → Ready l st (unpaid u) i
-  enter-ready r = rw (unpaid-is (enter-went left s h e)) r
+  enter-ready r = rw (unpaid-is (enter-went entries s h e)) r
 
-  pub enter-goes : {ph : ℕ} {st l l1 : List ℕ} {i : ℕ} {r : Answer} → ParsedEntry (left - 1) ph st l l1 u i r → Parsed left ph st l l1 s i r
+  pub enter-goes : {ph : ℕ} {st l l1 : List ℕ} {i : ℕ} {r : Answer} → ParsedEntry (entries - 1) ph st l l1 u i r → Parsed entries ph st l l1 s i r
   enter-goes {ph} {st} {l} {l1} {i} {r} f =
-      let w = enter-went left s h e in
+      let w = enter-went entries s h e in
       record {
         means = λ y q.
             let a = f .means y (rw (top-is w) q) in
-            let d : Agrees trees 1 twoCells l l1 s (bindsOf st) (parseEntry (λ z. parse (left - 1) ph z) ph y (stateOf u (bindsOf st))) (ended r) = rw (unpaid-is w) at a in
-            rw (entry-goes (parse-entry ph y) left s (bindsOf st) h e) d;
+            let d : Agrees trees 1 twoCells l l1 s (bindsOf st) (parseEntry (λ z. parse (entries - 1) ph z) ph y (stateOf u (bindsOf st))) (ended r) = rw (unpaid-is w) at a in
+            rw (entry-goes (parse-entry ph y) entries s (bindsOf st) h e) d;
       }
 
-pub enter-stops : {left ph : ℕ} {st : List ℕ} {s : State} {x : Charged} {f : Stop} {l : List ℕ} {i : ℕ} → x ≡ enterOf left s → x ≡ charged.Refused f
-    → Parsed left ph st l l s i (Refused f)
-enter-stops {left} {ph} {st} {s} {f = f} h e = record { means = λ y q. stops f (entry-refused (parse-entry ph y) left s (bindsOf st) h e) }
+pub enter-stops : {entries ph : ℕ} {st : List ℕ} {s : State} {x : Charged} {f : Stop} {l : List ℕ} {i : ℕ} → x ≡ enterOf entries s → x ≡ charged.Refused f
+    → Parsed entries ph st l l s i (Refused f)
+enter-stops {entries} {ph} {st} {s} {f = f} h e = record { means = λ y q. stops f (entry-refused (parse-entry ph y) entries s (bindsOf st) h e) }
 
 -- ---- an entry by its tag
 
@@ -133,36 +133,36 @@ module _ {st l : List ℕ} (s : State) {i : ℕ} {o : Node} (e : o ≡ getNode l
   pub entry-list-ready : Ready l st (unpaid s) i → o .tag ≡ listTag → ReadyParts l st (unpaid s) (o .content)
   entry-list-ready r h = let q = list-at (r .shown) e h in record { thing = q .parts; shown = q .shown; room = r .room; held = r .held }
 
-  pub entry-list : {left ph : ℕ} {l1 : List ℕ} {r : Answer} → o .tag ≡ listTag → ParsedList left ph st l l1 s (o .content) r → ParsedEntry left ph st l l1 s i r
+  pub entry-list : {entries ph : ℕ} {l1 : List ℕ} {r : Answer} → o .tag ≡ listTag → ParsedList entries ph st l l1 s (o .content) r → ParsedEntry entries ph st l l1 s i r
   entry-list h a = record { means = λ x w. let q = list-at w e h in rw (same-object (q .is)) (a .means (q .sets) (q .parts) (q .shown)) }
 
-  pub entry-name : {left ph : ℕ} {l1 : List ℕ} {r : Answer} → o .tag ≡ 0 → ParsedName ph st l l1 s i r → ParsedEntry left ph st l l1 s i r
-  entry-name {left} {ph} h a =
+  pub entry-name : {entries ph : ℕ} {l1 : List ℕ} {r : Answer} → o .tag ≡ 0 → ParsedName ph st l l1 s i r → ParsedEntry entries ph st l l1 s i r
+  entry-name {entries} {ph} h a =
       record {
         means = λ x w.
             let q = symbol-at w e h in
-            let same : parseEntry (λ y. parse left ph y) ph x (stateOf s (bindsOf st)) ≡ nameRule ph x (stateOf s (bindsOf st)) =
-            rw (q .1 .1) (entry-symbol (λ y. parse left ph y) ph (stateOf s (bindsOf st)) (q .0) (q .1 .0)) in
+            let same : parseEntry (λ y. parse entries ph y) ph x (stateOf s (bindsOf st)) ≡ nameRule ph x (stateOf s (bindsOf st)) =
+            rw (q .1 .1) (entry-symbol (λ y. parse entries ph y) ph (stateOf s (bindsOf st)) (q .0) (q .1 .0)) in
             rw same (a .means x w);
       }
 
   pub entry-value-tag : Ready l st (unpaid s) i → atomValueTag + o .tag < 2 ^ 32
   entry-value-tag r = omega (arith, stx-tag (r .shown) e)
 
-  pub entry-value : {left ph : ℕ} {l1 : List ℕ} {k : Made} {z : State} → Ready l st (unpaid s) i → ¬ (o .tag ≡ listTag) → ¬ (o .tag ≡ 0)
+  pub entry-value : {entries ph : ℕ} {l1 : List ℕ} {k : Made} {z : State} → Ready l st (unpaid s) i → ¬ (o .tag ≡ listTag) → ¬ (o .tag ≡ 0)
       → Stored l l1 (s .top) (record { tag = atomValueTag + o .tag; content = o .content }) (k .at) (k .top) → z ≡ raisedTo (k .top) s
-      → ParsedEntry left ph st l l1 s i (Done (record { at = k .at; state = z }))
+      → ParsedEntry entries ph st l l1 s i (Done (record { at = k .at; state = z }))
   unfolding unpaid
-  entry-value {left} {ph} {l1} {k} {z} r n5 n0 d g =
+  entry-value {entries} {ph} {l1} {k} {z} r n5 n0 d g =
       record {
         means = λ x w.
             let q = atom-at w e (omega (arith, stx-tag w e, n5)) in
             let node : _≡_ {A = Node} (record { tag = atomValueTag + o .tag; content = o .content }) (record { tag = atomValueTag + tagOf (q .value); content = contentOf (q .value) }) =
             λ j. record { tag = atomValueTag + (q .tag) j; content = (q .content) j } in
             let d2 : Stored l l1 (s .top) (record { tag = atomValueTag + tagOf (q .value); content = contentOf (q .value) }) (k .at) (k .top) = rw node at d in
-            let rule : parseEntry (λ y. parse left ph y) ph x (stateOf s (bindsOf st)) ≡ ok (datum (q .value)) (stateOf s (bindsOf st)) =
-            ap (λ (v : Stx). parseEntry (λ y. parse left ph y) ph v (stateOf s (bindsOf st))) (same-object (q .is))
-            ∙ entry-atom (λ y. parse left ph y) ph (stateOf s (bindsOf st)) (q .sets) (q .value) (λ t. n0 (q .tag ∙ t)) in
+            let rule : parseEntry (λ y. parse entries ph y) ph x (stateOf s (bindsOf st)) ≡ ok (datum (q .value)) (stateOf s (bindsOf st)) =
+            ap (λ (v : Stx). parseEntry (λ y. parse entries ph y) ph v (stateOf s (bindsOf st))) (same-object (q .is))
+            ∙ entry-atom (λ y. parse entries ph y) ph (stateOf s (bindsOf st)) (q .sets) (q .value) (λ t. n0 (q .tag ∙ t)) in
             rw g (gives (record { at = k .at; state = raisedTo (k .top) s }) (record {
               value = datum (q .value);
               is = rule;
@@ -174,11 +174,11 @@ module _ {st l : List ℕ} (s : State) {i : ℕ} {o : Node} (e : o ≡ getNode l
 -- ---- a variable
 
 module _ {ph : ℕ} {st l : List ℕ} (s : State) {i : ℕ} {n : Naming} (p : Names ph st (s .bindings) l i n) where
-  pub name-unnamed : n ≡ Unnamed → ParsedName ph st l l s i (Refused (record { refusal = NoRule; units = s .units }))
+  pub name-unnamed : n ≡ Unnamed → ParsedName ph st l l s i (Refused (record { refusal = NoRule; left = s .left }))
   unfolding nameRule
   name-unnamed e = record { means = λ x w. stops _ (identifier-unnamed ph (stateOf s (bindsOf st)) x _ (on-unnamed p w e)) }
 
-  pub name-unclear : n ≡ Unclear → ParsedName ph st l l s i (Refused (record { refusal = Ambiguous; units = s .units }))
+  pub name-unclear : n ≡ Unclear → ParsedName ph st l l s i (Refused (record { refusal = Ambiguous; left = s .left }))
   unfolding nameRule
   name-unclear e = record { means = λ x w. stops _ (identifier-unclear ph (stateOf s (bindsOf st)) (λ k. λ z. ok (var k) z) x (on-unclear p w e)) }
 
@@ -199,9 +199,9 @@ module _ {ph : ℕ} {st l : List ℕ} (s : State) {i : ℕ} {n : Naming} (p : Na
 
 -- ---- a list
 
-pub list-empty : {left ph : ℕ} {st l : List ℕ} {s : State} {c : ℕ} → c ≡ 0 → ParsedList left ph st l l s c (Refused (record { refusal = NoRule; units = s .units }))
-list-empty {left} {ph} {st} {l} {s} h =
-    record { means = λ k ps w. rw (nil-at ps w h) (stops _ (entry-empty (λ y. parse left ph y) ph (stateOf s (bindsOf st)) k)) }
+pub list-empty : {entries ph : ℕ} {st l : List ℕ} {s : State} {c : ℕ} → c ≡ 0 → ParsedList entries ph st l l s c (Refused (record { refusal = NoRule; left = s .left }))
+list-empty {entries} {ph} {st} {l} {s} h =
+    record { means = λ k ps w. rw (nil-at ps w h) (stops _ (entry-empty (λ y. parse entries ph y) ph (stateOf s (bindsOf st)) k)) }
 
 pub list-inside : {l st : List ℕ} (s : State) {c : ℕ} → ReadyParts l st (unpaid s) c → ¬ (c ≡ 0) → c + cellSize ≤ length l
 unfolding unpaid
@@ -221,58 +221,58 @@ module _ {st l : List ℕ} (s : State) {c : ℕ} {x : Cell} (h : ¬ (c ≡ 0)) (
       let all : RepP l (unpaid s .top) c (tcons (stx (q .first)) (fromStxs (q .others))) = rw (q .is) at (r .shown) in
       record { first = q .first; others = q .others; shown = all; shown-others = q .cell .shown-others; room = r .room; held = r .held }
 
-  module _ {left ph : ℕ} {n : Naming} (p : Names ph st (s .bindings) l (x .head) n) where
-    pub list-is-unclear : n ≡ Unclear → ParsedList left ph st l l s c (Refused (record { refusal = Ambiguous; units = s .units }))
+  module _ {entries ph : ℕ} {n : Naming} (p : Names ph st (s .bindings) l (x .head) n) where
+    pub list-is-unclear : n ≡ Unclear → ParsedList entries ph st l l s c (Refused (record { refusal = Ambiguous; left = s .left }))
     list-is-unclear z =
         record {
           means = λ k ps w.
               let q = first-at ps w h e in
-              rw (q .is) (stops _ (list-unclear (λ y. parse left ph y) ph (stateOf s (bindsOf st)) k (q .first) (q .others) (on-unclear p (q .cell .shown) z)));
+              rw (q .is) (stops _ (list-unclear (λ y. parse entries ph y) ph (stateOf s (bindsOf st)) k (q .first) (q .others) (on-unclear p (q .cell .shown) z)));
         }
 
-    pub list-applied : {l1 : List ℕ} {r : Answer} → n ≡ Unnamed → ParsedApplication left ph st l l1 s c r → ParsedList left ph st l l1 s c r
+    pub list-applied : {l1 : List ℕ} {r : Answer} → n ≡ Unnamed → ParsedApplication entries ph st l l1 s c r → ParsedList entries ph st l l1 s c r
     unfolding fromStxs
     list-applied z a =
         record {
           means = λ k ps w.
               let q = first-at ps w h e in
               let all : RepP l (s .top) c (tcons (stx (q .first)) (fromStxs (q .others))) = rw (q .is) at w in
-              rw (q .is, list-unnamed (λ y. parse left ph y) ph (stateOf s (bindsOf st)) k (q .first) (q .others) (on-unnamed p (q .cell .shown) z))
+              rw (q .is, list-unnamed (λ y. parse entries ph y) ph (stateOf s (bindsOf st)) k (q .first) (q .others) (on-unnamed p (q .cell .shown) z))
               (a .means (q .first) (q .others) all);
         }
 
-    pub list-formed : {v : Name} {l1 : List ℕ} {r : Answer} → n ≡ Named v → ParsedForm left ph st l l1 s (v .0) c (x .tail) r → ParsedList left ph st l l1 s c r
+    pub list-formed : {v : Name} {l1 : List ℕ} {r : Answer} → n ≡ Named v → ParsedForm entries ph st l l1 s (v .0) c (x .tail) r → ParsedList entries ph st l l1 s c r
     unfolding fromStxs
     list-formed z a =
         record {
           means = λ k ps w.
               let q = first-at ps w h e in
               let all : RepP l (s .top) c (tcons (stx (q .first)) (fromStxs (q .others))) = rw (q .is) at w in
-              rw (q .is, list-named (λ y. parse left ph y) ph (stateOf s (bindsOf st)) k (q .first) (q .others) (on-named p (q .cell .shown) z))
+              rw (q .is, list-named (λ y. parse entries ph y) ph (stateOf s (bindsOf st)) k (q .first) (q .others) (on-named p (q .cell .shown) z))
               (a .means (q .first) (q .others) all (q .cell .shown-others));
         }
 
 -- ---- forms
 
-module _ {left ph : ℕ} {st l : List ℕ} {s : State} {n : ℕ} {c tail : ℕ} {f : Form} (h : formed f ≡ formOf n) where
-  pub form-is-lambda : {l1 : List ℕ} {r : Answer} → f ≡ form.Lambda → ParsedLambda left ph st l l1 s tail r → ParsedForm left ph st l l1 s n c tail r
+module _ {entries ph : ℕ} {st l : List ℕ} {s : State} {n : ℕ} {c tail : ℕ} {f : Form} (h : formed f ≡ formOf n) where
+  pub form-is-lambda : {l1 : List ℕ} {r : Answer} → f ≡ form.Lambda → ParsedLambda entries ph st l l1 s tail r → ParsedForm entries ph st l l1 s n c tail r
   form-is-lambda z a =
-      record { means = λ x ps u w. rw (form-lambda (λ y. parse left ph y) ph (stateOf s (bindsOf st)) x ps (sym (ap formed z) ∙ h)) (a .means ps w) }
+      record { means = λ x ps u w. rw (form-lambda (λ y. parse entries ph y) ph (stateOf s (bindsOf st)) x ps (sym (ap formed z) ∙ h)) (a .means ps w) }
 
-  pub form-is-let-syntax : f ≡ form.LetSyntax → ParsedForm left ph st l l s n c tail (Refused (record { refusal = NoRule; units = s .units }))
-  form-is-let-syntax z = record { means = λ x ps u w. stops _ (form-let-syntax (λ y. parse left ph y) ph (stateOf s (bindsOf st)) x ps (sym (ap formed z) ∙ h)) }
+  pub form-is-let-syntax : f ≡ form.LetSyntax → ParsedForm entries ph st l l s n c tail (Refused (record { refusal = NoRule; left = s .left }))
+  form-is-let-syntax z = record { means = λ x ps u w. stops _ (form-let-syntax (λ y. parse entries ph y) ph (stateOf s (bindsOf st)) x ps (sym (ap formed z) ∙ h)) }
 
-  pub form-is-quote : {l1 : List ℕ} {r : Answer} → f ≡ form.Quote → ParsedQuote l l1 s tail r → ParsedForm left ph st l l1 s n c tail r
+  pub form-is-quote : {l1 : List ℕ} {r : Answer} → f ≡ form.Quote → ParsedQuote l l1 s tail r → ParsedForm entries ph st l l1 s n c tail r
   form-is-quote z a =
-      record { means = λ x ps u w. rw (form-quote (λ y. parse left ph y) ph (stateOf s (bindsOf st)) x ps (sym (ap formed z) ∙ h)) (a .means (bindsOf st) ps w) }
+      record { means = λ x ps u w. rw (form-quote (λ y. parse entries ph y) ph (stateOf s (bindsOf st)) x ps (sym (ap formed z) ∙ h)) (a .means (bindsOf st) ps w) }
 
-  pub form-is-syntax : {r : Answer} → f ≡ form.Syntax → ParsedSyntax l s tail r → ParsedForm left ph st l l s n c tail r
+  pub form-is-syntax : {r : Answer} → f ≡ form.Syntax → ParsedSyntax l s tail r → ParsedForm entries ph st l l s n c tail r
   form-is-syntax z a =
-      record { means = λ x ps u w. rw (form-syntax (λ y. parse left ph y) ph (stateOf s (bindsOf st)) x ps (sym (ap formed z) ∙ h)) (a .means (bindsOf st) ps w) }
+      record { means = λ x ps u w. rw (form-syntax (λ y. parse entries ph y) ph (stateOf s (bindsOf st)) x ps (sym (ap formed z) ∙ h)) (a .means (bindsOf st) ps w) }
 
-  pub form-is-other : {l1 : List ℕ} {r : Answer} → f ≡ form.Other → ParsedApplication left ph st l l1 s c r → ParsedForm left ph st l l1 s n c tail r
+  pub form-is-other : {l1 : List ℕ} {r : Answer} → f ≡ form.Other → ParsedApplication entries ph st l l1 s c r → ParsedForm entries ph st l l1 s n c tail r
   form-is-other z a =
-      record { means = λ x ps u w. rw (form-other (λ y. parse left ph y) ph (stateOf s (bindsOf st)) x ps (sym (ap formed z) ∙ h)) (a .means x ps u) }
+      record { means = λ x ps u w. rw (form-other (λ y. parse entries ph y) ph (stateOf s (bindsOf st)) x ps (sym (ap formed z) ∙ h)) (a .means x ps u) }
 
 module _ {l st : List ℕ} (s : State) {c tail : ℕ} (r : ReadyForm l st (unpaid s) c tail) where
   pub form-tail-ready : ReadyParts l st (unpaid s) tail
@@ -296,7 +296,7 @@ unfolding unpaid
 parts-held s r = omega (arith, r .held .few, r .held .wide)
 
 module _ {st l : List ℕ} (s : State) {c : ℕ} {d : Two} (h : Double l c d) where
-  pub lambda-shape : {left ph : ℕ} → d ≡ two.Not → ParsedLambda left ph st l l s c (Refused (record { refusal = NoRule; units = s .units }))
+  pub lambda-shape : {entries ph : ℕ} → d ≡ two.Not → ParsedLambda entries ph st l l s c (Refused (record { refusal = NoRule; left = s .left }))
   unfolding lambdaRule
   lambda-shape e = record { means = λ ps w. stops _ (not-parts2 ps _ (stateOf s (bindsOf st)) (on-not-two (h .means (s .top) ps w) e)) }
 
@@ -310,8 +310,8 @@ module _ {st l : List ℕ} (s : State) {c : ℕ} {d : Two} (h : Double l c d) wh
     pub lambda-body-ready : ReadyParts l st (unpaid s) c → Ready l st (unpaid s) j
     lambda-body-ready r = let q = on-two (h .means (unpaid s .top) (r .thing) (r .shown)) e in record { thing = q .second; shown = q .shown-second; room = r .room; held = r .held }
 
-    module _ {left ph : ℕ} {n : Naming} (p : Names ph st (s .bindings) l i n) where
-      pub lambda-unnamed : n ≡ Unnamed → ParsedLambda left ph st l l s c (Refused (record { refusal = NoRule; units = s .units }))
+    module _ {entries ph : ℕ} {n : Naming} (p : Names ph st (s .bindings) l i n) where
+      pub lambda-unnamed : n ≡ Unnamed → ParsedLambda entries ph st l l s c (Refused (record { refusal = NoRule; left = s .left }))
       unfolding lambdaRule parts2
       lambda-unnamed z =
           record {
@@ -320,22 +320,22 @@ module _ {st l : List ℕ} (s : State) {c : ℕ} {d : Two} (h : Double l c d) wh
                 rw (q .is) (stops _ (identifier-unnamed ph (stateOf s (bindsOf st)) (q .first) _ (on-unnamed p (q .shown) z)));
           }
 
-      pub lambda-unclear : n ≡ Unclear → ParsedLambda left ph st l l s c (Refused (record { refusal = Ambiguous; units = s .units }))
+      pub lambda-unclear : n ≡ Unclear → ParsedLambda entries ph st l l s c (Refused (record { refusal = Ambiguous; left = s .left }))
       unfolding lambdaRule parts2
       lambda-unclear z =
           record {
             means = λ ps w.
                 let q = on-two (h .means (s .top) ps w) e in
-                rw (q .is) (stops _ (identifier-unclear ph (stateOf s (bindsOf st)) (λ k. functionRule (λ y. parse left ph y) k (q .second)) (q .first) (on-unclear p (q .shown) z)));
+                rw (q .is) (stops _ (identifier-unclear ph (stateOf s (bindsOf st)) (λ k. functionRule (λ y. parse entries ph y) k (q .second)) (q .first) (on-unclear p (q .shown) z)));
           }
 
-      pub lambda-function : {v : Name} {l1 : List ℕ} {r : Answer} → n ≡ Named v → ParsedFunction left ph st l l1 s (v .0) j r → ParsedLambda left ph st l l1 s c r
+      pub lambda-function : {v : Name} {l1 : List ℕ} {r : Answer} → n ≡ Named v → ParsedFunction entries ph st l l1 s (v .0) j r → ParsedLambda entries ph st l l1 s c r
       unfolding lambdaRule parts2
       lambda-function z a =
           record {
             means = λ ps w.
                 let q = on-two (h .means (s .top) ps w) e in
-                rw (q .is, identifier-named ph (stateOf s (bindsOf st)) (λ k. functionRule (λ y. parse left ph y) k (q .second)) (q .first) (on-named p (q .shown) z))
+                rw (q .is, identifier-named ph (stateOf s (bindsOf st)) (λ k. functionRule (λ y. parse entries ph y) k (q .second)) (q .first) (on-named p (q .shown) z))
                 (a .means (q .second) (q .shown-second));
           }
 
@@ -346,13 +346,13 @@ pub later-ready : {l st : List ℕ} (s : State) {i : ℕ} → Ready l st (unpaid
 unfolding unpaid
 later-ready s r = record { thing = r .thing; shown = r .shown; room = record { fits = omega (arith, r .room .fits); small = r .room .small; low = r .room .low }; held = record { few = r .held .few; wide = r .held .wide } }
 
-module _ {left ph : ℕ} {st l l1 : List ℕ} (s : State) {body : ℕ} {a : Answer} (v : Parsed left ph st l l1 s body a) where
-  pub function-refused : {n : ℕ} {f : Stop} → a ≡ Refused f → ParsedFunction left ph st l l1 s n body (Refused f)
+module _ {entries ph : ℕ} {st l l1 : List ℕ} (s : State) {body : ℕ} {a : Answer} (v : Parsed entries ph st l l1 s body a) where
+  pub function-refused : {n : ℕ} {f : Stop} → a ≡ Refused f → ParsedFunction entries ph st l l1 s n body (Refused f)
   unfolding functionRule
   function-refused e = record { means = λ x w. stops _ (then-no _ (on-refused (v .means x w) (ap ended e))) }
 
   module _ {o : Out} (e : a ≡ Done o) where
-    function-gave : (x : Stx) → Rep l (s .top) body (stx x) → Gave trees 1 twoCells l l1 s (bindsOf st) (parse left ph x (stateOf s (bindsOf st))) o
+    function-gave : (x : Stx) → Rep l (s .top) body (stx x) → Gave trees 1 twoCells l l1 s (bindsOf st) (parse entries ph x (stateOf s (bindsOf st))) o
     function-gave x w = on-done (v .means x w) (ap ended e)
 
     pub function-ready : Ready l st (unpaid s) body → length l1 ≡ length l → Closable l1 (o .state .top) (o .at)
@@ -366,7 +366,7 @@ module _ {left ph : ℕ} {st l l1 : List ℕ} (s : State) {body : ℕ} {a : Answ
         }
 
     pub function-made : {n : ℕ} {l2 : List ℕ} {k : Made} {z : State} → Closed l1 l2 (o .state .top) n (o .at) (k .at) (k .top) → z ≡ raisedTo (k .top) (o .state)
-        → ParsedFunction left ph st l l2 s n body (Done (record { at = k .at; state = z }))
+        → ParsedFunction entries ph st l l2 s n body (Done (record { at = k .at; state = z }))
     unfolding functionRule unpaid
     function-made {n} {l2} {k} d g =
         record {
@@ -392,11 +392,11 @@ unfolding unpaid
 chain-seen s r = record { top = s .top; thing = fromStxs (r .thing); shown = r .shown; inside = omega (arith, r .room .fits); small = r .room .small }
 
 module _ {l : List ℕ} (s : State) {c : ℕ} {d : One} (h : Single l c d) where
-  pub syntax-shape : d ≡ one.Not → ParsedSyntax l s c (Refused (record { refusal = NoRule; units = s .units }))
+  pub syntax-shape : d ≡ one.Not → ParsedSyntax l s c (Refused (record { refusal = NoRule; left = s .left }))
   unfolding syntaxRule
   syntax-shape e = record { means = λ b ps w. stops _ (not-parts1 ps _ (stateOf s b) (on-not-one (h .means (s .top) ps w) e)) }
 
-  pub quote-shape : d ≡ one.Not → ParsedQuote l l s c (Refused (record { refusal = NoRule; units = s .units }))
+  pub quote-shape : d ≡ one.Not → ParsedQuote l l s c (Refused (record { refusal = NoRule; left = s .left }))
   unfolding quoteRule
   quote-shape e = record { means = λ b ps w. stops _ (not-parts1 ps _ (stateOf s b) (on-not-one (h .means (s .top) ps w) e)) }
 
@@ -427,15 +427,15 @@ unfolding unpaid
 data-seen s r = record { top = s .top; thing = stx (r .thing); shown = r .shown; inside = omega (arith, r .room .fits); small = r .room .small }
 
 module _ {l : List ℕ} (s : State) {i : ℕ} {ex : Extent} (k : Measured l i ex) {y : Charged} (f : y ≡ chargeOf (ex .weight) s) (r : ReadyData l (unpaid s) i) where
-  few-units : s .units < mostSize
+  few-left : s .left < mostSize
   unfolding unpaid
-  few-units = omega (arith, r .room .fits, r .room .small)
+  few-left = omega (arith, r .room .fits, r .room .small)
 
   pub data-short : {t : Stop} → y ≡ charged.Refused t → ParsedData l l s i (Refused t)
   unfolding dataRule
   data-short {t} g =
       let q = charge-failed (ex .weight) s f g in
-      record { means = λ b x w. rw (q .is) (stops _ (then-no _ (charge-no (size x) s b (omega (arith, q .short, few-units, charged-size k x w))))) }
+      record { means = λ b x w. rw (q .is) (stops _ (then-no _ (charge-no (size x) s b (omega (arith, q .short, few-left, charged-size k x w))))) }
 
   module _ {u : State} (g : y ≡ charged.Paid u) where
     went : Went (ex .weight) s u
@@ -444,20 +444,20 @@ module _ {l : List ℕ} (s : State) {i : ℕ} {ex : Extent} (k : Measured l i ex
     pub strip-ready : Copyable l (u .top) i
     unfolding unpaid
     strip-ready =
-        let n : ex .weight ≡ size (r .thing) = covered-size k few-units (went .enough) (r .thing) (r .shown) in
-        rw (went .is) (record { thing = r .thing; shown = r .shown; charged = omega (arith, n, went .enough, few-units); room = omega (arith, r .room .fits, went .enough, n); small = r .room .small; low = r .room .low })
+        let n : ex .weight ≡ size (r .thing) = covered-size k few-left (went .enough) (r .thing) (r .shown) in
+        rw (went .is) (record { thing = r .thing; shown = r .shown; charged = omega (arith, n, went .enough, few-left); room = omega (arith, r .room .fits, went .enough, n); small = r .room .small; low = r .room .low })
 
     pub data-made : {l1 : List ℕ} {at : Made} {z : State} → Copied strip l l1 (u .top) i (at .at) (at .top) → z ≡ raisedTo (at .top) u
         → ParsedData l l1 s i (Done (record { at = at .at; state = z }))
     unfolding dataRule unpaid
     data-made {l1} {at} {z} v j =
         let ut : u .top ≡ s .top = ap (λ (y : State). y .top) (went .is) in
-        let uu : u .units ≡ s .units - ex .weight = ap (λ (y : State). y .units) (went .is) in
+        let uu : u .left ≡ s .left - ex .weight = ap (λ (y : State). y .left) (went .is) in
         let ub : u .bindings ≡ s .bindings = ap (λ (y : State). y .bindings) (went .is) in
         let v2 : Copied strip l l1 (s .top) i (at .at) (at .top) = rw ut at v in
         record {
           means = λ b x w.
-              let n : ex .weight ≡ size x = covered-size k few-units (went .enough) x w in
+              let n : ex .weight ≡ size x = covered-size k few-left (went .enough) x w in
               let q = v2 .means x w in
               let same : stateOf (paid (size x) s) b ≡ stateOf u b = rw (went .is) (ap (λ (k : ℕ). stateOf (paid k s) b) (sym n)) in
               rw j (gives (record { at = at .at; state = raisedTo (at .top) u }) (record {
@@ -474,11 +474,11 @@ pub parts-ready : {l st : List ℕ} (s : State) {c : ℕ} → ReadyParts l st (u
 unfolding unpaid
 parts-ready s r = record { thing = r .thing; shown = r .shown; room = record { fits = omega (arith, r .room .fits); small = r .room .small; low = r .room .low }; held = record { few = r .held .few; wide = r .held .wide } }
 
-module _ {left ph : ℕ} {st l l1 : List ℕ} (s : State) {c : ℕ} {a : Answer} (v : ParsedParts left ph st l l1 s c a) where
-  pub application-refused : {f : Stop} → a ≡ Refused f → ParsedApplication left ph st l l1 s c (Refused f)
+module _ {entries ph : ℕ} {st l l1 : List ℕ} (s : State) {c : ℕ} {a : Answer} (v : ParsedParts entries ph st l l1 s c a) where
+  pub application-refused : {f : Stop} → a ≡ Refused f → ParsedApplication entries ph st l l1 s c (Refused f)
   unfolding fromStxs
   application-refused e =
-      record { means = λ h ps w. stops _ (application-no (λ y. parse left ph y) h ps (stateOf s (bindsOf st)) (on-refused (v .means (cons h ps) w) (ap ended e))) }
+      record { means = λ h ps w. stops _ (application-no (λ y. parse entries ph y) h ps (stateOf s (bindsOf st)) (on-refused (v .means (cons h ps) w) (ap ended e))) }
 
   module _ {o : Out} (e : a ≡ Done o) where
     pub application-roomy : ReadyParts l st (unpaid s) c → length l1 ≡ length l → Roomy l1 (o .state .top) nodeSize
@@ -488,13 +488,13 @@ module _ {left ph : ℕ} {st l l1 : List ℕ} (s : State) {c : ℕ} {a : Answer}
         record { fits = omega (arith, g .later .fits, r .room .fits, len); small = omega (arith, r .room .small, len); low = omega (arith, r .room .low, g .later .grows) }
 
     pub application-made : {l2 : List ℕ} {k : Made} {z : State} → Stored l1 l2 (o .state .top) (record { tag = applicationTag; content = o .at }) (k .at) (k .top)
-        → z ≡ raisedTo (k .top) (o .state) → ParsedApplication left ph st l l2 s c (Done (record { at = k .at; state = z }))
+        → z ≡ raisedTo (k .top) (o .state) → ParsedApplication entries ph st l l2 s c (Done (record { at = k .at; state = z }))
     unfolding fromStxs unpaid
     application-made {l2} {k} d g =
         record {
           means = λ h ps w.
               let q = on-done (v .means (cons h ps) w) (ap ended e) in
-              let f = application-is (λ y. parse left ph y) h ps (stateOf s (bindsOf st)) (q .is) in
+              let f = application-is (λ y. parse entries ph y) h ps (stateOf s (bindsOf st)) (q .is) in
               let shown : RepP l1 (o .state .top) (o .at) (tcons (f .first) (f .others)) = rw (f .is) at (q .shown .rep) in
               rw g (gives (record { at = k .at; state = raisedTo (k .top) (o .state) }) (record {
                 value = app (f .first) (f .others);

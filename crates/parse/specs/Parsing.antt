@@ -18,7 +18,7 @@ use Rattle.parse.specs.Shown.{Held, trees, chains}
 use Rattle.table.specs.Sizes.{twoCells}
 
 unfoldable pub unpaid : State → State
-unpaid s = record { top = s .top; units = s .units + 1; names = s .names; scopes = s .scopes; bindings = s .bindings }
+unpaid s = record { top = s .top; left = s .left + 1; names = s .names; scopes = s .scopes; bindings = s .bindings }
 
 -- ---- what is asked
 
@@ -98,31 +98,31 @@ applicationRule self h l = do
 
 -- ---- what is given
 
-pub record Parsed (left ph : ℕ) (st l l′ : List ℕ) (s : State) (i : ℕ) (r : Answer) : Type 0 where
-  pub means : (x : Stx) → Rep l (s .top) i (stx x) → Agrees trees 1 twoCells l l′ s (bindsOf st) (parse left ph x (stateOf s (bindsOf st))) (ended r)
+pub record Parsed (entries ph : ℕ) (st l l′ : List ℕ) (s : State) (i : ℕ) (r : Answer) : Type 0 where
+  pub means : (x : Stx) → Rep l (s .top) i (stx x) → Agrees trees 1 twoCells l l′ s (bindsOf st) (parse entries ph x (stateOf s (bindsOf st))) (ended r)
 
-pub record ParsedEntry (left ph : ℕ) (st l l′ : List ℕ) (s : State) (i : ℕ) (r : Answer) : Type 0 where
+pub record ParsedEntry (entries ph : ℕ) (st l l′ : List ℕ) (s : State) (i : ℕ) (r : Answer) : Type 0 where
   pub means : (x : Stx) → Rep l (s .top) i (stx x)
-      → Agrees trees 1 twoCells l l′ (unpaid s) (bindsOf st) (parseEntry (λ y. parse left ph y) ph x (stateOf s (bindsOf st))) (ended r)
+      → Agrees trees 1 twoCells l l′ (unpaid s) (bindsOf st) (parseEntry (λ y. parse entries ph y) ph x (stateOf s (bindsOf st))) (ended r)
 
 pub record ParsedName (ph : ℕ) (st l l′ : List ℕ) (s : State) (i : ℕ) (r : Answer) : Type 0 where
   pub means : (x : Stx) → Rep l (s .top) i (stx x) → Agrees trees 1 twoCells l l′ (unpaid s) (bindsOf st) (nameRule ph x (stateOf s (bindsOf st))) (ended r)
 
-pub record ParsedList (left ph : ℕ) (st l l′ : List ℕ) (s : State) (c : ℕ) (r : Answer) : Type 0 where
+pub record ParsedList (entries ph : ℕ) (st l l′ : List ℕ) (s : State) (c : ℕ) (r : Answer) : Type 0 where
   pub means : (k : Sets) (ps : Stxs) → RepP l (s .top) c (fromStxs ps)
-      → Agrees trees 1 twoCells l l′ (unpaid s) (bindsOf st) (parseEntry (λ y. parse left ph y) ph (list k ps) (stateOf s (bindsOf st))) (ended r)
+      → Agrees trees 1 twoCells l l′ (unpaid s) (bindsOf st) (parseEntry (λ y. parse entries ph y) ph (list k ps) (stateOf s (bindsOf st))) (ended r)
 
-pub record ParsedForm (left ph : ℕ) (st l l′ : List ℕ) (s : State) (head c tail : ℕ) (r : Answer) : Type 0 where
+pub record ParsedForm (entries ph : ℕ) (st l l′ : List ℕ) (s : State) (head c tail : ℕ) (r : Answer) : Type 0 where
   pub means : (h : Stx) (ps : Stxs) → RepP l (s .top) c (tcons (stx h) (fromStxs ps)) → RepP l (s .top) tail (fromStxs ps)
-      → Agrees trees 1 twoCells l l′ (unpaid s) (bindsOf st) (parseForm (λ y. parse left ph y) ph (formOf head) h ps (stateOf s (bindsOf st))) (ended r)
+      → Agrees trees 1 twoCells l l′ (unpaid s) (bindsOf st) (parseForm (λ y. parse entries ph y) ph (formOf head) h ps (stateOf s (bindsOf st))) (ended r)
 
-pub record ParsedLambda (left ph : ℕ) (st l l′ : List ℕ) (s : State) (c : ℕ) (r : Answer) : Type 0 where
+pub record ParsedLambda (entries ph : ℕ) (st l l′ : List ℕ) (s : State) (c : ℕ) (r : Answer) : Type 0 where
   pub means : (ps : Stxs) → RepP l (s .top) c (fromStxs ps)
-      → Agrees trees 1 twoCells l l′ (unpaid s) (bindsOf st) (lambdaRule (λ y. parse left ph y) ph ps (stateOf s (bindsOf st))) (ended r)
+      → Agrees trees 1 twoCells l l′ (unpaid s) (bindsOf st) (lambdaRule (λ y. parse entries ph y) ph ps (stateOf s (bindsOf st))) (ended r)
 
-pub record ParsedFunction (left ph : ℕ) (st l l′ : List ℕ) (s : State) (n body : ℕ) (r : Answer) : Type 0 where
+pub record ParsedFunction (entries ph : ℕ) (st l l′ : List ℕ) (s : State) (n body : ℕ) (r : Answer) : Type 0 where
   pub means : (x : Stx) → Rep l (s .top) body (stx x)
-      → Agrees trees 1 twoCells l l′ (unpaid s) (bindsOf st) (functionRule (λ y. parse left ph y) n x (stateOf s (bindsOf st))) (ended r)
+      → Agrees trees 1 twoCells l l′ (unpaid s) (bindsOf st) (functionRule (λ y. parse entries ph y) n x (stateOf s (bindsOf st))) (ended r)
 
 pub record ParsedQuote (l l′ : List ℕ) (s : State) (c : ℕ) (r : Answer) : Type 0 where
   pub means : (b : Store) (ps : Stxs) → RepP l (s .top) c (fromStxs ps) → Agrees trees 1 twoCells l l′ (unpaid s) b (quoteRule ps (stateOf s b)) (ended r)
@@ -133,10 +133,10 @@ pub record ParsedData (l l′ : List ℕ) (s : State) (i : ℕ) (r : Answer) : T
 pub record ParsedSyntax (l : List ℕ) (s : State) (c : ℕ) (r : Answer) : Type 0 where
   pub means : (b : Store) (ps : Stxs) → RepP l (s .top) c (fromStxs ps) → Agrees trees 1 twoCells l l (unpaid s) b (syntaxRule ps (stateOf s b)) (ended r)
 
-pub record ParsedApplication (left ph : ℕ) (st l l′ : List ℕ) (s : State) (c : ℕ) (r : Answer) : Type 0 where
+pub record ParsedApplication (entries ph : ℕ) (st l l′ : List ℕ) (s : State) (c : ℕ) (r : Answer) : Type 0 where
   pub means : (h : Stx) (ps : Stxs) → RepP l (s .top) c (tcons (stx h) (fromStxs ps))
-      → Agrees trees 1 twoCells l l′ (unpaid s) (bindsOf st) (applicationRule (λ y. parse left ph y) h ps (stateOf s (bindsOf st))) (ended r)
+      → Agrees trees 1 twoCells l l′ (unpaid s) (bindsOf st) (applicationRule (λ y. parse entries ph y) h ps (stateOf s (bindsOf st))) (ended r)
 
-pub record ParsedParts (left ph : ℕ) (st l l′ : List ℕ) (s : State) (c : ℕ) (r : Answer) : Type 0 where
+pub record ParsedParts (entries ph : ℕ) (st l l′ : List ℕ) (s : State) (c : ℕ) (r : Answer) : Type 0 where
   pub means : (ps : Stxs) → RepP l (s .top) c (fromStxs ps)
-      → Agrees chains 0 0 l l′ s (bindsOf st) (parseAll (λ y. parse left ph y) ps (stateOf s (bindsOf st))) (ended r)
+      → Agrees chains 0 0 l l′ s (bindsOf st) (parseAll (λ y. parse entries ph y) ps (stateOf s (bindsOf st))) (ended r)

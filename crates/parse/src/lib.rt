@@ -16,25 +16,25 @@ ghost use mathlib.Core.Path.{_≡_};
 ghost use Rattle.parse.specs.Parsing.{unpaid, Ready, ReadyParts, ReadyForm, ReadyChain, ReadyData, Parsed, ParsedEntry, ParsedName, ParsedList, ParsedForm, ParsedLambda, ParsedFunction, ParsedQuote, ParsedData, ParsedSyntax, ParsedApplication, ParsedParts};
 
 // One entry.
-pub fn parse(table: &mut [u32], store: &[u64], s: State, i: u32, phase: u32, left: u32) -> Answer
+pub fn parse(table: &mut [u32], store: &[u64], s: State, i: u32, phase: u32, entries: u32) -> Answer
     requires { ⌜ Ready (now table) (now store) s i ⌝ }
-    ensures { λ r. ⌜ Parsed left phase (now (store .entry)) (now (table .entry)) (now (table .exit)) s i r ⌝ }
+    ensures { λ r. ⌜ Parsed entries phase (now (store .entry)) (now (table .entry)) (now (table .exit)) s i r ⌝ }
 {
-    match s.enter(left) {
+    match s.enter(entries) {
         Charged::Refused(f) => Answer::Refused(f),
-        Charged::Paid(t) => entry(table, store, t, i, phase, left - 1),
+        Charged::Paid(t) => entry(table, store, t, i, phase, entries - 1),
     }
 }
 
 // The entry charged.
-fn entry(table: &mut [u32], store: &[u64], s: State, i: u32, phase: u32, left: u32) -> Answer
+fn entry(table: &mut [u32], store: &[u64], s: State, i: u32, phase: u32, entries: u32) -> Answer
     requires { ⌜ Ready (now table) (now store) (unpaid s) i ⌝ }
-    ensures { λ r. ⌜ ParsedEntry left phase (now (store .entry)) (now (table .entry)) (now (table .exit)) s i r ⌝ }
+    ensures { λ r. ⌜ ParsedEntry entries phase (now (store .entry)) (now (table .entry)) (now (table .exit)) s i r ⌝ }
 {
     let n = table::get_node(table, i);
     let tag = n.tag;
     if tag == Node::LIST {
-        return list(table, store, s, n.content, phase, left);
+        return list(table, store, s, n.content, phase, entries);
     }
     if tag == Node::SYMBOL {
         return variable(table, store, s, i, phase);
@@ -59,11 +59,11 @@ fn variable(table: &mut [u32], store: &[u64], s: State, i: u32, phase: u32) -> A
     match forms::name_of(table, store, s.bindings, i, phase) {
         Naming::Unnamed => Answer::Refused(Stop {
             refusal: Refusal::NoRule,
-            units: s.units,
+            left: s.left,
         }),
         Naming::Unclear => Answer::Refused(Stop {
             refusal: Refusal::Ambiguous,
-            units: s.units,
+            left: s.left,
         }),
         Naming::Named(n) => {
             let m = things::make(
@@ -81,24 +81,24 @@ fn variable(table: &mut [u32], store: &[u64], s: State, i: u32, phase: u32) -> A
 }
 
 // The list of the chain c, by its head's name.
-fn list(table: &mut [u32], store: &[u64], s: State, c: u32, phase: u32, left: u32) -> Answer
+fn list(table: &mut [u32], store: &[u64], s: State, c: u32, phase: u32, entries: u32) -> Answer
     requires { ⌜ ReadyParts (now table) (now store) (unpaid s) c ⌝ }
-    ensures { λ r. ⌜ ParsedList left phase (now (store .entry)) (now (table .entry)) (now (table .exit)) s c r ⌝ }
+    ensures { λ r. ⌜ ParsedList entries phase (now (store .entry)) (now (table .entry)) (now (table .exit)) s c r ⌝ }
 {
     if c == 0 {
         return Answer::Refused(Stop {
             refusal: Refusal::NoRule,
-            units: s.units,
+            left: s.left,
         });
     }
     let x = table::get_cell(table, c);
     match forms::name_of(table, store, s.bindings, x.head, phase) {
         Naming::Unclear => Answer::Refused(Stop {
             refusal: Refusal::Ambiguous,
-            units: s.units,
+            left: s.left,
         }),
-        Naming::Unnamed => application(table, store, s, c, phase, left),
-        Naming::Named(n) => form(table, store, s, n, c, x.tail, phase, left),
+        Naming::Unnamed => application(table, store, s, c, phase, entries),
+        Naming::Named(n) => form(table, store, s, n, c, x.tail, phase, entries),
     }
 }
 
@@ -111,43 +111,43 @@ fn form(
     c: u32,
     tail: u32,
     phase: u32,
-    left: u32,
+    entries: u32,
 ) -> Answer
     requires { ⌜ ReadyForm (now table) (now store) (unpaid s) c tail ⌝ }
-    ensures { λ r. ⌜ ParsedForm left phase (now (store .entry)) (now (table .entry)) (now (table .exit)) s (head .0) c tail r ⌝ }
+    ensures { λ r. ⌜ ParsedForm entries phase (now (store .entry)) (now (table .entry)) (now (table .exit)) s (head .0) c tail r ⌝ }
 {
     match forms::form_of(head) {
-        Form::Lambda => lambda(table, store, s, tail, phase, left),
+        Form::Lambda => lambda(table, store, s, tail, phase, entries),
         Form::LetSyntax => Answer::Refused(Stop {
             refusal: Refusal::NoRule,
-            units: s.units,
+            left: s.left,
         }),
         Form::Quote => quote(table, s, tail),
         Form::Syntax => syntax_value(table, s, tail),
-        Form::Other => application(table, store, s, c, phase, left),
+        Form::Other => application(table, store, s, c, phase, entries),
     }
 }
 
 // (lambda id body), without its head.
-fn lambda(table: &mut [u32], store: &[u64], s: State, c: u32, phase: u32, left: u32) -> Answer
+fn lambda(table: &mut [u32], store: &[u64], s: State, c: u32, phase: u32, entries: u32) -> Answer
     requires { ⌜ ReadyParts (now table) (now store) (unpaid s) c ⌝ }
-    ensures { λ r. ⌜ ParsedLambda left phase (now (store .entry)) (now (table .entry)) (now (table .exit)) s c r ⌝ }
+    ensures { λ r. ⌜ ParsedLambda entries phase (now (store .entry)) (now (table .entry)) (now (table .exit)) s c r ⌝ }
 {
     match forms::two_parts(table, c) {
         Two::Not => Answer::Refused(Stop {
             refusal: Refusal::NoRule,
-            units: s.units,
+            left: s.left,
         }),
         Two::Are(id, body) => match forms::name_of(table, store, s.bindings, id, phase) {
             Naming::Unnamed => Answer::Refused(Stop {
                 refusal: Refusal::NoRule,
-                units: s.units,
+                left: s.left,
             }),
             Naming::Unclear => Answer::Refused(Stop {
                 refusal: Refusal::Ambiguous,
-                units: s.units,
+                left: s.left,
             }),
-            Naming::Named(n) => function(table, store, s, n, body, phase, left),
+            Naming::Named(n) => function(table, store, s, n, body, phase, entries),
         },
     }
 }
@@ -160,12 +160,12 @@ fn function(
     name: Name,
     body: u32,
     phase: u32,
-    left: u32,
+    entries: u32,
 ) -> Answer
     requires { ⌜ Ready (now table) (now store) (unpaid s) body ⌝ }
-    ensures { λ r. ⌜ ParsedFunction left phase (now (store .entry)) (now (table .entry)) (now (table .exit)) s (name .0) body r ⌝ }
+    ensures { λ r. ⌜ ParsedFunction entries phase (now (store .entry)) (now (table .entry)) (now (table .exit)) s (name .0) body r ⌝ }
 {
-    match parse(table, store, s, body, phase, left) {
+    match parse(table, store, s, body, phase, entries) {
         Answer::Refused(f) => Answer::Refused(f),
         Answer::Done(o) => {
             let s1 = o.state;
@@ -184,7 +184,7 @@ fn quote(table: &mut [u32], s: State, c: u32) -> Answer
     match forms::one_part(table, c) {
         One::Not => Answer::Refused(Stop {
             refusal: Refusal::NoRule,
-            units: s.units,
+            left: s.left,
         }),
         One::Is(i) => data(table, s, i),
     }
@@ -214,18 +214,25 @@ fn syntax_value(table: &[u32], s: State, c: u32) -> Answer
     match forms::one_part(table, c) {
         One::Not => Answer::Refused(Stop {
             refusal: Refusal::NoRule,
-            units: s.units,
+            left: s.left,
         }),
         One::Is(i) => Answer::Done(Out { at: i, state: s }),
     }
 }
 
 // The application whose head and arguments are the chain c.
-fn application(table: &mut [u32], store: &[u64], s: State, c: u32, phase: u32, left: u32) -> Answer
+fn application(
+    table: &mut [u32],
+    store: &[u64],
+    s: State,
+    c: u32,
+    phase: u32,
+    entries: u32,
+) -> Answer
     requires { ⌜ ReadyParts (now table) (now store) (unpaid s) c ⌝ }
-    ensures { λ r. ⌜ ParsedApplication left phase (now (store .entry)) (now (table .entry)) (now (table .exit)) s c r ⌝ }
+    ensures { λ r. ⌜ ParsedApplication entries phase (now (store .entry)) (now (table .entry)) (now (table .exit)) s c r ⌝ }
 {
-    match parts(table, store, s, c, phase, left) {
+    match parts(table, store, s, c, phase, entries) {
         Answer::Refused(f) => Answer::Refused(f),
         Answer::Done(o) => {
             let s1 = o.state;
@@ -244,16 +251,16 @@ fn application(table: &mut [u32], store: &[u64], s: State, c: u32, phase: u32, l
 }
 
 // The parts of the chain c in turn: their trees as a chain, made with the last first, and turned round.
-fn parts(table: &mut [u32], store: &[u64], s: State, c: u32, phase: u32, left: u32) -> Answer
+fn parts(table: &mut [u32], store: &[u64], s: State, c: u32, phase: u32, entries: u32) -> Answer
     requires { ⌜ ReadyParts (now table) (now store) s c ⌝ }
-    ensures { λ r. ⌜ ParsedParts left phase (now (store .entry)) (now (table .entry)) (now (table .exit)) s c r ⌝ }
+    ensures { λ r. ⌜ ParsedParts entries phase (now (store .entry)) (now (table .entry)) (now (table .exit)) s c r ⌝ }
 {
     let mut t = s;
     let mut from = c;
     let mut turned: u32 = 0;
     while from != 0 {
         let x = table::get_cell(table, from);
-        match parse(table, store, t, x.head, phase, left) {
+        match parse(table, store, t, x.head, phase, entries) {
             Answer::Refused(f) => return Answer::Refused(f),
             Answer::Done(o) => {
                 let s1 = o.state;

@@ -27,14 +27,14 @@ pub object-seen : {l : List ℕ} {s : State} {i : ℕ} → ReadyObject l s i →
 object-seen {s = s} r = record { top = s .top; thing = stx (r .thing); shown = r .shown; inside = omega (arith, r .room .fits); small = r .room .small }
 
 module _ {l : List ℕ} {s : State} {i : ℕ} {ex : Extent} (k : Measured l i ex) {y : Charged} (f : y ≡ chargeOf (ex .weight) s) (r : ReadyObject l s i) where
-  few-units : s .units < mostSize
-  few-units = omega (arith, r .room .fits, r .room .small, r .room .low)
+  few-left : s .left < mostSize
+  few-left = omega (arith, r .room .fits, r .room .small, r .room .low)
 
   pub change-short : {g : Stx → Stx} {t : Stop} → y ≡ charged.Refused t → Changes g l l s i (Refused t)
   unfolding changeRule
   change-short e =
       let q = charge-failed (ex .weight) s f e in
-      record { means = λ b x w. rw (q .is) (stops _ (then-no _ (charge-no (size x) s b (omega (arith, q .short, few-units, charged-size k x w))))) }
+      record { means = λ b x w. rw (q .is) (stops _ (then-no _ (charge-no (size x) s b (omega (arith, q .short, few-left, charged-size k x w))))) }
 
   module _ {u : State} (e : y ≡ charged.Paid u) where
     went : Went (ex .weight) s u
@@ -42,20 +42,20 @@ module _ {l : List ℕ} {s : State} {i : ℕ} {ex : Extent} (k : Measured l i ex
 
     pub change-ready : Copyable l (u .top) i
     change-ready =
-        let n : ex .weight ≡ size (r .thing) = covered-size k few-units (went .enough) (r .thing) (r .shown) in
-        rw (went .is) (record { thing = r .thing; shown = r .shown; charged = omega (arith, n, went .enough, few-units); room = omega (arith, r .room .fits, went .enough, n); small = r .room .small; low = r .room .low })
+        let n : ex .weight ≡ size (r .thing) = covered-size k few-left (went .enough) (r .thing) (r .shown) in
+        rw (went .is) (record { thing = r .thing; shown = r .shown; charged = omega (arith, n, went .enough, few-left); room = omega (arith, r .room .fits, went .enough, n); small = r .room .small; low = r .room .low })
 
     pub change-made : (g : Stx → Stx) {l1 : List ℕ} {at : Made} {z : State} → Copied (λ x. stx (g x)) l l1 (u .top) i (at .at) (at .top) → z ≡ raisedTo (at .top) u
         → Changes g l l1 s i (Done (record { at = at .at; state = z }))
     unfolding changeRule
     change-made g {l1} {at} {z} v j =
         let ut : u .top ≡ s .top = ap (λ (y : State). y .top) (went .is) in
-        let uu : u .units ≡ s .units - ex .weight = ap (λ (y : State). y .units) (went .is) in
+        let uu : u .left ≡ s .left - ex .weight = ap (λ (y : State). y .left) (went .is) in
         let ub : u .bindings ≡ s .bindings = ap (λ (y : State). y .bindings) (went .is) in
         let v2 : Copied (λ x. stx (g x)) l l1 (s .top) i (at .at) (at .top) = rw ut at v in
         record {
           means = λ b x w.
-              let n : ex .weight ≡ size x = covered-size k few-units (went .enough) x w in
+              let n : ex .weight ≡ size x = covered-size k few-left (went .enough) x w in
               let q = v2 .means x w in
               let same : stateOf (paid (size x) s) b ≡ stateOf u b = rw (went .is) (ap (λ (k : ℕ). stateOf (paid k s) b) (sym n)) in
               rw j (gives (record { at = at .at; state = raisedTo (at .top) u }) (record {

@@ -79,18 +79,18 @@ unfolding freshScope mostScopes
 scope-no y h = rw (le-ltb (y .scopes) 256 h) refl
 
 abbrev takes : State → State
-takes s = record { top = s .top; units = s .units; names = s .names + 1; scopes = s .scopes + 1; bindings = s .bindings }
+takes s = record { top = s .top; left = s .left; names = s .names + 1; scopes = s .scopes + 1; bindings = s .bindings }
 
 after-name : State → Store → ms.State
-after-name s b = record { left = s .units; names = s .names + 1; scopes = s .scopes; binds = b (s .bindings) }
+after-name s b = record { left = s .left; names = s .names + 1; scopes = s .scopes; binds = b (s .bindings) }
 
 module _ (s : State) where
-  pub take-no-name : 1024 ≤ s .names → Takes s (charged.Refused (record { refusal = NoNameLeft; units = s .units }))
+  pub take-no-name : 1024 ≤ s .names → Takes s (charged.Refused (record { refusal = NoNameLeft; left = s .left }))
   unfolding takeRule
   take-no-name h = record { means = λ l b. stops _ (then-no _ (name-no (stateOf s b) h)) }
 
   module _ (h : s .names < 1024) where
-    pub take-no-scope : 256 ≤ s .scopes → Takes s (charged.Refused (record { refusal = NoScopeLeft; units = s .units }))
+    pub take-no-scope : 256 ≤ s .scopes → Takes s (charged.Refused (record { refusal = NoScopeLeft; left = s .left }))
     unfolding takeRule after-name
     take-no-scope k = record { means = λ l b. stops _ (then-ok _ (name-ok (stateOf s b) h) ∙ then-no _ (scope-no (after-name s b) k)) }
 
@@ -101,7 +101,7 @@ module _ (s : State) where
         let us : u .scopes ≡ s .scopes + 1 = ap (λ (y : State). y .scopes) (q .is) in
         let ub : u .bindings ≡ s .bindings = ap (λ (y : State). y .bindings) (q .is) in
         let ut : u .top ≡ s .top = ap (λ (y : State). y .top) (q .is) in
-        let uu : u .units ≡ s .units - 1 = ap (λ (y : State). y .units) (q .is) in
+        let uu : u .left ≡ s .left - 1 = ap (λ (y : State). y .left) (q .is) in
         record {
           means = λ l b. gives u (record {
             value = record { name = s .names; scope = s .scopes + 1 };
@@ -137,9 +137,9 @@ module _ {l : List ℕ} {i ph : ℕ} {o : Node} (e : o ≡ getNode l i) {c : tb.
           λ j. record { symb = symb j; target = n .0; set = same j }
 
 module _ (st : List ℕ) (s : State) (b : Binding) where
-  pub put-full : 512 ≤ s .bindings → Puts st st s b (charged.Refused (record { refusal = NoBindingLeft; units = s .units }))
+  pub put-full : 512 ≤ s .bindings → Puts st st s b (charged.Refused (record { refusal = NoBindingLeft; left = s .left }))
   unfolding bind mostBindings
-  put-full h = record { means = λ l. stops (record { refusal = NoBindingLeft; units = s .units }) (rw (le-ltb (length (bindsOf st (s .bindings))) 512 (omega (arith, binds-length st (s .bindings)))) refl) }
+  put-full h = record { means = λ l. stops (record { refusal = NoBindingLeft; left = s .left }) (rw (le-ltb (length (bindsOf st (s .bindings))) 512 (omega (arith, binds-length st (s .bindings)))) refl) }
 
   module _ (h : s .bindings < 512) where
     room-yet : ltb (length (bindsOf st (s .bindings))) 512 ≡ true
@@ -152,10 +152,10 @@ module _ (st : List ℕ) (s : State) (b : Binding) where
     put-fits w = omega arith
 
     pub put-done : {st1 : List ℕ} → bindsOf st1 (s .bindings + 1) ≡ insert (bindOf b) (bindsOf st (s .bindings))
-        → Puts st st1 s b (charged.Paid (record { top = s .top; units = s .units; names = s .names; scopes = s .scopes; bindings = s .bindings + 1 }))
+        → Puts st st1 s b (charged.Paid (record { top = s .top; left = s .left; names = s .names; scopes = s .scopes; bindings = s .bindings + 1 }))
     unfolding bind mostBindings
     put-done {st1} f =
-        let t : State = record { top = s .top; units = s .units; names = s .names; scopes = s .scopes; bindings = s .bindings + 1 } in
+        let t : State = record { top = s .top; left = s .left; names = s .names; scopes = s .scopes; bindings = s .bindings + 1 } in
         record {
           means = λ l. gives t (record {
             value = tt;
@@ -299,7 +299,7 @@ module _ {s : State} {y : Charged} (p : Takes s y) where
 
 record ScopeWent (s t : State) : Type 0 where
   some : s .scopes < 256
-  is : t ≡ record { top = s .top; units = s .units; names = s .names; scopes = s .scopes + 1; bindings = s .bindings }
+  is : t ≡ record { top = s .top; left = s .left; names = s .names; scopes = s .scopes + 1; bindings = s .bindings }
 
 record ScopeFailed (s : State) (f : Stop) : Type 0 where
   none : 256 ≤ s .scopes
@@ -308,26 +308,26 @@ record ScopeFailed (s : State) (f : Stop) : Type 0 where
 scope-went : (s : State) {x : Charged} {t : State} → x ≡ freshScopeOf s → x ≡ charged.Paid t → ScopeWent s t
 unfolding freshScopeOf
 scope-went s {x} {t} h e =
-    on-test (leb 256 (s .scopes)) (charged.Refused (stopOf NoScopeLeft s)) (charged.Paid (record { top = s .top; units = s .units; names = s .names; scopes = s .scopes + 1; bindings = s .bindings }))
+    on-test (leb 256 (s .scopes)) (charged.Refused (stopOf NoScopeLeft s)) (charged.Paid (record { top = s .top; left = s .left; names = s .names; scopes = s .scopes + 1; bindings = s .bindings }))
     (λ (y : Charged). y ≡ charged.Paid t → ScopeWent s t)
     (λ b h′. let z : _≡_ {A = ℕ} 0 1 = cc in absurd (omega arith))
-    (λ b h′. let z : t ≡ record { top = s .top; units = s .units; names = s .names; scopes = s .scopes + 1; bindings = s .bindings } = cc in record { some = leb-false 256 (s .scopes) b; is = z })
+    (λ b h′. let z : t ≡ record { top = s .top; left = s .left; names = s .names; scopes = s .scopes + 1; bindings = s .bindings } = cc in record { some = leb-false 256 (s .scopes) b; is = z })
     (sym h ∙ e)
 
 scope-failed : (s : State) {x : Charged} {f : Stop} → x ≡ freshScopeOf s → x ≡ charged.Refused f → ScopeFailed s f
 unfolding freshScopeOf
 scope-failed s {x} {f} h e =
-    on-test (leb 256 (s .scopes)) (charged.Refused (stopOf NoScopeLeft s)) (charged.Paid (record { top = s .top; units = s .units; names = s .names; scopes = s .scopes + 1; bindings = s .bindings }))
+    on-test (leb 256 (s .scopes)) (charged.Refused (stopOf NoScopeLeft s)) (charged.Paid (record { top = s .top; left = s .left; names = s .names; scopes = s .scopes + 1; bindings = s .bindings }))
     (λ (y : Charged). y ≡ charged.Refused f → ScopeFailed s f)
     (λ b h′. let z : f ≡ stopOf NoScopeLeft s = cc in record { none = leb-true 256 (s .scopes) b; is = z })
     (λ b h′. let z : _≡_ {A = ℕ} 0 1 = cc in absurd (omega arith))
     (sym h ∙ e)
 
-pub scope-none : (s : State) → 256 ≤ s .scopes → charged.Refused (record { refusal = NoScopeLeft; units = s .units }) ≡ freshScopeOf s
+pub scope-none : (s : State) → 256 ≤ s .scopes → charged.Refused (record { refusal = NoScopeLeft; left = s .left }) ≡ freshScopeOf s
 unfolding freshScopeOf
 scope-none s h = rw (le-leb 256 (s .scopes) h) refl
 
-pub scope-some : (s : State) → s .scopes < 256 → charged.Paid (record { top = s .top; units = s .units; names = s .names; scopes = s .scopes + 1; bindings = s .bindings }) ≡ freshScopeOf s
+pub scope-some : (s : State) → s .scopes < 256 → charged.Paid (record { top = s .top; left = s .left; names = s .names; scopes = s .scopes + 1; bindings = s .bindings }) ≡ freshScopeOf s
 unfolding freshScopeOf
 scope-some s h = rw (lt-leb 256 (s .scopes) h) refl
 
@@ -380,11 +380,11 @@ module _ (s : State) {x : Charged} (h : x ≡ freshScopeOf s) where
     mark-no-intro z =
         let q = scope-failed t j z in
         let ts : t .scopes ≡ s .scopes + 1 = ap (λ (y : State). y .scopes) (first .is) in
-        let tu : t .units ≡ s .units = ap (λ (y : State). y .units) (first .is) in
+        let tu : t .left ≡ s .left = ap (λ (y : State). y .left) (first .is) in
         record {
           means = λ b x w. rw (q .is, tu) (stops _ (
               then-ok _ (scope-ok (stateOf s b) (first .some))
-              ∙ then-no _ (scope-no (record { left = s .units; names = s .names; scopes = s .scopes + 1; binds = b (s .bindings) }) (omega (arith, q .none, ts)))));
+              ∙ then-no _ (scope-no (record { left = s .left; names = s .names; scopes = s .scopes + 1; binds = b (s .bindings) }) (omega (arith, q .none, ts)))));
         }
 
     module _ {u : State} (z : y ≡ charged.Paid u) where
@@ -400,7 +400,7 @@ module _ (s : State) {x : Charged} (h : x ≡ freshScopeOf s) where
       later-marks : (l : List ℕ) → Later 0 0 l l s u
       later-marks l =
           let ut : u .top ≡ s .top = ap (λ (y : State). y .top) (second .is) ∙ ap (λ (y : State). y .top) (first .is) in
-          let uu : u .units ≡ s .units = ap (λ (y : State). y .units) (second .is) ∙ ap (λ (y : State). y .units) (first .is) in
+          let uu : u .left ≡ s .left = ap (λ (y : State). y .left) (second .is) ∙ ap (λ (y : State). y .left) (first .is) in
           record { kept = later-refl l s .kept; grows = omega (arith, ut); fits = omega (arith, ut, uu); spent = omega (arith, uu) }
 
       pub mark-by-ready : {l : List ℕ} {i : ℕ} → ReadyObject l s i → ReadyObject l u i
@@ -415,12 +415,12 @@ module _ (s : State) {x : Charged} (h : x ≡ freshScopeOf s) where
           record {
             means = λ b x w.
                 let d = a .means b x (rw ut w) in
-                let same : stateOf u b ≡ record { left = s .units; names = s .names; scopes = s .scopes + 1 + 1; binds = b (s .bindings) } = rw (second .is, first .is) refl in
-                let named : marksRule ph (s .scopes + 1) (s .scopes + 1 + 1) x (record { left = s .units; names = s .names; scopes = s .scopes + 1 + 1; binds = b (s .bindings) }) ≡ marksRule ph (t .scopes) (u .scopes) x (stateOf u b) =
+                let same : stateOf u b ≡ record { left = s .left; names = s .names; scopes = s .scopes + 1 + 1; binds = b (s .bindings) } = rw (second .is, first .is) refl in
+                let named : marksRule ph (s .scopes + 1) (s .scopes + 1 + 1) x (record { left = s .left; names = s .names; scopes = s .scopes + 1 + 1; binds = b (s .bindings) }) ≡ marksRule ph (t .scopes) (u .scopes) x (stateOf u b) =
                 λ j. marksRule ph ((sym ts) j) ((sym us) j) x ((sym same) j) in
                 let goes : markRule ph x (stateOf s b) ≡ marksRule ph (t .scopes) (u .scopes) x (stateOf u b) =
                 then-ok _ (scope-ok (stateOf s b) (first .some))
-                ∙ then-ok _ (scope-ok (record { left = s .units; names = s .names; scopes = s .scopes + 1; binds = b (s .bindings) }) (omega (arith, second .some, ts)))
+                ∙ then-ok _ (scope-ok (record { left = s .left; names = s .names; scopes = s .scopes + 1; binds = b (s .bindings) }) (omega (arith, second .some, ts)))
                 ∙ named in
                 since 1 nodeSpare (later-marks l) (omega arith) (omega arith) goes d;
           }

@@ -146,7 +146,7 @@ unfoldable pub freshScopeOf : State → Charged
 freshScopeOf s =
     if leb setScopes (s .scopes)
     then charged.Refused (stopOf NoScopeLeft s)
-    else charged.Paid (record { top = s .top; units = s .units; names = s .names; scopes = s .scopes + 1; bindings = s .bindings })
+    else charged.Paid (record { top = s .top; left = s .left; names = s .names; scopes = s .scopes + 1; bindings = s .bindings })
 
 pub record Marked : Type 0 where
   pub object : Stx

@@ -98,13 +98,13 @@ fn take(s: State) -> Charged
     if Name::MOST <= n {
         return Charged::Refused(Stop {
             refusal: Refusal::NoNameLeft,
-            units: s.units,
+            left: s.left,
         });
     }
     if Scope::MOST <= k {
         return Charged::Refused(Stop {
             refusal: Refusal::NoScopeLeft,
-            units: s.units,
+            left: s.left,
         });
     }
     let mut t = s;
@@ -137,7 +137,7 @@ fn put(store: &mut [u64], s: State, b: Binding) -> Charged
     if Resolving::MOST as u32 <= n {
         return Charged::Refused(Stop {
             refusal: Refusal::NoBindingLeft,
-            units: s.units,
+            left: s.left,
         });
     }
     let count = n as usize;
@@ -223,7 +223,7 @@ fn fresh_scope(s: State) -> Charged
     if Scope::MOST <= k {
         return Charged::Refused(Stop {
             refusal: Refusal::NoScopeLeft,
-            units: s.units,
+            left: s.left,
         });
     }
     let mut t = s;

@@ -29,26 +29,26 @@ on-test true x y P f g = f refl
 on-test false x y P f g = g refl
 
 pub record Went (n : ℕ) (s u : State) : Type 0 where
-  pub enough : n ≤ s .units
+  pub enough : n ≤ s .left
   pub is : u ≡ paid n s
 
 pub record Failed (n : ℕ) (s : State) (f : Stop) : Type 0 where
-  pub short : s .units < n
+  pub short : s .left < n
   pub is : f ≡ stopOf OverBudget s
 
 pub charge-went : (n : ℕ) (s : State) {x : Charged} {u : State} → x ≡ chargeOf n s → x ≡ Paid u → Went n s u
 unfolding chargeOf
 charge-went n s {x} {u} h e =
-    on-test (ltb (s .units) n) (Refused (stopOf OverBudget s)) (Paid (paid n s)) (λ (y : Charged). y ≡ Paid u → Went n s u)
+    on-test (ltb (s .left) n) (Refused (stopOf OverBudget s)) (Paid (paid n s)) (λ (y : Charged). y ≡ Paid u → Went n s u)
     (λ t h′. let z : _≡_ {A = ℕ} 0 1 = cc in absurd (omega arith))
-    (λ t h′. let z : u ≡ paid n s = cc in record { enough = ltb-false (s .units) n t; is = z })
+    (λ t h′. let z : u ≡ paid n s = cc in record { enough = ltb-false (s .left) n t; is = z })
     (sym h ∙ e)
 
 pub charge-failed : (n : ℕ) (s : State) {x : Charged} {f : Stop} → x ≡ chargeOf n s → x ≡ Refused f → Failed n s f
 unfolding chargeOf
 charge-failed n s {x} {f} h e =
-    on-test (ltb (s .units) n) (Refused (stopOf OverBudget s)) (Paid (paid n s)) (λ (y : Charged). y ≡ Refused f → Failed n s f)
-    (λ t h′. let z : f ≡ stopOf OverBudget s = cc in record { short = ltb-true (s .units) n t; is = z })
+    on-test (ltb (s .left) n) (Refused (stopOf OverBudget s)) (Paid (paid n s)) (λ (y : Charged). y ≡ Refused f → Failed n s f)
+    (λ t h′. let z : f ≡ stopOf OverBudget s = cc in record { short = ltb-true (s .left) n t; is = z })
     (λ t h′. let z : _≡_ {A = ℕ} 0 1 = cc in absurd (omega arith))
     (sym h ∙ e)
 
@@ -61,25 +61,25 @@ unfolding enterOf
 enter-some d s = let z : suc d ≡ 0 → ⊥ = λ h. omega arith in rw (ne-eqb (suc d) 0 z) refl
 
 -- an entry that starts had one to spare
-pub enter-left : (left : ℕ) (s : State) {x : Charged} {u : State} → x ≡ enterOf left s → x ≡ Paid u → 1 ≤ left
+pub enter-spare : (entries : ℕ) (s : State) {x : Charged} {u : State} → x ≡ enterOf entries s → x ≡ Paid u → 1 ≤ entries
 unfolding enterOf
-enter-left zero s h e = let z : _≡_ {A = ℕ} 0 1 = cc in absurd (omega arith)
-enter-left (suc d) s h e = omega arith
+enter-spare zero s h e = let z : _≡_ {A = ℕ} 0 1 = cc in absurd (omega arith)
+enter-spare (suc d) s h e = omega arith
 
-pub enter-went : (left : ℕ) (s : State) {x : Charged} {u : State} → x ≡ enterOf left s → x ≡ Paid u → Went 1 s u
+pub enter-went : (entries : ℕ) (s : State) {x : Charged} {u : State} → x ≡ enterOf entries s → x ≡ Paid u → Went 1 s u
 unfolding enterOf
 enter-went zero s h e = let z : _≡_ {A = ℕ} 0 1 = cc in absurd (omega arith)
 enter-went (suc d) s h e = charge-went 1 s (h ∙ enter-some d s) e
 
 -- ---- the rules' charge
 
-pub charge-ok : (n : ℕ) (s : State) (b : Store) → n ≤ s .units → charge n (stateOf s b) ≡ ok tt (stateOf (paid n s) b)
+pub charge-ok : (n : ℕ) (s : State) (b : Store) → n ≤ s .left → charge n (stateOf s b) ≡ ok tt (stateOf (paid n s) b)
 unfolding charge
-charge-ok n s b h = rw (le-leb n (s .units) h) refl
+charge-ok n s b h = rw (le-leb n (s .left) h) refl
 
-pub charge-no : (n : ℕ) (s : State) (b : Store) → s .units < n → charge n (stateOf s b) ≡ no r.overBudget (s .units)
+pub charge-no : (n : ℕ) (s : State) (b : Store) → s .left < n → charge n (stateOf s b) ≡ no r.overBudget (s .left)
 unfolding charge
-charge-no n s b h = rw (lt-leb n (s .units) h) refl
+charge-no n s b h = rw (lt-leb n (s .left) h) refl
 
 -- ---- steps
 
@@ -110,21 +110,21 @@ pub record Entry {A : Type 0} (whole rest : ℕ → Step A) : Type 0 where
   pub none : (y : m.State) → whole 0 y ≡ no r.tooManyEntries (y .left)
   pub some : (d : ℕ) (y : m.State) → whole (suc d) y ≡ after (charge 1 y) (λ z. rest d)
 
-module _ {A : Type 0} {whole rest : ℕ → Step A} (w : Entry whole rest) (left : ℕ) (s : State) (b : Store) where
-  pub entry-refused : {x : Charged} {f : Stop} → x ≡ enterOf left s → x ≡ Refused f → whole left (stateOf s b) ≡ no (refusalOf (f .refusal)) (f .units)
-  entry-refused {x} {f} h e = refused-at left h
+module _ {A : Type 0} {whole rest : ℕ → Step A} (w : Entry whole rest) (entries : ℕ) (s : State) (b : Store) where
+  pub entry-refused : {x : Charged} {f : Stop} → x ≡ enterOf entries s → x ≡ Refused f → whole entries (stateOf s b) ≡ no (refusalOf (f .refusal)) (f .left)
+  entry-refused {x} {f} h e = refused-at entries h
     where
-      refused-at : (n : ℕ) → x ≡ enterOf n s → whole n (stateOf s b) ≡ no (refusalOf (f .refusal)) (f .units)
+      refused-at : (n : ℕ) → x ≡ enterOf n s → whole n (stateOf s b) ≡ no (refusalOf (f .refusal)) (f .left)
       refused-at zero k = let z : f ≡ stopOf TooManyEntries s = cc (enter-none s) in rw z (w .none (stateOf s b))
       refused-at (suc d) k =
           let q = charge-failed 1 s (k ∙ enter-some d s) e in
           rw (q .is) (w .some d (stateOf s b) ∙ then-no (λ z. rest d) (charge-no 1 s b (q .short)))
 
-  pub entry-goes : {x : Charged} {u : State} → x ≡ enterOf left s → x ≡ Paid u → whole left (stateOf s b) ≡ rest (left - 1) (stateOf u b)
-  entry-goes {x} {u} h e = goes-at left h
+  pub entry-goes : {x : Charged} {u : State} → x ≡ enterOf entries s → x ≡ Paid u → whole entries (stateOf s b) ≡ rest (entries - 1) (stateOf u b)
+  entry-goes {x} {u} h e = goes-at entries h
     where
       goes-at : (n : ℕ) → x ≡ enterOf n s → whole n (stateOf s b) ≡ rest (n - 1) (stateOf u b)
-      goes-at zero k = absurd (omega (arith, enter-left 0 s k e))
+      goes-at zero k = absurd (omega (arith, enter-spare 0 s k e))
       goes-at (suc d) k =
           let q = charge-went 1 s (k ∙ enter-some d s) e in
           let z : d ≡ suc d - 1 = omega arith in
@@ -165,7 +165,7 @@ module _ {A O : Type 0} {S : Shape A O} {n v : ℕ} {l l1 : List ℕ} {s : State
   on-done {o = o} (gives p g) e = let z : p ≡ o = cc in rw z at g
   on-done (stops p g) e = let z : _≡_ {A = ℕ} 0 1 = cc in absurd (omega arith)
 
-  pub on-refused : {x : Ended O} {f : Stop} → Agrees S n v l l1 s b q x → x ≡ refused f → q ≡ no (refusalOf (f .refusal)) (f .units)
+  pub on-refused : {x : Ended O} {f : Stop} → Agrees S n v l l1 s b q x → x ≡ refused f → q ≡ no (refusalOf (f .refusal)) (f .left)
   on-refused (gives p g) e = let z : _≡_ {A = ℕ} 0 1 = cc in absurd (omega arith)
   on-refused {f = f} (stops p g) e = let z : p ≡ f = cc in rw z at g
 

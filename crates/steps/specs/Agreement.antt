@@ -19,7 +19,7 @@ pub record Later (n spare : ℕ) (l l′ : List ℕ) (s s′ : State) : Type 0 w
   pub kept : Same (s .top) l l′
   pub grows : s .top ≤ s′ .top
   pub fits : end s′ + spare ≤ end s
-  pub spent : s′ .units + n ≤ s .units
+  pub spent : s′ .left + n ≤ s .left
 
 -- something at i, as Shows says how the table stands for it, and room for the work on it
 pub record Ready {A : Type 0} (Shows : List ℕ → ℕ → ℕ → A → Type 0) (l : List ℕ) (s : State) (i : ℕ) : Type 0 where
@@ -54,4 +54,4 @@ pub record Gave {A O : Type 0} (S : Shape A O) (n spare : ℕ) (l l′ : List �
 
 pub data Agrees {A O : Type 0} (S : Shape A O) (n spare : ℕ) (l l′ : List ℕ) (s : State) (b : Store) (q : m.Out A) : Ended O → Type 0 where
   gives : (o : O) → Gave S n spare l l′ s b q o → Agrees S n spare l l′ s b q (done o)
-  stops : (f : Stop) → q ≡ no (refusalOf (f .refusal)) (f .units) → Agrees S n spare l l′ s b q (refused f)
+  stops : (f : Stop) → q ≡ no (refusalOf (f .refusal)) (f .left) → Agrees S n spare l l′ s b q (refused f)

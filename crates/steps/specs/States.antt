@@ -23,28 +23,28 @@ abbrev pub Store : Type 0
 Store = ℕ → List Bind
 
 abbrev pub stateOf : State → Store → m.State
-stateOf s b = record { left = s .units; names = s .names; scopes = s .scopes; binds = b (s .bindings) }
+stateOf s b = record { left = s .left; names = s .names; scopes = s .scopes; binds = b (s .bindings) }
 
 abbrev pub stopOf : Refusal → State → Stop
-stopOf r s = record { refusal = r; units = s .units }
+stopOf r s = record { refusal = r; left = s .left }
 
 abbrev pub paid : ℕ → State → State
-paid n s = record { top = s .top; units = s .units - n; names = s .names; scopes = s .scopes; bindings = s .bindings }
+paid n s = record { top = s .top; left = s .left - n; names = s .names; scopes = s .scopes; bindings = s .bindings }
 
 abbrev pub raisedTo : ℕ → State → State
-raisedTo n s = record { top = n; units = s .units; names = s .names; scopes = s .scopes; bindings = s .bindings }
+raisedTo n s = record { top = n; left = s .left; names = s .names; scopes = s .scopes; bindings = s .bindings }
 
 unfoldable pub chargeOf : ℕ → State → Charged
-chargeOf n s = if ltb (s .units) n then Refused (stopOf OverBudget s) else Paid (paid n s)
+chargeOf n s = if ltb (s .left) n then Refused (stopOf OverBudget s) else Paid (paid n s)
 
 -- with so many entries to spare
 unfoldable pub enterOf : ℕ → State → Charged
 unfolding chargeOf
-enterOf left s = if eqb left 0 then Refused (stopOf TooManyEntries s) else chargeOf 1 s
+enterOf entries s = if eqb entries 0 then Refused (stopOf TooManyEntries s) else chargeOf 1 s
 
 -- the words that the state may still come to use end here: what is left of the budget pays for them
 abbrev pub end : State → ℕ
-end s = s .top + unitSize * s .units
+end s = s .top + unitSize * s .left
 
 pub record Room (l : List ℕ) (s : State) : Type 0 where
   pub fits : end s ≤ length l

@@ -9,7 +9,7 @@ pub struct State {
     // The first free word of the table.
     pub top: u32,
     // Units not yet charged.
-    pub units: u32,
+    pub left: u32,
     // Names reached: the next one has this number.
     pub names: u32,
     // Scopes reached: the last one taken has this number.
@@ -21,7 +21,7 @@ pub struct State {
 // A refusal, and the units not charged.
 pub struct Stop {
     pub refusal: Refusal,
-    pub units: u32,
+    pub left: u32,
 }
 
 // Where the result lies, and the state after it.
@@ -62,33 +62,33 @@ impl State {
     {
         Answer::Refused(Stop {
             refusal,
-            units: self.units,
+            left: self.left,
         })
     }
 
     pub fn charge(self, n: u32) -> Charged
         ensures { λ r. ⌜ r ≡ chargeOf n self ⌝ }
     {
-        let units = self.units;
-        if units < n {
+        let left = self.left;
+        if left < n {
             return Charged::Refused(Stop {
                 refusal: Refusal::OverBudget,
-                units,
+                left,
             });
         }
         let mut s = self;
-        s.units = units - n;
+        s.left = left - n;
         Charged::Paid(s)
     }
 
     // Starts an entry with so many entries to spare.
-    pub fn enter(self, left: u32) -> Charged
-        ensures { λ r. ⌜ r ≡ enterOf left self ⌝ }
+    pub fn enter(self, entries: u32) -> Charged
+        ensures { λ r. ⌜ r ≡ enterOf entries self ⌝ }
     {
-        if left == 0 {
+        if entries == 0 {
             return Charged::Refused(Stop {
                 refusal: Refusal::TooManyEntries,
-                units: self.units,
+                left: self.left,
             });
         }
         self.charge(1)

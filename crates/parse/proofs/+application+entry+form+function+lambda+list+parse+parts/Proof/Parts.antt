@@ -12,10 +12,10 @@ use Rattle.parse.proofs.+application+entry+form+function+lambda+list+pa
 use Rattle.parse.proofs.+application+entry+form+function+lambda+list+parse+parts.Proof.Measures.{parts-at, parse-below}
 
 abbrev Inv-loop : lts.InvT-loop
-Inv-loop table₀ store c phase left t₀ from₀ turned₀ table t from turned = Going left phase store table₀ t₀ c table t from turned
+Inv-loop table₀ store c phase entries t₀ from₀ turned₀ table t from turned = Going entries phase store table₀ t₀ c table t from turned
 
 abbrev μ-loop : lts.MeasureT-loop
-μ-loop table₀ store c phase left t₀ from₀ turned₀ table t from turned = from
+μ-loop table₀ store c phase entries t₀ from₀ turned₀ table t from turned = from
 
 module _ (t : ℕ) where
   abbrev env : lts.Claims
