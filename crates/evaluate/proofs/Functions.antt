@@ -47,7 +47,7 @@ module _ {l : List ℕ} {s u : State} {x : ℕ} {body : Body} {g : Charged} (r :
   left-is : u .left ≡ s .left - body .size
   left-is = ap (λ (y : State). y .left) (went .is)
 
-  pub substitute-ready : t.Ready l (u .top) (body .at) x
+  pub substitute-ready : t.ReadyToSubstitute l (u .top) (body .at) x
   substitute-ready =
       let low = few (r .room) in
       rw (went .is) (record {

@@ -13,13 +13,16 @@ use Rattle.primitives.specs.Working.{Given}
 use Rattle.steps.specs.declared.State.{State}
 use Rattle.steps.specs.declared.Answer.{Answer}
 use Rattle.steps.specs.States.{Store, stateOf, Room}
-use Rattle.steps.specs.Agreement.{Shape, placed, Ended, done, refused, ended, Agrees}
+use Rattle.steps.specs.Agreement.{Ready, Shape, placed, Ended, done, refused, ended, Agrees}
 use Rattle.evaluate.specs.declared.Values.{Values}
 use Rattle.evaluate.specs.declared.Gathered.{Gathered}
 use Rattle.evaluate.specs.declared.Gathered.the-variants.{All, Refused}
 use Rattle.table.specs.Sizes.{unitSize, mostSize}
 
 -- ---- what is asked
+
+abbrev pub ReadyToEvaluate : List ℕ → State → ℕ → Type 0
+ReadyToEvaluate l s i = Ready Rep l s i
 
 -- a chain of a head and arguments
 pub record ReadyApplication (l : List ℕ) (s : State) (c : ℕ) : Type 0 where

@@ -10,10 +10,10 @@ use steps::Stop;
 use table::Body;
 use table::Node;
 ghost use Rattle.steps.specs.Agreement.{Ready};
-ghost use Rattle.things.specs.Rep.{Rep, RepP};
+ghost use Rattle.things.specs.Rep.{RepP};
 ghost use Rattle.things.specs.Measuring.{Seen, SeenP};
 ghost use Rattle.evaluate.specs.Testing.{Counted, Tested, Sought, TestedP};
-ghost use Rattle.evaluate.specs.Evaluation.{ReadyApplication, ReadyCall, ReadyApply, ReadyFunction, ReadyPrimitive, ReadyOne, Evaluates, Forms, Applies, Calls, Gathers, Does, DoesFunction, DoesPrimitive, AppliesValue, CallsOne};
+ghost use Rattle.evaluate.specs.Evaluation.{ReadyToEvaluate, ReadyApplication, ReadyCall, ReadyApply, ReadyFunction, ReadyPrimitive, ReadyOne, Evaluates, Forms, Applies, Calls, Gathers, Does, DoesFunction, DoesPrimitive, AppliesValue, CallsOne};
 
 // The values of up to three arguments, and the state after them. No value takes more.
 pub struct Values {
@@ -77,7 +77,7 @@ fn applicable_to(table: &[u32], f: u32, c: u32) -> bool
 
 // One entry.
 pub fn evaluate(table: &mut [u32], s: State, i: u32, entries: u32) -> Answer
-    requires { ⌜ Ready Rep (now table) s i ⌝ }
+    requires { ⌜ ReadyToEvaluate (now table) s i ⌝ }
     ensures { λ r. ⌜ Evaluates entries (now (table .entry)) (now (table .exit)) s i r ⌝ }
 {
     match s.enter(entries) {
@@ -88,7 +88,7 @@ pub fn evaluate(table: &mut [u32], s: State, i: u32, entries: u32) -> Answer
 
 // What its form asks for, the entry charged.
 fn form(table: &mut [u32], s: State, i: u32, entries: u32) -> Answer
-    requires { ⌜ Ready Rep (now table) s i ⌝ }
+    requires { ⌜ ReadyToEvaluate (now table) s i ⌝ }
     ensures { λ r. ⌜ Forms entries (now (table .entry)) (now (table .exit)) s i r ⌝ }
 {
     let o = table::get_node(table, i);

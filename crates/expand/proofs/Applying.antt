@@ -28,7 +28,7 @@ use Rattle.scoping.specs.Changing.{objects}
 use Rattle.expand.specs.Making.{ReadyList, Lists}
 use Rattle.expand.specs.Leaves.{around}
 use Rattle.expand.specs.InPlace.{ShownNext, nexts, onwardOf, ReadyMacro, rewrittenRule, Rewritten}
-use Rattle.expand.specs.Cycle.{expansion, partsOf, Ready, ReadyParts, ReadyChain, ReadyOnward, Expanded, ExpandedOnward, ExpandedApplication, ExpandedParts, ExpandedMacro}
+use Rattle.expand.specs.Cycle.{expansion, partsOf, ReadyToExpand, ReadyParts, ReadyChain, ReadyOnward, Expanded, ExpandedOnward, ExpandedApplication, ExpandedParts, ExpandedMacro}
 use Rattle.expand.specs.declared.Surroundings.{Surroundings}
 use Rattle.expand.specs.declared.rewriting.Next.{Next}
 use Rattle.expand.specs.declared.rewriting.Onward.{Onward}
@@ -86,7 +86,7 @@ module _ {l st : List ℕ} {x : Onward} {at : Surroundings} (r : ReadyOnward l s
   pub in-place-declared : Declared (o .scope)
   in-place-declared = r .next o e .shown .declared
 
-  pub in-place-ready : {entries ph : ℕ} {p : ScopeSet} → Ready l st (o .state) (o .at) (record { entries = entries; phase = ph; meanings = o .meanings; prunable = p })
+  pub in-place-ready : {entries ph : ℕ} {p : ScopeSet} → ReadyToExpand l st (o .state) (o .at) (record { entries = entries; phase = ph; meanings = o .meanings; prunable = p })
   in-place-ready =
       let q = r .next o e in
       record { thing = q .further .object; shown = q .shown .rep; within = record { meant = q .shown .meant; known = q .shown .known; room = q .room; held = q .held } }

@@ -40,7 +40,7 @@ use Rattle.environment.proofs.Laws.{on-lambda, on-let-syntax, on-quote, on-synt
 use Rattle.scoping.specs.Changing.{objects}
 use Rattle.expand.specs.Leaves.{around, ReadyName, ExpandedName, ReadyTail, ExpandedQuote, ExpandedSyntax}
 use Rattle.expand.specs.InPlace.{ReadyMacro}
-use Rattle.expand.specs.Cycle.{expansion, Ready, ReadyChain, ReadyForm, ReadyLet, Expanded, ExpandedEntry, ExpandedList, ExpandedApplication, ExpandedLambda, ExpandedLetSyntax, ExpandedMacro}
+use Rattle.expand.specs.Cycle.{expansion, ReadyToExpand, ReadyChain, ReadyForm, ReadyLet, Expanded, ExpandedEntry, ExpandedList, ExpandedApplication, ExpandedLambda, ExpandedLetSyntax, ExpandedMacro}
 use Rattle.expand.specs.declared.Surroundings.{Surroundings}
 use Rattle.expand.proofs.Agreeing.{beyond}
 use Rattle.expand.proofs.Leaves.{owes-none, owes-one}
@@ -70,7 +70,7 @@ module _ (at : Surroundings) (s : State) {u : State} {x : Charged} (h : x ≡ en
   pub enter-less : {T : ℕ} → s .left * 32 ≡ T → u .left * 32 + 20 < T
   enter-less k = let q = enter-went (at .entries) s h e in omega (arith, q .enough, ap (λ (y : State). y .left) (q .is))
 
-  pub enter-ready : {l st : List ℕ} {i : ℕ} → Ready l st s i at → Ready l st (unpaid u) i (inEntry at)
+  pub enter-ready : {l st : List ℕ} {i : ℕ} → ReadyToExpand l st s i at → ReadyToExpand l st (unpaid u) i (inEntry at)
   enter-ready r =
       rw (unpaid-is (enter-went (at .entries) s h e)) (record { thing = r .thing; shown = r .shown; within = record { meant = r .within .meant; known = r .within .known; room = r .within .room; held = r .within .held } })
 
@@ -91,7 +91,7 @@ enter-stops {at} {st} {s} {f = f} h e =
 
 -- ---- an entry by its tag
 
-pub node-inside : {l st : List ℕ} (s : State) {i : ℕ} {at : Surroundings} → Ready l st (unpaid s) i at → i + nodeSize ≤ length l
+pub node-inside : {l st : List ℕ} (s : State) {i : ℕ} {at : Surroundings} → ReadyToExpand l st (unpaid s) i at → i + nodeSize ≤ length l
 unfolding unpaid
 node-inside s r = omega (arith, below (r .shown), r .within .room .fits)
 
@@ -105,12 +105,12 @@ symbol-at (is-atom {a = ob.rung n} a q y) e h = absurd (omega (arith, tag-is e q
 symbol-at (is-list a q y r) e h = absurd (omega (arith, tag-is e q, h))
 
 module _ {st l : List ℕ} (s : State) {i : ℕ} {at : Surroundings} {o : Node} (e : o ≡ getNode l i) where
-  pub entry-list-ready : Ready l st (unpaid s) i at → o .tag ≡ listTag → ReadyChain l st (unpaid s) i (o .content) at
+  pub entry-list-ready : ReadyToExpand l st (unpaid s) i at → o .tag ≡ listTag → ReadyChain l st (unpaid s) i (o .content) at
   entry-list-ready r h =
       let q = list-at (r .shown) e h in
       record { sets = q .sets; parts = q .parts; shown = rw (q .is) at (r .shown); chain = q .shown; within = r .within }
 
-  pub entry-name-ready : Ready l st (unpaid s) i at → o .tag ≡ 0 → ReadyName l st (unpaid s) i at
+  pub entry-name-ready : ReadyToExpand l st (unpaid s) i at → o .tag ≡ 0 → ReadyName l st (unpaid s) i at
   entry-name-ready r h =
       let q = symbol-at (r .shown) e h in
       record { sets = q .0; symb = q .1 .0; shown = rw (q .1 .1) at (r .shown); within = r .within }
@@ -129,7 +129,7 @@ module _ {st l : List ℕ} (s : State) {i : ℕ} {at : Surroundings} {o : Node} 
             rw (q .1 .1, entry-symbol (expansion (at .entries)) (at .entries) (around g at) (stateOf s (bindsOf st)) (q .0) (q .1 .0)) (a .means (q .0) (q .1 .0) g w2 k);
       }
 
-  pub entry-other : Ready l st (unpaid s) i at → ¬ (o .tag ≡ listTag) → ¬ (o .tag ≡ 0) → ExpandedEntry at st st l l s i (Done (record { at = i; state = s }))
+  pub entry-other : ReadyToExpand l st (unpaid s) i at → ¬ (o .tag ≡ listTag) → ¬ (o .tag ≡ 0) → ExpandedEntry at st st l l s i (Done (record { at = i; state = s }))
   unfolding unpaid
   entry-other r n5 n0 =
       record {

@@ -34,7 +34,7 @@ use Rattle.environment.proofs.Frame.{carryE}
 use Rattle.scoping.specs.Changing.{objects}
 use Rattle.expand.specs.declared.Surroundings.{Surroundings}
 use Rattle.expand.specs.Leaves.{around, Within}
-use Rattle.expand.specs.Cycle.{expansion, Ready, ReadyParts, Expanded, ExpandedParts}
+use Rattle.expand.specs.Cycle.{expansion, ReadyToExpand, ReadyParts, Expanded, ExpandedParts}
 use Rattle.expand.proofs.Within.{within-later}
 
 -- ps turned round, and then us
@@ -110,7 +110,7 @@ module _ {at : Surroundings} {st l : List ℕ} {s : State} {c : ℕ} (r : ReadyP
     part-inside = omega (arith, first-at (half .rest) (half .shown) n refl .cell .inside, within .room .fits)
 
     module _ {x : Cell} (e : x ≡ getCell l1 from) where
-      pub part-ready : Ready l1 st1 t (x .head) at
+      pub part-ready : ReadyToExpand l1 st1 t (x .head) at
       part-ready = let q = first-at (half .rest) (half .shown) n e in record { thing = q .first; shown = q .cell .shown; within = within }
 
       pub part-falls : x .tail < from

@@ -228,7 +228,7 @@ few-after s o st d t {v} h e =
     let n : length (bindsOf st (o .state .bindings)) ≡ length (bindsOf st (s .bindings)) = ap length k in
     omega (arith, n, binds-length st (o .state .bindings), binds-length st (s .bindings))
 
-pub value-parse : {l st : List ℕ} {s : State} {i : ℕ} → ReadyValue l st s i → pp.Ready l st s i
+pub value-parse : {l st : List ℕ} {s : State} {i : ℕ} → ReadyValue l st s i → pp.ReadyToParse l st s i
 value-parse r = record { thing = r .thing; shown = r .shown; room = r .room; held = r .held }
 
 module _ {entries ph : ℕ} {st l l1 : List ℕ} {s : State} {i : ℕ} {a : Answer} (v : Parsed entries ph st l l1 s i a) where

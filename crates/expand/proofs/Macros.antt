@@ -42,7 +42,7 @@ use Rattle.scoping.specs.declared.Bound.{Bound}
 use Rattle.scoping.specs.declared.Bound.the-variants as bounds
 use Rattle.expand.specs.Leaves.{around}
 use Rattle.expand.specs.InPlace.{nexts, onwardOf, ReadyDefined, definedRule, Defined, rhsRule, bindingRule}
-use Rattle.expand.specs.Cycle.{expansion, Ready, ReadyLet, ReadyOnward, ReadyBinding, ReadyRhs, Expanded, ExpandedOnward, ExpandedLetSyntax, OnwardBinding, OnwardRhs}
+use Rattle.expand.specs.Cycle.{expansion, ReadyToExpand, ReadyLet, ReadyOnward, ReadyBinding, ReadyRhs, Expanded, ExpandedOnward, ExpandedLetSyntax, OnwardBinding, OnwardRhs}
 use Rattle.expand.specs.declared.Surroundings.{Surroundings}
 use Rattle.expand.specs.declared.rewriting.Onward.{Onward}
 use Rattle.expand.specs.declared.rewriting.Onward.the-variants as onward
@@ -179,7 +179,7 @@ module _ {st l : List ℕ} {s : State} {right : ℕ} (at : Surroundings) (h : at
   right-to e g u w = on-done (above g u w) (ap ended e)
 
 module _ {st l : List ℕ} {b : Binder} {right body : ℕ} {at : Surroundings} (h : at .phase < 2) {p : ScopeSet} where
-  pub rhs-expand-ready : ReadyRhs l st b right body at → Ready l st (b .state) right (aboveOf at p)
+  pub rhs-expand-ready : ReadyRhs l st b right body at → ReadyToExpand l st (b .state) right (aboveOf at p)
   rhs-expand-ready r = record { thing = r .thing; shown = r .shown; within = record { meant = coreOnly; known = is-core; room = r .within .room; held = r .within .held } }
 
   module _ (f : scopesOf p ≡ 0) {st1 l1 : List ℕ} {a : Answer} (v : Expanded (aboveOf at p) st st1 l l1 (b .state) right a) where

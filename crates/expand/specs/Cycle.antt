@@ -46,7 +46,7 @@ partsOf = record { shows = λ l o ps. ShownParts l o ps; state = λ o. o .state 
 
 -- ---- what is asked
 
-pub record Ready (l st : List ℕ) (s : State) (i : ℕ) (at : Surroundings) : Type 0 where
+pub record ReadyToExpand (l st : List ℕ) (s : State) (i : ℕ) (at : Surroundings) : Type 0 where
   pub thing : Stx
   pub shown : Rep l (s .top) i (stx thing)
   pub within : Within l st s at

@@ -17,7 +17,7 @@ use table::Node;
 ghost use Rattle.parse.specs.Parsing.{unpaid};
 ghost use Rattle.parse.specs.Shown.{Held};
 ghost use Rattle.expand.specs.InPlace.{ReadyMacro};
-ghost use Rattle.expand.specs.Cycle.{Ready, ReadyParts, ReadyChain, ReadyOnward, Expanded, ExpandedOnward, ExpandedEntry, ExpandedList, ExpandedApplication, ExpandedParts, ExpandedMacro};
+ghost use Rattle.expand.specs.Cycle.{ReadyToExpand, ReadyParts, ReadyChain, ReadyOnward, Expanded, ExpandedOnward, ExpandedEntry, ExpandedList, ExpandedApplication, ExpandedParts, ExpandedMacro};
 
 // Where an object is expanded.
 pub struct Surroundings {
@@ -36,7 +36,7 @@ impl Surroundings {
 // ---- entries
 
 pub fn expand(table: &mut [u32], store: &mut [u64], s: State, i: u32, at: Surroundings) -> Answer
-    requires { ⌜ Ready (now table) (now store) s i at ⌝ }
+    requires { ⌜ ReadyToExpand (now table) (now store) s i at ⌝ }
     ensures { λ r. ⌜ Expanded at (now (store .entry)) (now (store .exit)) (now (table .entry)) (now (table .exit)) s i r ⌝ }
 {
     match s.enter(at.entries) {
@@ -79,7 +79,7 @@ fn in_place(table: &mut [u32], store: &mut [u64], n: Onward, at: Surroundings) -
 
 // The entry charged.
 fn entry(table: &mut [u32], store: &mut [u64], s: State, i: u32, at: Surroundings) -> Answer
-    requires { ⌜ Ready (now table) (now store) (unpaid s) i at ⌝ }
+    requires { ⌜ ReadyToExpand (now table) (now store) (unpaid s) i at ⌝ }
     ensures { λ r. ⌜ ExpandedEntry at (now (store .entry)) (now (store .exit)) (now (table .entry)) (now (table .exit)) s i r ⌝ }
 {
     let n = table::get_node(table, i);

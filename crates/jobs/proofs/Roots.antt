@@ -159,9 +159,9 @@ module _ {image st : List ℕ} {j : Judgement} {l : List ℕ} {s : State} (d : L
 
     -- ---- parsed
 
-    pub parse-ready : storeSize ≤ length st → parsing.Ready l′ st t (b .at)
+    pub parse-ready : storeSize ≤ length st → parsing.ReadyToParse l′ st t (b .at)
     parse-ready wide =
-        subst (λ (z : State). parsing.Ready l′ st z (b .at)) (sym te) (record { thing = object; shown = object-shown; room = object-room; held = record { few = few; wide = wide } })
+        subst (λ (z : State). parsing.ReadyToParse l′ st z (b .at)) (sym te) (record { thing = object; shown = object-shown; room = object-room; held = record { few = few; wide = wide } })
 
     parse-came : {l″ : List ℕ} (a : Answer) → Parsed 128 0 st l′ l″ t (b .at) a → length l″ ≡ length l′ → cameTo itself s st l″ (parse 128 0 object (stateOf s (bindsOf st))) a
     parse-came {l″} a e more =
@@ -171,9 +171,9 @@ module _ {image st : List ℕ} {j : Judgement} {l : List ℕ} {s : State} (d : L
     -- ---- expanded, with the core meanings and nothing prunable
 
     module _ {at : Surroundings} (core : at .meanings ≡ 0) where
-      pub expand-ready : storeSize ≤ length st → expanding.Ready l′ st t (b .at) at
+      pub expand-ready : storeSize ≤ length st → expanding.ReadyToExpand l′ st t (b .at) at
       expand-ready wide =
-          subst (λ (z : State). expanding.Ready l′ st z (b .at) at) (sym te)
+          subst (λ (z : State). expanding.ReadyToExpand l′ st z (b .at) at) (sym te)
           (record { thing = object; shown = object-shown; within = record { meant = coreOnly; known = rw core is-core; room = object-room; held = record { few = few; wide = wide } } })
 
       expand-agrees : {st′ l″ : List ℕ} {a : Answer} → scopesOf (at .prunable) ≡ 0 → Expanded at st st′ l′ l″ t (b .at) a

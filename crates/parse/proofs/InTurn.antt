@@ -31,7 +31,7 @@ use Rattle.things.proofs.Frame.{carryP}
 use Rattle.things.proofs.Turning.{count-more}
 use Rattle.forms.proofs.Shapes.{nil-at, first-at}
 use Rattle.parse.specs.Shown.{trees}
-use Rattle.parse.specs.Parsing.{Ready, ReadyParts, Parsed, ParsedParts}
+use Rattle.parse.specs.Parsing.{ReadyToParse, ReadyParts, Parsed, ParsedParts}
 
 -- the chain `turned` put before what the rest gives
 abbrev handedOn : Trees → Trees → m.Step Trees
@@ -87,7 +87,7 @@ module _ {entries ph : ℕ} {st l : List ℕ} {s : State} {c : ℕ} (r : ReadyPa
     part-inside = omega (arith, first-at (half .rest) (half .shown) n refl .cell .inside, room .fits)
 
     module _ {x : Cell} (e : x ≡ getCell l1 from) where
-      pub part-ready : Ready l1 st t (x .head)
+      pub part-ready : ReadyToParse l1 st t (x .head)
       part-ready =
           let q = first-at (half .rest) (half .shown) n e in
           record { thing = q .first; shown = q .cell .shown; room = room; held = record { few = g .few; wide = r .held .wide } }

@@ -53,7 +53,7 @@ use Rattle.forms.proofs.Shapes.{nil-at, first-at, on-one, on-not-one, on-two, o
 use Rattle.forms.proofs.Names.{on-named, on-unclear, on-unnamed, identifier-named, identifier-unclear, identifier-unnamed}
 use Rattle.copying.specs.Copying.{Copyable, Copied}
 use Rattle.parse.specs.Shown.{Held, ShownTree, ShownChain, trees, chains}
-use Rattle.parse.specs.Parsing.{unpaid, Ready, ReadyParts, ReadyForm, ReadyChain, ReadyData, nameRule, functionRule, lambdaRule, dataRule, quoteRule, syntaxRule, applicationRule, Parsed, ParsedEntry, ParsedName, ParsedList, ParsedForm, ParsedLambda, ParsedFunction, ParsedQuote, ParsedData, ParsedSyntax, ParsedApplication, ParsedParts}
+use Rattle.parse.specs.Parsing.{unpaid, ReadyToParse, ReadyParts, ReadyForm, ReadyChain, ReadyData, nameRule, functionRule, lambdaRule, dataRule, quoteRule, syntaxRule, applicationRule, Parsed, ParsedEntry, ParsedName, ParsedList, ParsedForm, ParsedLambda, ParsedFunction, ParsedQuote, ParsedData, ParsedSyntax, ParsedApplication, ParsedParts}
 use Rattle.parse.proofs.Rules.{parse-entry, entry-atom, entry-symbol, entry-empty, list-named, list-unclear, list-unnamed, form-lambda, form-let-syntax, form-quote, form-syntax, form-other, application-is, application-no}
 use Rattle.table.specs.Sizes.{cellSize, twoCells, nodeSize, unitSize, mostSize}
 use Rattle.store.specs.Sizes.{bindingSize}
@@ -76,19 +76,19 @@ node-later s k g = record { kept = k; grows = omega (arith, g); fits = omega (ar
 
 -- ---- what is read
 
-pub node-inside : {l st : List ℕ} (s : State) {i : ℕ} → Ready l st (unpaid s) i → i + nodeSize ≤ length l
+pub node-inside : {l st : List ℕ} (s : State) {i : ℕ} → ReadyToParse l st (unpaid s) i → i + nodeSize ≤ length l
 unfolding unpaid
 node-inside s r = omega (arith, below (r .shown), r .room .fits)
 
-pub node-seen : {l st : List ℕ} (s : State) {i : ℕ} → Ready l st (unpaid s) i → Seen l i
+pub node-seen : {l st : List ℕ} (s : State) {i : ℕ} → ReadyToParse l st (unpaid s) i → Seen l i
 unfolding unpaid
 node-seen s r = record { top = s .top; thing = stx (r .thing); shown = r .shown; inside = omega (arith, r .room .fits); small = r .room .small }
 
-pub node-held : {l st : List ℕ} (s : State) {i : ℕ} → Ready l st (unpaid s) i → s .bindings * bindingSize ≤ length st
+pub node-held : {l st : List ℕ} (s : State) {i : ℕ} → ReadyToParse l st (unpaid s) i → s .bindings * bindingSize ≤ length st
 unfolding unpaid
 node-held s r = omega (arith, r .held .few, r .held .wide)
 
-pub node-roomy : {l st : List ℕ} (s : State) {i : ℕ} → Ready l st (unpaid s) i → Roomy l (s .top) nodeSize
+pub node-roomy : {l st : List ℕ} (s : State) {i : ℕ} → ReadyToParse l st (unpaid s) i → Roomy l (s .top) nodeSize
 unfolding unpaid
 node-roomy s r = record { fits = omega (arith, r .room .fits); small = r .room .small; low = r .room .low }
 
@@ -101,7 +101,7 @@ module _ (entries : ℕ) (s : State) {u : State} {x : Charged} (h : x ≡ enterO
   pub enter-less : {T : ℕ} → s .left * 8 ≡ T → u .left * 8 + 6 < T
   enter-less k = let q = enter-went entries s h e in omega (arith, q .enough, ap (λ (y : State). y .left) (q .is))
 
-  pub enter-ready : {l st : List ℕ} {i : ℕ} → Ready l st s i → Ready l st (unpaid u) i
+  pub enter-ready : {l st : List ℕ} {i : ℕ} → ReadyToParse l st s i → ReadyToParse l st (unpaid u) i
   enter-ready r = rw (unpaid-is (enter-went entries s h e)) r
 
   pub enter-goes : {ph : ℕ} {st l l1 : List ℕ} {i : ℕ} {r : Answer} → ParsedEntry (entries - 1) ph st l l1 u i r → Parsed entries ph st l l1 s i r
@@ -130,7 +130,7 @@ symbol-at (is-atom {a = ob.rung n} a q y) e h = absurd (omega (arith, tag-is e q
 symbol-at (is-list a q y r) e h = absurd (omega (arith, tag-is e q, h))
 
 module _ {st l : List ℕ} (s : State) {i : ℕ} {o : Node} (e : o ≡ getNode l i) where
-  pub entry-list-ready : Ready l st (unpaid s) i → o .tag ≡ listTag → ReadyParts l st (unpaid s) (o .content)
+  pub entry-list-ready : ReadyToParse l st (unpaid s) i → o .tag ≡ listTag → ReadyParts l st (unpaid s) (o .content)
   entry-list-ready r h = let q = list-at (r .shown) e h in record { thing = q .parts; shown = q .shown; room = r .room; held = r .held }
 
   pub entry-list : {entries ph : ℕ} {l1 : List ℕ} {r : Answer} → o .tag ≡ listTag → ParsedList entries ph st l l1 s (o .content) r → ParsedEntry entries ph st l l1 s i r
@@ -146,10 +146,10 @@ module _ {st l : List ℕ} (s : State) {i : ℕ} {o : Node} (e : o ≡ getNode l
             rw same (a .means x w);
       }
 
-  pub entry-value-tag : Ready l st (unpaid s) i → atomValueTag + o .tag < 2 ^ 32
+  pub entry-value-tag : ReadyToParse l st (unpaid s) i → atomValueTag + o .tag < 2 ^ 32
   entry-value-tag r = omega (arith, stx-tag (r .shown) e)
 
-  pub entry-value : {entries ph : ℕ} {l1 : List ℕ} {k : Made} {z : State} → Ready l st (unpaid s) i → ¬ (o .tag ≡ listTag) → ¬ (o .tag ≡ 0)
+  pub entry-value : {entries ph : ℕ} {l1 : List ℕ} {k : Made} {z : State} → ReadyToParse l st (unpaid s) i → ¬ (o .tag ≡ listTag) → ¬ (o .tag ≡ 0)
       → Stored l l1 (s .top) (record { tag = atomValueTag + o .tag; content = o .content }) (k .at) (k .top) → z ≡ raisedTo (k .top) s
       → ParsedEntry entries ph st l l1 s i (Done (record { at = k .at; state = z }))
   unfolding unpaid
@@ -182,7 +182,7 @@ module _ {ph : ℕ} {st l : List ℕ} (s : State) {i : ℕ} {n : Naming} (p : Na
   unfolding nameRule
   name-unclear e = record { means = λ x w. stops _ (identifier-unclear ph (stateOf s (bindsOf st)) (λ k. λ z. ok (var k) z) x (on-unclear p w e)) }
 
-  pub name-var : {v : Name} {l1 : List ℕ} {k : Made} {z : State} → Ready l st (unpaid s) i → n ≡ Named v
+  pub name-var : {v : Name} {l1 : List ℕ} {k : Made} {z : State} → ReadyToParse l st (unpaid s) i → n ≡ Named v
       → Stored l l1 (s .top) (record { tag = variableTag; content = v .0 }) (k .at) (k .top) → z ≡ raisedTo (k .top) s
       → ParsedName ph st l l1 s i (Done (record { at = k .at; state = z }))
   unfolding nameRule unpaid
@@ -307,7 +307,7 @@ module _ {st l : List ℕ} (s : State) {c : ℕ} {d : Two} (h : Double l c d) wh
         let q = on-two (h .means (s .top) (r .thing) (r .shown)) e in
         record { top = s .top; thing = stx (q .first); shown = q .shown; inside = omega (arith, r .room .fits); small = r .room .small }
 
-    pub lambda-body-ready : ReadyParts l st (unpaid s) c → Ready l st (unpaid s) j
+    pub lambda-body-ready : ReadyParts l st (unpaid s) c → ReadyToParse l st (unpaid s) j
     lambda-body-ready r = let q = on-two (h .means (unpaid s .top) (r .thing) (r .shown)) e in record { thing = q .second; shown = q .shown-second; room = r .room; held = r .held }
 
     module _ {entries ph : ℕ} {n : Naming} (p : Names ph st (s .bindings) l i n) where
@@ -342,7 +342,7 @@ module _ {st l : List ℕ} (s : State) {c : ℕ} {d : Two} (h : Double l c d) wh
 -- ---- function
 
 -- an entry's unit is not needed for what follows
-pub later-ready : {l st : List ℕ} (s : State) {i : ℕ} → Ready l st (unpaid s) i → Ready l st s i
+pub later-ready : {l st : List ℕ} (s : State) {i : ℕ} → ReadyToParse l st (unpaid s) i → ReadyToParse l st s i
 unfolding unpaid
 later-ready s r = record { thing = r .thing; shown = r .shown; room = record { fits = omega (arith, r .room .fits); small = r .room .small; low = r .room .low }; held = record { few = r .held .few; wide = r .held .wide } }
 
@@ -355,7 +355,7 @@ module _ {entries ph : ℕ} {st l l1 : List ℕ} (s : State) {body : ℕ} {a : A
     function-gave : (x : Stx) → Rep l (s .top) body (stx x) → Gave trees 1 twoCells l l1 s (bindsOf st) (parse entries ph x (stateOf s (bindsOf st))) o
     function-gave x w = on-done (v .means x w) (ap ended e)
 
-    pub function-ready : Ready l st (unpaid s) body → length l1 ≡ length l → Closable l1 (o .state .top) (o .at)
+    pub function-ready : ReadyToParse l st (unpaid s) body → length l1 ≡ length l → Closable l1 (o .state .top) (o .at)
     unfolding unpaid
     function-ready r len =
         let g = function-gave (r .thing) (r .shown) in

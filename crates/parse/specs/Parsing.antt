@@ -22,7 +22,7 @@ unpaid s = record { top = s .top; left = s .left + 1; names = s .names; scopes =
 
 -- ---- what is asked
 
-pub record Ready (l st : List ℕ) (s : State) (i : ℕ) : Type 0 where
+pub record ReadyToParse (l st : List ℕ) (s : State) (i : ℕ) : Type 0 where
   pub thing : Stx
   pub shown : Rep l (s .top) i (stx thing)
   pub room : Room l s

@@ -13,11 +13,11 @@ use steps::State;
 use steps::Stop;
 use table::Node;
 ghost use mathlib.Core.Path.{_≡_};
-ghost use Rattle.parse.specs.Parsing.{unpaid, Ready, ReadyParts, ReadyForm, ReadyChain, ReadyData, Parsed, ParsedEntry, ParsedName, ParsedList, ParsedForm, ParsedLambda, ParsedFunction, ParsedQuote, ParsedData, ParsedSyntax, ParsedApplication, ParsedParts};
+ghost use Rattle.parse.specs.Parsing.{unpaid, ReadyToParse, ReadyParts, ReadyForm, ReadyChain, ReadyData, Parsed, ParsedEntry, ParsedName, ParsedList, ParsedForm, ParsedLambda, ParsedFunction, ParsedQuote, ParsedData, ParsedSyntax, ParsedApplication, ParsedParts};
 
 // One entry.
 pub fn parse(table: &mut [u32], store: &[u64], s: State, i: u32, phase: u32, entries: u32) -> Answer
-    requires { ⌜ Ready (now table) (now store) s i ⌝ }
+    requires { ⌜ ReadyToParse (now table) (now store) s i ⌝ }
     ensures { λ r. ⌜ Parsed entries phase (now (store .entry)) (now (table .entry)) (now (table .exit)) s i r ⌝ }
 {
     match s.enter(entries) {
@@ -28,7 +28,7 @@ pub fn parse(table: &mut [u32], store: &[u64], s: State, i: u32, phase: u32, ent
 
 // The entry charged.
 fn entry(table: &mut [u32], store: &[u64], s: State, i: u32, phase: u32, entries: u32) -> Answer
-    requires { ⌜ Ready (now table) (now store) (unpaid s) i ⌝ }
+    requires { ⌜ ReadyToParse (now table) (now store) (unpaid s) i ⌝ }
     ensures { λ r. ⌜ ParsedEntry entries phase (now (store .entry)) (now (table .entry)) (now (table .exit)) s i r ⌝ }
 {
     let n = table::get_node(table, i);
@@ -53,7 +53,7 @@ fn entry(table: &mut [u32], store: &[u64], s: State, i: u32, phase: u32, entries
 
 // The variable of an identifier's name.
 fn variable(table: &mut [u32], store: &[u64], s: State, i: u32, phase: u32) -> Answer
-    requires { ⌜ Ready (now table) (now store) (unpaid s) i ⌝ }
+    requires { ⌜ ReadyToParse (now table) (now store) (unpaid s) i ⌝ }
     ensures { λ r. ⌜ ParsedName phase (now (store .entry)) (now (table .entry)) (now (table .exit)) s i r ⌝ }
 {
     match forms::name_of(table, store, s.bindings, i, phase) {
@@ -162,7 +162,7 @@ fn function(
     phase: u32,
     entries: u32,
 ) -> Answer
-    requires { ⌜ Ready (now table) (now store) (unpaid s) body ⌝ }
+    requires { ⌜ ReadyToParse (now table) (now store) (unpaid s) body ⌝ }
     ensures { λ r. ⌜ ParsedFunction entries phase (now (store .entry)) (now (table .entry)) (now (table .exit)) s (name .0) body r ⌝ }
 {
     match parse(table, store, s, body, phase, entries) {

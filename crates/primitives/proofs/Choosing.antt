@@ -12,7 +12,7 @@ use Rattle.model.specs.Trees.{Tree, Trees, tcount}
 use Rattle.model.specs.Evaluating as m
 use Rattle.model.specs.Evaluating.{Primitive, primitiveOf, primitive, arity, takes, argument}
 use Rattle.things.specs.Rep.{Rep}
-use Rattle.primitives.specs.Working.{Ready, ReadyAll, Given, no-more, one-more, Pieced, Does1, Does2, Does3, Works, stxE, mkStx, first, rest, linked, same, pick}
+use Rattle.primitives.specs.Working.{ReadyToApply, ReadyAll, Given, no-more, one-more, Pieced, Does1, Does2, Does3, Works, stxE, mkStx, first, rest, linked, same, pick}
 use Rattle.primitives.specs.declared.Part.{Part}
 
 -- ---- how many arguments
@@ -112,22 +112,22 @@ is-pick {p = suc (suc (suc (suc (suc (suc zero)))))} a b c d e f i = cc
 is-pick {p = suc (suc (suc (suc (suc (suc (suc n))))))} a b c d e f i = let z : _≡_ {A = ℕ} 0 1 = cc in absurd (omega arith)
 
 module _ {l : List ℕ} {top p x y z : ℕ} where
-  pub ready-x : ReadyAll l top p x y z → Ready l top x
+  pub ready-x : ReadyAll l top p x y z → ReadyToApply l top x
   ready-x r = record { thing = argument (r .thing) 0; shown = given-1 (r .given) (omega (arith, arity-pos (r .which), r .able)); room = r .room }
 
-  ready-second : {v : Primitive} (r : ReadyAll l top p x y z) → v ≡ r .which → 2 ≤ arity v → Ready l top y
+  ready-second : {v : Primitive} (r : ReadyAll l top p x y z) → v ≡ r .which → 2 ≤ arity v → ReadyToApply l top y
   ready-second r e h =
       record { thing = argument (r .thing) 1; shown = given-2 (r .given) (omega (arith, r .able, ap arity e, h)); room = r .room }
 
-  pub ready-1 : p ≡ 1 → ReadyAll l top p x y z → Ready l top y
+  pub ready-1 : p ≡ 1 → ReadyAll l top p x y z → ReadyToApply l top y
   unfolding primitiveOf arity
   ready-1 h r = ready-second r (is-the 1 refl h (r .is)) (omega arith)
 
-  pub ready-4 : p ≡ 4 → ReadyAll l top p x y z → Ready l top y
+  pub ready-4 : p ≡ 4 → ReadyAll l top p x y z → ReadyToApply l top y
   unfolding primitiveOf arity
   ready-4 h r = ready-second r (is-the 4 refl h (r .is)) (omega arith)
 
-  pub ready-5 : p ≡ 5 → ReadyAll l top p x y z → Ready l top y
+  pub ready-5 : p ≡ 5 → ReadyAll l top p x y z → ReadyToApply l top y
   unfolding primitiveOf arity
   ready-5 h r = ready-second r (is-the 5 refl h (r .is)) (omega arith)
 

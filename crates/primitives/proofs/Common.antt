@@ -13,14 +13,14 @@ use Rattle.things.specs.Rep.{Rep}
 use Rattle.things.specs.Making.{Roomy, Stored}
 use Rattle.things.specs.declared.Made.{Made}
 use Rattle.things.proofs.Frame.{below}
-use Rattle.primitives.specs.Working.{Ready, Pieced, piece}
+use Rattle.primitives.specs.Working.{ReadyToApply, Pieced, piece}
 use Rattle.primitives.specs.declared.Part.the-variants.{Piece}
 use Rattle.table.specs.Sizes.{nodeSize}
 
-pub node-room : {l : List ℕ} {top x : ℕ} → Ready l top x → Roomy l top nodeSize
+pub node-room : {l : List ℕ} {top x : ℕ} → ReadyToApply l top x → Roomy l top nodeSize
 node-room r = record { fits = omega (arith, r .room .fits); small = r .room .small; low = r .room .low }
 
-pub read-inside : {l : List ℕ} {top x : ℕ} → Ready l top x → x + nodeSize ≤ length l
+pub read-inside : {l : List ℕ} {top x : ℕ} → ReadyToApply l top x → x + nodeSize ≤ length l
 read-inside r = omega (arith, below (r .shown), r .room .fits)
 
 -- a value that is there already

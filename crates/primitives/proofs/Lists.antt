@@ -17,7 +17,7 @@ use Rattle.things.specs.Making.{Roomy, Stored, Linkable, Linked}
 use Rattle.things.specs.declared.Made.{Made}
 use Rattle.things.proofs.ByTag.{tag-is, lst-at, part-at, none-at}
 use Rattle.things.proofs.Making.{made-lst}
-use Rattle.primitives.specs.Working.{Ready, wrong, piece, Does1, Does2, first, rest, linked}
+use Rattle.primitives.specs.Working.{ReadyToApply, wrong, piece, Does1, Does2, first, rest, linked}
 use Rattle.primitives.specs.declared.Part.the-variants.{Wrong, Piece}
 use Rattle.primitives.proofs.Common.{node-room, read-inside, found, added}
 use Rattle.table.specs.Sizes.{cellSize, nodeSize}
@@ -52,7 +52,7 @@ module _ {l : List ℕ} {top x : ℕ} {p : Node} (e : p ≡ getNode l x) where
     unfolding rest primitive asList restOf
     rest-empty k = record { means = λ t r. let w = lst-at r e h in wrong (ap rest (w .is ∙ ap lst (none-at (w .shown) k))) }
 
-    pub chain-inside : Ready l top x → ¬ (p .content ≡ 0) → p .content + cellSize ≤ length l
+    pub chain-inside : ReadyToApply l top x → ¬ (p .content ≡ 0) → p .content + cellSize ≤ length l
     chain-inside r n = let w = lst-at (r .shown) e h in omega (arith, part-at (w .shown) n refl .cell .inside, r .room .fits)
 
     module _ (n : ¬ (p .content ≡ 0)) {cell : Cell} (k : cell ≡ getCell l (p .content)) where
@@ -84,7 +84,7 @@ module _ {l : List ℕ} {top x y : ℕ} {p : Node} (e : p ≡ getNode l y) where
   link-wrong h = record { means = λ t u a b. wrong (rw (not-list e b h) refl) }
 
   module _ (h : p .tag ≡ listValueTag) where
-    pub link-ready : Ready l top x → Ready l top y → Linkable l top x (p .content)
+    pub link-ready : ReadyToApply l top x → ReadyToApply l top y → Linkable l top x (p .content)
     link-ready r q =
         let w = lst-at (q .shown) e h in
         record {
@@ -106,7 +106,7 @@ module _ {l : List ℕ} {top x y : ℕ} {p : Node} (e : p ≡ getNode l y) where
               (same-trans top top1 l l1 l2 (omega (arith, k .grows)) (k .kept) (d .kept)) (omega (arith, k .grows, d .grows)) (omega (arith, k .grows, d .grows));
         }
 
-pub link-room : {l l1 : List ℕ} {top x c at1 top1 : ℕ} → Ready l top x → Linked l l1 top x c at1 top1 → length l1 ≡ length l → Roomy l1 top1 nodeSize
+pub link-room : {l l1 : List ℕ} {top x c at1 top1 : ℕ} → ReadyToApply l top x → Linked l l1 top x c at1 top1 → length l1 ≡ length l → Roomy l1 top1 nodeSize
 link-room r k len = record { fits = omega (arith, r .room .fits, k .grows); small = omega (arith, r .room .small); low = omega (arith, r .room .low, k .grows) }
 
 pub ruleset laws = (node-room, read-inside, first-wrong, rest-wrong, first-empty, rest-empty, chain-inside, first-is, rest-is, link-wrong, link-ready, link-is, link-room)

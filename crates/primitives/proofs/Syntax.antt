@@ -25,7 +25,7 @@ use Rattle.things.proofs.Frame.{below}
 use Rattle.things.proofs.ByTag.{tag-low, tag-is, lst-at, datum-at, atom-at, list-at, part-at, none-at}
 use Rattle.things.proofs.Making.{made-lst, made-datum, made-atom, made-list}
 use Rattle.things.proofs.Measuring.{cell-inside}
-use Rattle.primitives.specs.Working.{Ready, wrong, Does1, Does2, stxE, mkStx, Opened, all, other, AllSyntax}
+use Rattle.primitives.specs.Working.{ReadyToApply, wrong, Does1, Does2, stxE, mkStx, Opened, all, other, AllSyntax}
 use Rattle.primitives.specs.declared.Part.the-variants.{Wrong, Piece}
 use Rattle.primitives.proofs.Common.{node-room, read-inside, added, renamed}
 use Rattle.table.specs.Sizes.{cellSize, nodeSize}
@@ -175,7 +175,7 @@ pub close-wrong : {l : List ℕ} {top x y : ℕ} {s : Node} → s ≡ getNode l 
 unfolding mkStx primitive
 close-wrong e h = record { means = λ t u a b. wrong (rw (not-syntax b e h) refl) }
 
-pub close-seen : {l : List ℕ} {top x : ℕ} {p : Node} → p ≡ getNode l x → Ready l top x → p .tag ≡ listValueTag → SeenP l (p .content)
+pub close-seen : {l : List ℕ} {top x : ℕ} {p : Node} → p ≡ getNode l x → ReadyToApply l top x → p .tag ≡ listValueTag → SeenP l (p .content)
 close-seen {top = top} k r h =
     let w = lst-at (r .shown) k h in record { top = top; thing = w .parts; shown = w .shown; inside = omega (arith, r .room .fits); small = r .room .small }
 

@@ -52,7 +52,7 @@ pick a b c = primitive m.pick a b c
 -- ---- what is asked
 
 -- a value, and room
-pub record Ready (l : List ℕ) (top x : ℕ) : Type 0 where
+pub record ReadyToApply (l : List ℕ) (top x : ℕ) : Type 0 where
   pub thing : Tree
   pub shown : Rep l top x thing
   pub room : Roomy l top unitSize

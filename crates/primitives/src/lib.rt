@@ -5,7 +5,7 @@ use things::Made;
 ghost use mathlib.Core.Path.{_≡_};
 ghost use Rattle.model.specs.Evaluating.{primitiveOf, takes};
 ghost use Rattle.things.specs.Measuring.{SeenP};
-ghost use Rattle.primitives.specs.Working.{Ready, ReadyAll, Does1, Does2, Does3, Works, stxE, mkStx, first, rest, linked, same, pick, agreed, AllSyntax};
+ghost use Rattle.primitives.specs.Working.{ReadyToApply, ReadyAll, Does1, Does2, Does3, Works, stxE, mkStx, first, rest, linked, same, pick, agreed, AllSyntax};
 
 // A value, or none where an argument is of the wrong kind.
 pub enum Part {
@@ -30,7 +30,7 @@ pub fn takes(p: u32, n: u32) -> bool
 // ---- 0 stx-e and 1 mk-stx
 
 fn stx_e(table: &mut [u32], top: u32, x: u32) -> Part
-    requires { ⌜ Ready (now table) top x ⌝ }
+    requires { ⌜ ReadyToApply (now table) top x ⌝ }
     ensures { λ r. ⌜ Does1 stxE (now (table .entry)) (now (table .exit)) top x r ⌝ }
 {
     let o = table::get_node(table, x);
@@ -79,7 +79,7 @@ fn all_syntax(table: &[u32], c: u32) -> bool
 }
 
 fn mk_stx(table: &mut [u32], top: u32, x: u32, y: u32) -> Part
-    requires { ⌜ Ready (now table) top x × Ready (now table) top y ⌝ }
+    requires { ⌜ ReadyToApply (now table) top x × ReadyToApply (now table) top y ⌝ }
     ensures { λ r. ⌜ Does2 mkStx (now (table .entry)) (now (table .exit)) top x y r ⌝ }
 {
     let s = table::get_node(table, y);
@@ -123,7 +123,7 @@ fn mk_stx(table: &mut [u32], top: u32, x: u32, y: u32) -> Part
 // ---- 2 first, 3 rest and 4 link
 
 fn first(table: &[u32], top: u32, x: u32) -> Part
-    requires { ⌜ Ready (now table) top x ⌝ }
+    requires { ⌜ ReadyToApply (now table) top x ⌝ }
     ensures { λ r. ⌜ Does1 first (now (table .entry)) (now (table .entry)) top x r ⌝ }
 {
     let o = table::get_node(table, x);
@@ -140,7 +140,7 @@ fn first(table: &[u32], top: u32, x: u32) -> Part
 }
 
 fn rest(table: &mut [u32], top: u32, x: u32) -> Part
-    requires { ⌜ Ready (now table) top x ⌝ }
+    requires { ⌜ ReadyToApply (now table) top x ⌝ }
     ensures { λ r. ⌜ Does1 rest (now (table .entry)) (now (table .exit)) top x r ⌝ }
 {
     let o = table::get_node(table, x);
@@ -164,7 +164,7 @@ fn rest(table: &mut [u32], top: u32, x: u32) -> Part
 }
 
 fn link(table: &mut [u32], top: u32, x: u32, y: u32) -> Part
-    requires { ⌜ Ready (now table) top x × Ready (now table) top y ⌝ }
+    requires { ⌜ ReadyToApply (now table) top x × ReadyToApply (now table) top y ⌝ }
     ensures { λ r. ⌜ Does2 linked (now (table .entry)) (now (table .exit)) top x y r ⌝ }
 {
     let o = table::get_node(table, y);
@@ -199,7 +199,7 @@ fn agree(a: Node, b: Node) -> u32
 }
 
 fn same(table: &mut [u32], top: u32, x: u32, y: u32) -> Part
-    requires { ⌜ Ready (now table) top x × Ready (now table) top y ⌝ }
+    requires { ⌜ ReadyToApply (now table) top x × ReadyToApply (now table) top y ⌝ }
     ensures { λ r. ⌜ Does2 same (now (table .entry)) (now (table .exit)) top x y r ⌝ }
 {
     let a = table::get_node(table, x);
@@ -223,7 +223,7 @@ fn same(table: &mut [u32], top: u32, x: u32, y: u32) -> Part
 }
 
 fn pick(table: &[u32], top: u32, x: u32, y: u32, z: u32) -> Part
-    requires { ⌜ Ready (now table) top x ⌝ }
+    requires { ⌜ ReadyToApply (now table) top x ⌝ }
     ensures { λ r. ⌜ Does3 pick (now (table .entry)) (now (table .entry)) top x y z r ⌝ }
 {
     let o = table::get_node(table, x);

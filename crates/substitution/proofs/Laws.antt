@@ -18,12 +18,12 @@ use Rattle.things.specs.Making.{Roomy, Stored, Closable, Closed, Linkable, Link
 use Rattle.things.proofs.Weighing.{size-app, size-fun, size-lst, size-none, size-cons, size-pos}
 use Rattle.things.proofs.Frame.{below, staysP, carry, carryP}
 use Rattle.things.proofs.ByTag.{tag-is, var-at, app-at, fun-at, lst-at, part-at, none-at}
-use Rattle.substitution.specs.Substituting.{Ready, ReadyP, ReadyB, ReadyL, Substituted, SubstitutedP, SubstitutedB, SubstitutedL}
+use Rattle.substitution.specs.Substituting.{ReadyToSubstitute, ReadyP, ReadyB, ReadyL, Substituted, SubstitutedP, SubstitutedB, SubstitutedL}
 use Rattle.table.specs.Sizes.{cellSize, nodeSize}
 
 -- ---- substitute
 
-pub inside : {l : List ℕ} {top i v : ℕ} → Ready l top i v → i + nodeSize ≤ length l
+pub inside : {l : List ℕ} {top i v : ℕ} → ReadyToSubstitute l top i v → i + nodeSize ≤ length l
 inside r = omega (arith, below (r .shown), r .inside)
 
 -- what is left as it is
@@ -90,7 +90,7 @@ module _ {l : List ℕ} {top i v x : ℕ} {o : Node} (e : o ≡ getNode l i) whe
             rw (p .is) (is-lst (d .0 .fits) (d .0 .is) (d .0 .shown), omega (arith, d .1, size-lst (p .parts)));
       }
 
-module _ {l : List ℕ} {top i v : ℕ} {o : Node} (r : Ready l top i v) (e : o ≡ getNode l i) where
+module _ {l : List ℕ} {top i v : ℕ} {o : Node} (r : ReadyToSubstitute l top i v) (e : o ≡ getNode l i) where
   pub app-ready : o .tag ≡ applicationTag → ReadyL l top (o .content) v
   app-ready h =
       let p = app-at (r .shown) e h in
@@ -161,7 +161,7 @@ module _ {l : List ℕ} {top c v : ℕ} (r : ReadyL l top c v) where
 -- ---- substitute_body
 
 module _ {l : List ℕ} {top b v : ℕ} (r : ReadyB l top b v) where
-  pub body-tree : Ready l top b v
+  pub body-tree : ReadyToSubstitute l top b v
   body-tree = record { thing = r .thing; value = r .value; shown = r .shown; given = r .given; room = omega (arith, r .room); inside = omega (arith, r .room); small = r .small; low = r .low }
 
   module _ {x at1 top1 : ℕ} {l1 : List ℕ} (p : Substituted l l1 top b x v at1 top1) where

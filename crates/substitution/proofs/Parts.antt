@@ -17,7 +17,7 @@ use Rattle.things.proofs.Weighing.{size-cons, size-none}
 use Rattle.things.proofs.Frame.{carry, carryP}
 use Rattle.things.proofs.ByTag.{part-at, none-at}
 use Rattle.things.proofs.Turning.{count-more, count-none, turn-more}
-use Rattle.substitution.specs.Substituting.{Ready, ReadyP, Substituted, SubstitutedP}
+use Rattle.substitution.specs.Substituting.{ReadyToSubstitute, ReadyP, Substituted, SubstitutedP}
 
 -- `from` is left of the chain of ts, and `at` is what the parts before it became, the last first
 pub record Half (l : List ℕ) (top end from at x : ℕ) (w : Tree) (ts : Trees) : Type 0 where
@@ -57,7 +57,7 @@ module _ {l : List ℕ} {top c v : ℕ} (r : ReadyP l top c v) {x : ℕ} {l1 : L
       sizes : tsizes (half .rest) ≡ tsize (part-at (half .shown) n e .first) + tsizes (part-at (half .shown) n e .others)
       sizes = let p = part-at (half .shown) n e in ap tsizes (p .is) ∙ size-cons (p .first) (p .others)
 
-      pub going-ready : Ready l1 end (cell .head) v
+      pub going-ready : ReadyToSubstitute l1 end (cell .head) v
       going-ready =
           let p = part-at (half .shown) n e in
           record {

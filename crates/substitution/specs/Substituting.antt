@@ -12,7 +12,7 @@ use Rattle.table.specs.Sizes.{cellSize, nodeSize, turnedSize, tableSize}
 
 -- ---- a tree i, and the value v that goes in
 
-pub record Ready (l : List ℕ) (top i v : ℕ) : Type 0 where
+pub record ReadyToSubstitute (l : List ℕ) (top i v : ℕ) : Type 0 where
   pub thing : Tree
   pub value : Tree
   pub shown : Rep l top i thing

@@ -3,11 +3,11 @@
 use scopes::Name;
 use table::Node;
 use things::Made;
-ghost use Rattle.substitution.specs.Substituting.{Ready, ReadyP, ReadyB, ReadyL, Substituted, SubstitutedP, SubstitutedB, SubstitutedL};
+ghost use Rattle.substitution.specs.Substituting.{ReadyToSubstitute, ReadyP, ReadyB, ReadyL, Substituted, SubstitutedP, SubstitutedB, SubstitutedL};
 
 // The tree i with v for the variable x.
 pub fn substitute(table: &mut [u32], top: u32, i: u32, x: Name, v: u32) -> Made
-    requires { ⌜ Ready (now table) top i v ⌝ }
+    requires { ⌜ ReadyToSubstitute (now table) top i v ⌝ }
     ensures { λ r. ⌜ Substituted (now (table .entry)) (now (table .exit)) top i (x .0) v (r .at) (r .top) ⌝ }
 {
     let n = table::get_node(table, i);
