@@ -143,7 +143,7 @@ pub fn rhs(
 {
     let phase = at.phase;
     let s = b.state;
-    if Surroundings::LAST_PHASE <= phase {
+    if table::Sets::LAST_PHASE <= phase {
         return Onward::Refused(Stop {
             refusal: Refusal::NoPhase,
             left: s.left,

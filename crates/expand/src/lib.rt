@@ -29,10 +29,6 @@ pub struct Surroundings {
     pub prunable: ScopeSet,
 }
 
-impl Surroundings {
-    pub const LAST_PHASE: u32 = table::Sets::LAST_PHASE;
-}
-
 // ---- entries
 
 pub fn expand(table: &mut [u32], store: &mut [u64], s: State, i: u32, at: Surroundings) -> Answer

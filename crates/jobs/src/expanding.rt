@@ -106,7 +106,7 @@ pub fn expand_work(
     requires { ⌜ Lent (now table) budget ⌝ }
     ensures { λ r. ⌜ EndsAs (expandEnding (now (image .entry)) phase budget (length (now (out .entry)))) (now (out .entry)) (now (out .exit)) r ⌝ }
 {
-    if loading::LAST_PHASE < phase {
+    if table::Sets::LAST_PHASE < phase {
         return Ending::Refused(Refusal::NoPhase, 0);
     }
     let mut store = [0u64; Resolving::STORE];

@@ -10,9 +10,6 @@ ghost use Rattle.steps.specs.States.{chargeOf};
 ghost use Rattle.finish.specs.declared.Ending.the-variants.{Refused};
 ghost use Rattle.jobs.specs.Working.{begun};
 
-// The last phase that a job takes.
-pub const LAST_PHASE: u32 = table::Sets::LAST_PHASE;
-
 // The state in which the work on a judged image begins: its root is charged for.
 pub fn begin(j: Judgement, budget: u32) -> Charged
     ensures { λ r. ⌜ r ≡ chargeOf (j .size) (begun j budget) ⌝ }

@@ -131,7 +131,7 @@ fn resolve_image(image: &[u8], store: &mut [u64], phase: u32, budget: u32) -> En
 pub fn resolve_work(image: &[u8], phase: u32, budget: u32) -> Ending
     ensures { λ r. ⌜ EndsAs (resolveEnding (now (image .entry)) phase budget) [] [] r ⌝ }
 {
-    if loading::LAST_PHASE < phase {
+    if table::Sets::LAST_PHASE < phase {
         return Ending::Refused(Refusal::NoPhase, 0);
     }
     let mut store = [0u64; Resolving::STORE];

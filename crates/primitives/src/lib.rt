@@ -13,14 +13,17 @@ pub enum Part {
     Piece(Made),
 }
 
+// How many there are.
+const COUNT: u32 = scopes::LAST_PRIMITIVE + 1;
+
 // How many arguments each takes.
-const ARGUMENTS: [u32; 7] = [1, 2, 1, 1, 2, 2, 3];
+const ARGUMENTS: [u32; COUNT as usize] = [1, 2, 1, 1, 2, 2, 3];
 
 // p is a primitive that takes n arguments.
 pub fn takes(p: u32, n: u32) -> bool
     ensures { λ r. ⌜ r ≡ takes (primitiveOf p) n ⌝ }
 {
-    if p < 7 {
+    if p < COUNT {
         let i = p as usize;
         return n == ARGUMENTS[i];
     }

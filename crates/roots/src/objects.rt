@@ -12,8 +12,6 @@ ghost use Rattle.roots.specs.MeasuredObjects.{readContentOf, readTop, me
 ghost use Rattle.numbers.specs.Limits.{mostImage};
 ghost use Rattle.scopes.specs.Sets.{setScopes};
 
-const LAST_PRIMITIVE: u32 = 6;
-
 const LAST_RUNG_WORD: u32 = 15;
 
 // An atom's content, by its tag: a declared symbol, a number, a point, a primitive or a rung word.
@@ -32,7 +30,7 @@ pub fn read_content(c: Cursor, s: &[u8], symbols: u32, tag: u32) -> Number
         return point.number();
     }
     if tag == 3 {
-        return c.number_up_to(s, Refusal::OverLimit, LAST_PRIMITIVE);
+        return c.number_up_to(s, Refusal::OverLimit, scopes::LAST_PRIMITIVE);
     }
     if tag == 4 {
         return c.number_up_to(s, Refusal::OverLimit, LAST_RUNG_WORD);

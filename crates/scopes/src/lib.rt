@@ -32,6 +32,9 @@ impl Point {
     pub const LAST: u32 = 1023;
 }
 
+// Primitives are numbered from 0 to this.
+pub const LAST_PRIMITIVE: u32 = 6;
+
 // A scope set, handed on as one value: scope k is a member where the digit of weight 2 ^ (k - 1) is 1. The words hold 64 digits each, the
 // low word first.
 pub struct ScopeSet {
