@@ -14,7 +14,7 @@ use Rattle.model.specs.Resolving.{Bind}
 use Rattle.model.specs.Reading.{Head}
 use Rattle.model.specs.Writing.{groupsOf, numBytes, numsBytes, listBytes, setBytes, setsBytes, stxBytes, stxsBytes, treeBytes, treesBytes, wordsBytes, bindsBytes, headBytes, syntaxBytes, treeImageBytes}
 use borrow.Author.Tests.{lt-ltb}
-use Rattle.codec_laws.proofs.Lengths.{num-some}
+use Rattle.codec_laws.proofs.Lengths.{num-some, num-one}
 
 -- ---- numbers and sets
 
@@ -28,10 +28,6 @@ num-two n h = go (ltb n 128)
     go : (t : Bool) → length (if t then n ∷ [] else (n % 128 + 128) ∷ groupsOf 3 (n / 128)) ≤ 2
     go true = omega arith
     go false = omega (arith, rest)
-
-small-one : (n : ℕ) → n < 128 → length (numBytes n) ≡ 1
-unfolding numBytes groupsOf
-small-one n h = rw (lt-ltb n 128 h)
 
 set-some : (a : Scopes) → 1 ≤ length (setBytes a)
 unfolding setBytes listBytes
@@ -65,7 +61,7 @@ list-length c l =
     ∙ ap (λ (z : ℕ). z + length (stxsBytes l))
     (length-append (numBytes 5 ++ setsBytes c) (numBytes (count l))
     ∙ ap (λ (z : ℕ). z + length (numBytes (count l)))
-    (length-append (numBytes 5) (setsBytes c) ∙ ap (λ (z : ℕ). z + length (setsBytes c)) (small-one 5 (omega arith))))
+    (length-append (numBytes 5) (setsBytes c) ∙ ap (λ (z : ℕ). z + length (setsBytes c)) (num-one 5 (omega arith))))
 
 cons-length : (x : Stx) (l : Stxs) → length (stxsBytes (cons x l)) ≡ length (stxBytes x) + length (stxsBytes l)
 unfolding stxBytes
@@ -79,7 +75,7 @@ var-shorter n c x h =
     omega (
       arith,
       length-append (numBytes 0) (numBytes n),
-      small-one 0 (omega arith),
+      num-one 0 (omega arith),
       num-two n h,
       atom-length c (symbol x),
       sets-some c,
@@ -92,7 +88,7 @@ datum-shorter c a =
       arith,
       length-append (numBytes 3 ++ numBytes (tagOf a)) (numBytes (contentOf a)),
       length-append (numBytes 3) (numBytes (tagOf a)),
-      small-one 3 (omega arith),
+      num-one 3 (omega arith),
       atom-length c a,
       sets-some c,
     )
@@ -107,7 +103,7 @@ unfolding treeBytes
 lst-length l =
     length-append (numBytes 4 ++ numBytes (tcount l)) (treesBytes l)
     ∙ ap (λ (z : ℕ). z + length (treesBytes l))
-    (length-append (numBytes 4) (numBytes (tcount l)) ∙ ap (λ (z : ℕ). z + length (numBytes (tcount l))) (small-one 4 (omega arith)))
+    (length-append (numBytes 4) (numBytes (tcount l)) ∙ ap (λ (z : ℕ). z + length (numBytes (tcount l))) (num-one 4 (omega arith)))
 
 tcons-length : (t : Tree) (l : Trees) → length (treesBytes (tcons t l)) ≡ length (treeBytes t) + length (treesBytes l)
 unfolding treeBytes
@@ -145,7 +141,7 @@ quote-shorter c h x = omega (arith, strip-shorter x, second-shorter c h x nil)
 
 pub syntax-shorter : (c : Sets) (h x : Stx) → length (treeBytes (stx x)) ≤ length (stxBytes (list c (cons h (cons x nil))))
 unfolding treeBytes
-syntax-shorter c h x = omega (arith, length-append (numBytes 5) (stxBytes x), small-one 5 (omega arith), second-shorter c h x nil)
+syntax-shorter c h x = omega (arith, length-append (numBytes 5) (stxBytes x), num-one 5 (omega arith), second-shorter c h x nil)
 
 pub function-shorter : (c : Sets) (h i out : Stx) (n : ℕ) (b : Tree) → n < 16384 → length (treeBytes b) ≤ length (stxBytes out)
     → length (treeBytes (fun n b)) ≤ length (stxBytes (list c (cons h (cons i (cons out nil)))))
@@ -155,7 +151,7 @@ function-shorter c h i out n b q r =
       arith,
       length-append (numBytes 2 ++ numBytes n) (treeBytes b),
       length-append (numBytes 2) (numBytes n),
-      small-one 2 (omega arith),
+      num-one 2 (omega arith),
       num-two n q,
       list-length c (cons h (cons i (cons out nil))),
       sets-some c,
@@ -171,7 +167,7 @@ app-length f l =
     ∙ ap (λ (z : ℕ). z + length (treesBytes l))
     (length-append (numBytes 1 ++ numBytes (suc (tcount l))) (treeBytes f)
     ∙ ap (λ (z : ℕ). z + length (treeBytes f))
-    (length-append (numBytes 1) (numBytes (suc (tcount l))) ∙ ap (λ (z : ℕ). z + length (numBytes (suc (tcount l)))) (small-one 1 (omega arith))))
+    (length-append (numBytes 1) (numBytes (suc (tcount l))) ∙ ap (λ (z : ℕ). z + length (numBytes (suc (tcount l)))) (num-one 1 (omega arith))))
 
 pub application-shorter : (c : Sets) (h : Stx) (p : Stxs) (f : Tree) (l : Trees) → tcount l ≡ count p → length (treeBytes f) ≤ length (stxBytes h)
     → length (treesBytes l) ≤ length (stxsBytes p) → length (treeBytes (app f l)) ≤ length (stxBytes (list c (cons h p)))
@@ -203,7 +199,7 @@ head-same h = go (numBytes (length (h .words))) (wordsBytes (h .words)) (numByte
     go : (b c d e : List ℕ) → length (numBytes 2 ++ b ++ c ++ d ++ e) ≡ length (numBytes 1 ++ b ++ c ++ d ++ e)
     go b c d e =
         sum (numBytes 2) b c d e
-        ∙ ap (λ (z : ℕ). z + length b + length c + length d + length e) (small-one 2 (omega arith) ∙ sym (small-one 1 (omega arith)))
+        ∙ ap (λ (z : ℕ). z + length b + length c + length d + length e) (num-one 2 (omega arith) ∙ sym (num-one 1 (omega arith)))
         ∙ sym (sum (numBytes 1) b c d e)
 
 pub image-shorter : (h : Head) (l : List Bind) (r : Stx) (t : Tree) → length (treeBytes t) ≤ length (stxBytes r)

@@ -1,5 +1,7 @@
 -- How long what is written is: nothing takes no byte, and a whole is at least as long as its parts.
-use Prim.Native.Nat.{ℕ, suc, _+_, _%_, _/_, _≤_, zero-le, suc-le-suc}
+use Prim.Native.Nat.{ℕ, suc, _+_, _%_, _/_, _≤_, _<_, zero-le, suc-le-suc}
+use mathlib.Core.Path.{_≡_}
+use borrow.Author.Tests.{lt-ltb}
 use native.Mathlib.Nat.{le-refl}
 use native.Mathlib.Omega.{arith}
 use mathlib.Core.Bool.{Bool, true, false}
@@ -25,6 +27,10 @@ num-some n = go (ltb n 128)
     go : (t : Bool) → 1 ≤ length (if t then n ∷ [] else (n % 128 + 128) ∷ groupsOf 3 (n / 128))
     go true = le-refl 1
     go false = suc-le-suc zero-le
+
+pub num-one : (n : ℕ) → n < 128 → length (numBytes n) ≡ 1
+unfolding numBytes groupsOf
+num-one n h = rw (lt-ltb n 128 h)
 
 starts : (a b : List ℕ) → 1 ≤ length a → 1 ≤ length (a ++ b)
 starts a b h = omega (arith, length-append a b)

@@ -18,7 +18,7 @@ use Rattle.table.specs.declared.Cell.{Cell}
 use Rattle.things.specs.Rep.{Rep, is-var, is-app, is-fun, is-lst, is-datum, is-atom, is-list}
 use Rattle.things.specs.Measuring.{Seen, SeenP}
 use Rattle.things.proofs.ByTag.{tag-low, tag-is, content-is, fun-at, part-at, none-at}
-use Rattle.things.proofs.Measuring.{cell-inside, node-inside}
+use Rattle.things.proofs.Measuring.{cell-inside, tail-seen, node-inside}
 use Rattle.primitives.proofs.Choosing.{arity-most}
 use Rattle.evaluate.specs.Testing.{Counted, Tested, Sought, TestedP}
 
@@ -32,9 +32,6 @@ unfolding tcount
 count-none h = record { means = λ top ts r. rw (none-at r h) (omega arith) }
 
 module _ {l : List ℕ} {c : ℕ} {x : Cell} (h : ¬ (c ≡ 0)) (e : x ≡ getCell l c) where
-  pub count-seen : SeenP l c → SeenP l (x .tail)
-  count-seen r = let p = part-at (r .shown) h e in record { top = r .top; thing = p .others; shown = p .cell .shown-others; inside = r .inside; small = r .small }
-
   module _ {most n : ℕ} (k : ¬ (most ≡ 0)) (q : Counted l (x .tail) (most - 1) n) where
     pub count-fits : SeenP l c → most < 2 ^ 32 → n + 1 < 2 ^ 32
     count-fits r z = let p = part-at (r .shown) h e in omega (arith, k, q .means (r .top) (p .others) (p .cell .shown-others))
@@ -129,4 +126,4 @@ sought-parts r = record { top = r .top; thing = r .things; shown = r .shown-part
 pub able-to : {l : List ℕ} {f c n : ℕ} {y : Bool} → Counted l c 4 n → Tested l f n y → TestedP l f c y
 able-to q h = record { means = λ top t ts a d. h .means top t a ∙ ap (applicable t) (q .means top ts d) ∙ applicable-few t (tcount ts) }
 
-pub ruleset testing = (sought-value, sought-parts, able-to, cell-inside, node-inside, count-enough, count-none, count-seen, count-fits, count-more, able-fun, able-prim, able-none)
+pub ruleset testing = (sought-value, sought-parts, able-to, cell-inside, node-inside, count-enough, count-none, tail-seen, count-fits, count-more, able-fun, able-prim, able-none)

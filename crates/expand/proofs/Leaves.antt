@@ -1,7 +1,6 @@
 -- The functions that expand no part: one law for each way out.
 use mathlib.Core.Path.{_≡_, refl, sym, ap, _∙_}
 use mathlib.Core.List.{List, []}
-use mathlib.Core.Option.{none}
 use Prim.Native.Nat.{ℕ, _+_, _-_, _*_, _≤_, _<_}
 use native.Mathlib.Omega.{arith}
 use lib.ListN.{length}
@@ -22,7 +21,7 @@ use Rattle.table.specs.declared.Node.{Node}
 use Rattle.things.specs.Rep.{Rep, is-var, is-app, is-fun, is-lst, is-datum, is-atom, is-list}
 use Rattle.things.specs.Measuring.{Seen, SeenP}
 use Rattle.things.proofs.Frame.{below, carry}
-use Rattle.things.proofs.ByTag.{tag-is, tag-low}
+use Rattle.things.proofs.ByTag.{tag-is, not-syntax}
 use Rattle.steps.specs.States.{stopOf, Store, stateOf}
 use Rattle.steps.specs.Agreement as agr
 use Rattle.steps.specs.Agreement.{Later, ended, Gave, Agrees, gives, stops}
@@ -261,16 +260,6 @@ module _ {entries ph : ℕ} {st l l1 : List ℕ} {s : State} {i : ℕ} {a : Answ
         }
 
 -- ---- back from a macro's use
-
-not-syntax : {l : List ℕ} {top i : ℕ} {o : Node} {t : Tree} → Rep l top i t → o ≡ getNode l i → listTag < o .tag → asStx t ≡ none
-unfolding asStx
-not-syntax (is-var a q) e h = refl
-not-syntax (is-app a q r) e h = refl
-not-syntax (is-fun a q y r) e h = refl
-not-syntax (is-datum a q) e h = refl
-not-syntax (is-lst a q r) e h = refl
-not-syntax (is-atom {a = x} a q y) e h = absurd (omega (arith, tag-is e q, tag-low x))
-not-syntax (is-list a q y r) e h = absurd (omega (arith, tag-is e q))
 
 record SyntaxIs (t : Tree) : Type 0 where
   it : Stx

@@ -10,7 +10,8 @@ use lib.ListN.{length, take, drop, getD, set, length-append, length-set}
 use lib.Seq.{sets, length-sets, drop-cons, take-at, drop-at}
 use Rattle.model.specs.Limits.{coreNames}
 use Rattle.model.specs.Writing.{numBytes, wordsBytes, headBytes}
-use Rattle.numbers.proofs.Writing.{num-short, len-one}
+use Rattle.codec_laws.proofs.Lengths.{num-one}
+use Rattle.numbers.proofs.Writing.{num-short}
 use Rattle.model.specs.Reading as m
 use Rattle.steps.specs.declared.State.{State}
 use Rattle.head.specs.declared.Front.{Front}
@@ -54,9 +55,6 @@ pub ruleset copy-laws = (copy-start, copy-room, copy-more, copy-done)
 
 -- ---- the parts of a head
 
-kind-long : (kind : ℕ) → kind < 128 → length (numBytes kind) ≡ 1
-kind-long kind h = sym (len-one kind h)
-
 -- kind, section, and the two counts
 head-parts : (kind : ℕ) (x : m.Head) → headBytes kind x ≡ numBytes kind ++ (section (x .words) ++ (numBytes (x .names - 4 - length (x .words)) ++ numBytes (x .scopes)))
 unfolding headBytes coreNames
@@ -73,7 +71,7 @@ head-long kind h x {n} e =
     let c = length-append (section (x .words)) (numBytes (x .names - 4 - length (x .words)) ++ numBytes (x .scopes)) in
     let d = length-append (numBytes (x .names - 4 - length (x .words))) (numBytes (x .scopes)) in
     let i = ap (λ (k : ℕ). length (numBytes (x .names - 4 - k))) e in
-    omega (arith, kind-long kind h)
+    omega (arith, num-one kind h)
 
 module _ {s : List ℕ} {f : Front} (g : Headed s f) where
   end-is : f .end ≡ 1 + length (section (g .words)) + length (numBytes (f .head .names - 4 - f .head .words)) + length (numBytes (f .head .scopes))
@@ -156,7 +154,7 @@ own-words {s} {f} g start to e h =
     g .is ∙ ap (λ (l : List ℕ). l ++ g .rest) (head-parts (g .kind) (wholeHead (g .words) (f .head)))
     ∙ append-assoc (numBytes (g .kind)) (sec ++ counts) (g .rest) ∙ ap (λ (l : List ℕ). numBytes (g .kind) ++ l) (append-assoc sec counts (g .rest)) in
     let d : to - start ≡ length sec = omega arith in
-    let a : drop start s ≡ sec ++ (counts ++ g .rest) = ap (drop start) is ∙ drop-at (numBytes (g .kind)) (sec ++ (counts ++ g .rest)) start (kind-long (g .kind) (g .one-byte) ∙ sym e) in
+    let a : drop start s ≡ sec ++ (counts ++ g .rest) = ap (drop start) is ∙ drop-at (numBytes (g .kind)) (sec ++ (counts ++ g .rest)) start (num-one (g .kind) (g .one-byte) ∙ sym e) in
     ap (λ (l : List ℕ). take (to - start) l) a ∙ take-at sec (counts ++ g .rest) (to - start) (sym d)
 
 module _ {s : List ℕ} {f : Front} {kind : ℕ} {t : State} {out : List ℕ} (y : Fitting s f kind t out) where
@@ -173,11 +171,11 @@ module _ {s : List ℕ} {f : Front} {kind : ℕ} {t : State} {out : List ℕ} (y
   long = after-long G t kind (y .one-byte)
 
   pub kind-fits : 0 + length (numBytes kind) ≤ length out
-  kind-fits = omega (arith, y .fits, long, kind-long kind (y .one-byte))
+  kind-fits = omega (arith, y .fits, long, num-one kind (y .one-byte))
 
   module _ {start : ℕ} (e : start ≡ 0 + length (numBytes kind)) {out₁ : List ℕ} (o : out₁ ≡ sets out 0 (numBytes kind)) {behind : ℕ} (w : WordsEnd s f behind) where
     start-one : start ≡ 1
-    start-one = omega (arith, kind-long kind (y .one-byte))
+    start-one = omega (arith, num-one kind (y .one-byte))
 
     same-one : length out₁ ≡ length out
     same-one = ap length o ∙ length-sets out 0 (numBytes kind)

@@ -16,11 +16,11 @@ use Rattle.table.specs.Words.{getNode, getCell}
 use Rattle.table.specs.declared.Node.{Node}
 use Rattle.table.specs.declared.Cell.{Cell}
 use Rattle.things.specs.Rep.{Rep, RepP, is-atom, is-list}
-use Rattle.things.specs.Measuring.{Seen, SeenP}
+use Rattle.things.specs.Measuring.{Seen}
 use Rattle.things.proofs.Frame.{below}
-use Rattle.things.proofs.ByTag.{tag-is, ConsAt, cons-at, part-at}
+use Rattle.things.proofs.ByTag.{tag-is, ConsAt, cons-at}
 pub use Rattle.things.proofs.ByTag.{nil-at}
-use Rattle.things.proofs.Measuring.{cell-inside, node-inside}
+use Rattle.things.proofs.Measuring.{cell-inside, tail-seen, node-inside}
 use Rattle.forms.specs.Shapes.{OneAt, TwoAt, ThreeAt, oneAs, twoAs, threeAs, OneIs, TwoAre, ThreeAre, Single, Double, Triple, isIdentifier, Identifies}
 use Rattle.forms.specs.declared.One.{One}
 use Rattle.forms.specs.declared.One.the-variants as one
@@ -68,9 +68,6 @@ module _ {l : List ℕ} {c : ℕ} where
   none-triple h = record { means = λ top ps r. record { told = nil-count 2 (nil-at ps r h) } }
 
   module _ {x : Cell} (h : ¬ (c ≡ 0)) (e : x ≡ getCell l c) where
-    pub tail-seen : SeenP l c → SeenP l (x .tail)
-    tail-seen r = let p = part-at (r .shown) h e in record { top = r .top; thing = p .others; shown = p .cell .shown-others; inside = r .inside; small = r .small }
-
     pub is-single : x .tail ≡ 0 → Single l c (one.Is (x .head))
     unfolding oneAs
     is-single z =

@@ -22,23 +22,13 @@ use Rattle.things.specs.Measuring.{SeenP}
 use Rattle.things.specs.Making.{Stored, StoredObject}
 use Rattle.things.specs.declared.Made.{Made}
 use Rattle.things.proofs.Frame.{below}
-use Rattle.things.proofs.ByTag.{tag-low, tag-is, lst-at, datum-at, atom-at, list-at, part-at, none-at}
+use Rattle.things.proofs.ByTag.{tag-is, not-syntax, lst-at, datum-at, atom-at, list-at, part-at, none-at}
 use Rattle.things.proofs.Making.{made-lst, made-datum, made-atom, made-list}
 use Rattle.things.proofs.Measuring.{cell-inside}
 use Rattle.primitives.specs.Working.{ReadyToApply, wrong, Does1, Does2, stxE, mkStx, Opened, all, other, AllSyntax}
 use Rattle.primitives.specs.declared.Part.the-variants.{Wrong, Piece}
 use Rattle.primitives.proofs.Common.{node-room, read-inside, added, renamed}
 use Rattle.table.specs.Sizes.{cellSize, nodeSize}
-
-not-syntax : {l : List ℕ} {top i : ℕ} {p : Node} {t : Tree} → Rep l top i t → p ≡ getNode l i → listTag < p .tag → asStx t ≡ none
-unfolding asStx
-not-syntax (is-var a q) e h = refl
-not-syntax (is-app a q r) e h = refl
-not-syntax (is-fun a q y r) e h = refl
-not-syntax (is-datum a q) e h = refl
-not-syntax (is-lst a q r) e h = refl
-not-syntax (is-atom {a = x} a q y) e h = absurd (omega (arith, tag-is e q, tag-low x))
-not-syntax (is-list a q y r) e h = absurd (omega (arith, tag-is e q))
 
 -- ---- stx-e
 

@@ -14,9 +14,11 @@ use Rattle.model.specs.Trees.{Tree, var, app, fun, datum, lst, stx, Trees, tcon
 use Rattle.model.specs.Reading as m
 use Rattle.model.specs.Reading.{Reader, got, fault, next, need, num, numBelow, symbols, readAtom, readStx, readTrees, readApp, readTreeBody, readTree, atEnd}
 use Rattle.model.specs.Jobs.{isAmong, closed, closedAll}
+use Rattle.scopes.proofs.Members.{zeros-of}
 use Rattle.numbers.specs.Answers.{kept}
 use Rattle.roots.specs.MeasuredObjects.{readContentOf, measureStx}
 use Rattle.roots.proofs.ObjectsKept.{content-is, stx-is}
+use Rattle.head.specs.Fronts.{mostNames}
 use Rattle.head.specs.declared.Counts.{Counts}
 use Rattle.roots.specs.declared.Extent.{Extent}
 use Rattle.roots.specs.Measuring.{nothing, oneMore, joined, measureVariable, measureAtom, measureObject, measureAll, measureSeveral, functionWith, bodyWith, measureTree, thenEnd, wholeSyntax, noneAround, wholeTree}
@@ -56,17 +58,12 @@ around-more {n} {table} {l} j h a =
           (λ e. rw (e, getD-set-other table j i 1 0 (eqb-false i j e)) (a .has i k));
     }
 
-none-there : (k j : ℕ) → _≡_ {A = ℕ} (getD (replicate k 0) j 0) 0
-none-there zero j = refl
-none-there (suc k) zero = refl
-none-there (suc k) (suc j) = none-there k j
-
-pub around-none : {n : ℕ} → n ≤ 1024 → Around n noneAround []
+pub around-none : {n : ℕ} → n ≤ mostNames → Around n noneAround []
 unfolding noneAround isAmong
 around-none {n} h =
     record {
-      long = let e : length (replicate {A = ℕ} 1024 0) ≡ 1024 = length-replicate {A = ℕ} 1024 0 in omega arith;
-      has = λ j k. ap (λ (x : ℕ). not (eqb x 0)) (none-there 1024 j);
+      long = let e : length (replicate {A = ℕ} mostNames 0) ≡ mostNames = length-replicate {A = ℕ} mostNames 0 in omega arith;
+      has = λ j k. ap (λ (x : ℕ). not (eqb x 0)) (zeros-of mostNames .zeros j);
     }
 
 -- ---- extents

@@ -26,7 +26,7 @@ use Rattle.roots.specs.Points.{pointAt, numberOf}
 use Rattle.roots.proofs.PointLaws.{number-is}
 use Rattle.roots.specs.declared.points.PointRead.{PointRead}
 use Rattle.roots.specs.MeasuredObjects.{readContentOf, readTop, measureParts, measureContent, measureStx, measureList}
-use Rattle.roots.proofs.ObjectSizes.{content-tail, top-tail, object-tail, all-parts-tail, object-sized, all-parts-sized, sized-is}
+use Rattle.roots.proofs.ObjectSizes.{content-tail, top-tail, object-tail, all-parts-tail, object-sized, all-parts-sized, sized-is, Inside, inside-fits}
 
 -- ---- an atom's content
 
@@ -162,12 +162,8 @@ parts-more-is part zero sum s h = absurd (omega arith)
 parts-more-is part (suc left) sum s h = let e : left ≡ suc left - 1 = omega arith in ap (λ (k : ℕ). next (part s) (λ n. measureParts k (sum + n) part)) e
 
 module _ {at symbols scopes levels : ℕ} {s : List ℕ} {count place left sum : ℕ} (k : Parts at symbols scopes levels s count place left sum) where
-  pub parts-fit : {u : List ℕ} {m : ℕ} → u ≡ drop (place - at) s → at + length s ≤ m → place + length u ≤ m
-  parts-fit {u} e h =
-      let l = ap length e ∙ length-drop (place - at) s in
-      let x = k .moved in
-      let y = k .within in
-      omega arith
+  pub parts-inside : Inside at s place
+  parts-inside = record { moved = k .moved; within = k .within }
 
   pub parts-read : {c : Cursor} → place ≡ c .at → left ≤ 0 → Read sum c ≡ numberAt (at + length s) (measureParts count 0 (measureStx symbols scopes levels) s)
   unfolding measureParts
@@ -237,4 +233,4 @@ parts-less levels e = omega arith
 pub object-less : (levels : ℕ) {t : ℕ} → 3 * levels + 1 ≡ t → 3 * levels < t
 object-less levels e = omega arith
 
-pub ruleset object-laws = (content-tail, top-tail, object-tail, content-symbol, content-number, content-point, content-primitive, content-rung, content-none, top-stops, top-sets-stop, top-read, object-deep, object-stops, object-list, atom-stops, atom-read, list-stops, list-parts-stop, list-read, parts-small, parts-start, parts-fit, parts-read, part-stops, part-fits, part-more, list-less, parts-less, object-less)
+pub ruleset object-laws = (content-tail, top-tail, object-tail, content-symbol, content-number, content-point, content-primitive, content-rung, content-none, top-stops, top-sets-stop, top-read, object-deep, object-stops, object-list, atom-stops, atom-read, list-stops, list-parts-stop, list-read, parts-small, parts-start, parts-inside, inside-fits, parts-read, part-stops, part-fits, part-more, list-less, parts-less, object-less)

@@ -1,11 +1,11 @@
 -- What is left after a measuring is a tail, and what was measured is no larger than the bytes taken.
 use Prim.Native.Nat.{ℕ, zero, suc, _+_, _-_, _≤_}
-use mathlib.Core.Path.{_≡_, ap}
+use mathlib.Core.Path.{_≡_, ap, _∙_}
 use mathlib.Core.Bool.{Bool, true, false}
 use mathlib.Core.List.{List}
 use native.Mathlib.Omega.{arith}
 use lib.Dec.{eqb}
-use lib.ListN.{length}
+use lib.ListN.{length, drop, length-drop}
 use Rattle.model.specs.Limits.{lastPoint, lastPrimitive, lastRungWord}
 use Rattle.model.specs.Refusals.{Refusal, layout, overLimit}
 use Rattle.model.specs.Reading as m
@@ -105,3 +105,12 @@ sized-is {n = n} {rest = rest} (sized-got {n = k} {rest = t} l) e =
     let r = ap length q in
     omega arith
 sized-is sized-fault e = let z : _≡_ {A = ℕ} 0 1 = cc in absurd (omega arith)
+
+-- ---- a place behind `at`, in or at the end of s, which begins there
+
+pub record Inside (at : ℕ) (s : List ℕ) (place : ℕ) : Type 0 where
+  pub moved : at ≤ place
+  pub within : place ≤ at + length s
+
+pub inside-fits : {at place : ℕ} {s u : List ℕ} {m : ℕ} → Inside at s place → u ≡ drop (place - at) s → at + length s ≤ m → place + length u ≤ m
+inside-fits {at} {place} {s} k e h = omega (arith, ap length e ∙ length-drop (place - at) s, k .moved, k .within)

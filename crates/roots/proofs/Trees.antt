@@ -21,7 +21,7 @@ use Rattle.numbers.specs.Answers.{answerAt, numberAt}
 use Rattle.numbers.proofs.Tails.{Tail, num-tail, below-tail}
 use Rattle.numbers.proofs.Answering.{Shape, Took, took, refused, number-shape, goes, gives, refuses, stops, moved-on, kept-within}
 use Rattle.roots.specs.MeasuredObjects.{readContentOf, measureStx}
-use Rattle.roots.proofs.ObjectSizes.{content-tail, object-tail}
+use Rattle.roots.proofs.ObjectSizes.{content-tail, object-tail, Inside, inside-fits}
 use Rattle.head.specs.declared.Counts.{Counts}
 use Rattle.roots.specs.declared.Extent.{Extent}
 use Rattle.roots.specs.declared.TreeRead.{TreeRead}
@@ -220,12 +220,8 @@ all-more-is part zero sum s h = absurd (omega arith)
 all-more-is part (suc left) sum s h = let e : left ≡ suc left - 1 = omega arith in ap (λ (k : ℕ). next (part s) (λ e. measureAll k (joined sum e) part)) e
 
 module _ {at : ℕ} {k : Counts} {levels low : ℕ} {s around₀ : List ℕ} {count : ℕ} {around : List ℕ} {place left size : ℕ} {owned : Bool} (c : All at k levels low s around₀ count around place left size owned) where
-  pub all-fit : {u : List ℕ} {m : ℕ} → u ≡ drop (place - at) s → at + length s ≤ m → place + length u ≤ m
-  all-fit {u} e h =
-      let l = ap length e ∙ length-drop (place - at) s in
-      let x = c .moved in
-      let y = c .within in
-      omega arith
+  pub all-inside : Inside at s place
+  all-inside = record { moved = c .moved; within = c .within }
 
   pub all-names : {names : ℕ} → names ≤ length around₀ → names ≤ length around
   all-names h = let e = ap length (c .same) in omega arith
@@ -419,6 +415,6 @@ module _ (at : ℕ) (k : Counts) (around s : List ℕ) (none : around ≡ noneAr
 
 pub ruleset leaf-laws = (variable-stops, variable-read, name-inside, atom-stops, content-stops, atom-read, object-stops, object-read)
 
-pub ruleset tree-laws = (tree-tail, tree-moved, tree-within, tree-deep, tree-stops, tree-low, tree-goes, positive, body-variable, body-application, body-function, body-atom, body-list, body-object, body-none, several-stops, several-few, several-all-stop, several-read, all-fits, tree-fits, all-start, all-fit, all-names, all-read, part-stops, part-fits, part-more, all-same, all-long, function-stops, function-body-stops, function-read, around-back, around-long, still-inside, names-inside, name-inside, body-less, several-less, function-less, all-less, tree-less)
+pub ruleset tree-laws = (tree-tail, tree-moved, tree-within, tree-deep, tree-stops, tree-low, tree-goes, positive, body-variable, body-application, body-function, body-atom, body-list, body-object, body-none, several-stops, several-few, several-all-stop, several-read, all-fits, tree-fits, all-start, all-inside, inside-fits, all-names, all-read, part-stops, part-fits, part-more, all-same, all-long, function-stops, function-body-stops, function-read, around-back, around-long, still-inside, names-inside, name-inside, body-less, several-less, function-less, all-less, tree-less)
 
 pub ruleset root-laws = (object-tail, none-is, syntax-stops, syntax-ends, syntax-more, whole-stops, whole-ends, whole-more)

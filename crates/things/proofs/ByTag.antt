@@ -1,11 +1,12 @@
 -- What stands at an index, by the tag of its node; and at a cell. The premise is always that the node or cell was read there.
 use mathlib.Core.Path.{_≡_, refl, sym, ap, _∙_}
 use mathlib.Core.List.{List}
+use mathlib.Core.Option.{none}
 use Prim.Native.Nat.{ℕ, _+_, _-_, _≤_, _<_, min}
 use native.Mathlib.Omega.{arith}
 use Rattle.model.specs.Objects as m
 use Rattle.model.specs.Objects.{Atom, tagOf, contentOf, Stx, Stxs, nil, cons, atom, list}
-use Rattle.model.specs.Trees.{Tree, Trees, var, app, fun, datum, lst, stx, tnil, tcons, fromStxs, tsize, tnesting, tnestings}
+use Rattle.model.specs.Trees.{Tree, Trees, var, app, fun, datum, lst, stx, tnil, tcons, fromStxs, asStx, tsize, tnesting, tnestings}
 use Rattle.table.specs.Tags.{listTag, variableTag, applicationTag, functionTag, listValueTag, atomValueTag}
 use Rattle.table.specs.Words.{getNode, getSets, getBody, getCell}
 use Rattle.table.specs.declared.Node.{Node}
@@ -159,6 +160,16 @@ list-at (is-list {s = s} {ps = ps} a q y r) e h =
 pub stx-tag : {l : List ℕ} {top i : ℕ} {s : m.Stx} {o : Node} → Rep l top i (stx s) → o ≡ getNode l i → o .tag ≤ listTag
 stx-tag (is-atom {a = x} a q y) e = omega (arith, tag-is e q, tag-low x)
 stx-tag (is-list a q y r) e = omega (arith, tag-is e q)
+
+pub not-syntax : {l : List ℕ} {top i : ℕ} {o : Node} {t : Tree} → Rep l top i t → o ≡ getNode l i → listTag < o .tag → asStx t ≡ none
+unfolding asStx
+not-syntax (is-var a q) e h = refl
+not-syntax (is-app a q r) e h = refl
+not-syntax (is-fun a q y r) e h = refl
+not-syntax (is-datum a q) e h = refl
+not-syntax (is-lst a q r) e h = refl
+not-syntax (is-atom {a = x} a q y) e h = absurd (omega (arith, tag-is e q, tag-low x))
+not-syntax (is-list a q y r) e h = absurd (omega (arith, tag-is e q))
 
 -- ---- chains
 

@@ -30,6 +30,10 @@ none-measured h =
 pub cell-inside : {l : List ℕ} {c : ℕ} → SeenP l c → ¬ (c ≡ 0) → c + cellSize ≤ length l
 cell-inside r h = omega (arith, part-at (r .shown) h refl .cell .inside, r .inside)
 
+-- the chain behind the first cell
+pub tail-seen : {l : List ℕ} {c : ℕ} {x : Cell} → ¬ (c ≡ 0) → x ≡ getCell l c → SeenP l c → SeenP l (x .tail)
+tail-seen h e r = let p = part-at (r .shown) h e in record { top = r .top; thing = p .others; shown = p .cell .shown-others; inside = r .inside; small = r .small }
+
 pub cell-measured : {l : List ℕ} {c : ℕ} {x : Cell} → ¬ (c ≡ 0) → x ≡ getCell l c → MeasuredP l c (record { size = x .size; weight = x .weight; nesting = x .nesting })
 cell-measured h e =
     record { means = λ top ts r. let p = part-at r h e in rw (p .is) (record { size = p .cell .size; weight = p .cell .weight; nesting = p .cell .nesting }) }
