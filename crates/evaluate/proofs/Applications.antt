@@ -11,7 +11,7 @@ use Rattle.steps.specs.declared.Stop.{Stop}
 use Rattle.steps.specs.declared.Out.{Out}
 use Rattle.steps.specs.declared.Answer.{Answer}
 use Rattle.steps.specs.declared.Answer.the-variants.{Done, Refused}
-use Rattle.steps.specs.States.{stateOf}
+use Rattle.steps.specs.States.{noStore, stateOf}
 use Rattle.steps.specs.Agreement.{Ready, ended, gives, stops}
 use borrow.Author.Tests.{eqb-true}
 use Rattle.model.specs.Objects as objects
@@ -57,11 +57,11 @@ module _ {l : List ℕ} {s : State} {c : ℕ} {x : Cell} (e : x ≡ getCell l c)
       pub call-ready : ReadyApplication l s c → length l1 ≡ length l → ReadyCall l1 (o .state) (o .at) (x .tail)
       call-ready r len =
           let p = cons-at (r .shown) e in
-          let g = on-done (v .means (λ n. []) (r .first) (p .shown)) (ap ended k) in
+          let g = on-done (v .means noStore (r .first) (p .shown)) (ap ended k) in
           record { value = g .value; things = r .others; shown = g .shown; shown-parts = carryP (p .shown-others) (g .later .kept) (g .later .grows); room = room-later (r .room) (g .later) len }
 
       pub call-less : {T : ℕ} → ReadyApplication l s c → s .left * 4 + 2 ≡ T → o .state .left * 4 + 3 < T
-      call-less r z = let g = on-done (v .means (λ n. []) (r .first) (cons-at (r .shown) e .shown)) (ap ended k) in omega (arith, g .later .spent)
+      call-less r z = let g = on-done (v .means noStore (r .first) (cons-at (r .shown) e .shown)) (ap ended k) in omega (arith, g .later .spent)
 
       pub app-called : {l2 : List ℕ} {r : Answer} → Calls entries l1 l2 (o .state) (o .at) (x .tail) r → Applies entries l l2 s c r
       unfolding evalEntry callOf
@@ -126,20 +126,20 @@ module _ {l : List ℕ} {s : State} {f c : ℕ} {y : Bool} (h : TestedP l f c y)
     module _ {o : Values} (z : a ≡ all.All o) where
       pub apply-ready : ReadyCall l s f c → length l1 ≡ length l → ReadyApply l1 (o .state) f (o .x) (o .y) (o .z)
       apply-ready r len =
-          let g = on-done (v .means (λ n. []) (r .things) (r .shown-parts)) (ap gathered z) in
+          let g = on-done (v .means noStore (r .things) (r .shown-parts)) (ap gathered z) in
           record {
             value = r .value;
             values = g .value;
             shown = carry (r .shown) (g .later .kept) (g .later .grows);
             given = g .shown;
             able =
-                rw (each-count (λ u. evaluate entries u) (r .things) (g .value) (stateOf s (λ n. [])) (stateOf (o .state) (λ n. [])) (g .is))
+                rw (each-count (λ u. evaluate entries u) (r .things) (g .value) (stateOf s noStore) (stateOf (o .state) noStore) (g .is))
                 (sym (h .means (s .top) (r .value) (r .things) (r .shown) (r .shown-parts)) ∙ k);
             room = room-later (r .room) (g .later) len;
           }
 
       pub apply-less : {T : ℕ} → ReadyCall l s f c → s .left * 4 + 3 ≡ T → o .state .left * 4 + 2 < T
-      apply-less r w = let g = on-done (v .means (λ n. []) (r .things) (r .shown-parts)) (ap gathered z) in omega (arith, g .later .spent)
+      apply-less r w = let g = on-done (v .means noStore (r .things) (r .shown-parts)) (ap gathered z) in omega (arith, g .later .spent)
 
       pub call-applied : {l2 : List ℕ} {r : Answer} → Does entries l1 l2 (o .state) f (o .x) (o .y) (o .z) r → Calls entries l l2 s f c r
       unfolding callOf
@@ -180,13 +180,13 @@ module _ {l : List ℕ} {s : State} {c : ℕ} {x : Cell} (n : ¬ (c ≡ 0)) (e :
       pub args-tail-ready : Ready RepP l s c → length l1 ≡ length l → Ready RepP l1 (o .state) (x .tail)
       args-tail-ready r len =
           let p = part-at (r .shown) n e in
-          let g = on-done (v .means (λ n. []) (p .first) (p .cell .shown)) (ap ended k) in
+          let g = on-done (v .means noStore (p .first) (p .cell .shown)) (ap ended k) in
           record { thing = p .others; shown = carryP (p .cell .shown-others) (g .later .kept) (g .later .grows); room = room-later (r .room) (g .later) len }
 
       pub args-tail-less : {T : ℕ} → Ready RepP l s c → s .left * 4 + 2 ≡ T → o .state .left * 4 + 2 < T
       args-tail-less r z =
           let p = part-at (r .shown) n e in
-          let g = on-done (v .means (λ n. []) (p .first) (p .cell .shown)) (ap ended k) in
+          let g = on-done (v .means noStore (p .first) (p .cell .shown)) (ap ended k) in
           omega (arith, g .later .spent)
 
       module _ {l2 : List ℕ} {d : Gathered} (w : Gathers entries l1 l2 (o .state) (x .tail) d) where

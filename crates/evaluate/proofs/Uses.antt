@@ -13,7 +13,7 @@ use Rattle.steps.specs.declared.Answer.{Answer}
 use Rattle.steps.specs.declared.Answer.the-variants.{Done, Refused}
 use Rattle.steps.specs.declared.Charged.{Charged}
 use Rattle.steps.specs.declared.Charged.the-variants as charged
-use Rattle.steps.specs.States.{stateOf, enterOf}
+use Rattle.steps.specs.States.{noStore, stateOf, enterOf}
 use Rattle.steps.specs.Agreement.{Ready, ended, stops}
 use Rattle.model.specs.Refusals.{notApplicable}
 use Rattle.model.specs.Trees.{tnil, tcons, tcount, app}
@@ -55,7 +55,7 @@ module _ (entries : ℕ) (s : State) {u : State} {x : Charged} (h : x ≡ enterO
     module _ {o : Out} (k : a ≡ Done o) where
       pub value-call-ready : {i : ℕ} → ReadyOne l s f i → length l1 ≡ length l → ReadyOne l1 (o .state) (o .at) i
       value-call-ready r len =
-          let g = on-done (v .means (λ n. []) (r .value) (rw same-top at (r .shown))) (ap ended k) in
+          let g = on-done (v .means noStore (r .value) (rw same-top at (r .shown))) (ap ended k) in
           let c : Rep l (u .top) _ (r .thing) = rw same-top at (r .given) in
           record {
             value = g .value;
@@ -105,7 +105,7 @@ module _ {l : List ℕ} {s : State} {f i : ℕ} {y : Bool} (h : Tested l f 1 y) 
       pub one-apply-ready : ReadyOne l s f i → length l1 ≡ length l → ReadyApply l1 (o .state) f (o .at) 0 0
       unfolding tcount
       one-apply-ready r len =
-          let g = on-done (v .means (λ n. []) (r .thing) (r .given)) (ap ended z) in
+          let g = on-done (v .means noStore (r .thing) (r .given)) (ap ended z) in
           let none : Given l1 (o .state .top) 0 0 0 tnil = no-more in
           record {
             value = r .value;

@@ -13,7 +13,7 @@ use Rattle.table.specs.Words.{getNode, getBody, getCell}
 use Rattle.things.specs.Weights.{weights}
 use Rattle.things.specs.Rep.{Rep, is-var, is-app, is-fun, is-datum, is-none, is-part}
 use Rattle.steps.specs.declared.State.{State}
-use Rattle.steps.specs.States.{stateOf}
+use Rattle.steps.specs.States.{noStore, stateOf}
 use Rattle.steps.specs.Agreement.{Ready}
 
 -- word 0; the variable at 1; the function at 27; the number at 53; two cells; the application at 89; and free words
@@ -46,10 +46,10 @@ stands =
 pub met : Ready Rep table (start 5) 89
 met = record { thing = sample; shown = stands; room = record { fits = lit≤ tt; small = lit≤ tt; low = lit≤ tt } }
 
-pub nine : evaluate 128 sample (stateOf (start 5) (λ n. [])) ≡ ok (datum (number 9)) (record { left = 0; names = 5; scopes = 0; binds = [] })
+pub nine : evaluate 128 sample (stateOf (start 5) noStore) ≡ ok (datum (number 9)) (record { left = 0; names = 5; scopes = 0; binds = [] })
 unfolding evaluate
 nine = refl
 
-pub short : evaluate 128 sample (stateOf (start 4) (λ n. [])) ≡ no overBudget 0
+pub short : evaluate 128 sample (stateOf (start 4) noStore) ≡ no overBudget 0
 unfolding evaluate
 short = refl

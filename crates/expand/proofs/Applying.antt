@@ -10,10 +10,9 @@ use Rattle.model.specs.Trees.{fromStxs}
 use Rattle.model.specs.Expanding.{Env, expandAll, expandApplication, expand}
 use Rattle.scopes.specs.Sets.{scopesOf, Declared}
 use Rattle.scopes.specs.declared.ScopeSet.{ScopeSet}
-use Rattle.store.specs.Words.{bindsOf}
 use Rattle.things.specs.Rep.{RepP}
 use Rattle.things.proofs.Frame.{carry}
-use Rattle.steps.specs.States.{Store, stateOf}
+use Rattle.steps.specs.States.{Store, storeOf, noStore, Held, stateOf}
 use Rattle.steps.specs.Agreement.{ended, Gave, Agrees, stops}
 use Rattle.steps.specs.declared.State.{State}
 use Rattle.steps.specs.declared.Stop.{Stop}
@@ -21,7 +20,6 @@ use Rattle.steps.specs.declared.Out.{Out}
 use Rattle.steps.specs.declared.Answer.{Answer}
 use Rattle.steps.specs.declared.Answer.the-variants.{Done, Refused}
 use Rattle.steps.proofs.Laws.{then-ok, then-no, later-refl, on-done, on-refused, since}
-use Rattle.parse.specs.Shown.{Held}
 use Rattle.parse.specs.Parsing.{unpaid}
 use Rattle.environment.specs.Meanings.{RepE}
 use Rattle.scoping.specs.Changing.{objects}
@@ -53,7 +51,7 @@ module _ {at : Surroundings} {st st1 l l1 : List ℕ} (s : State) {c : ℕ} {a :
 
   module _ {o : Out} (e : a ≡ Done o) where
     parts-gave : (ps : Stxs) (g : Env) → RepP l (s .top) c (fromStxs ps) → RepE l (s .top) (at .meanings) g
-        → Gave partsOf 0 0 l l1 s (bindsOf st1) (expandAll (expansion (at .entries) (around g at)) ps (stateOf s (bindsOf st))) o
+        → Gave partsOf 0 0 l l1 s (storeOf st1) (expandAll (expansion (at .entries) (around g at)) ps (stateOf s (storeOf st))) o
     parts-gave ps g w y = on-done (v .means ps g w y) (ap ended e)
 
     pub application-list : {i : ℕ} → ReadyChain l st (unpaid s) i c at → length l1 ≡ length l → ReadyList l1 (o .state) i (o .at)
@@ -77,7 +75,7 @@ module _ {at : Surroundings} {st st1 l l1 : List ℕ} (s : State) {c : ℕ} {a :
         record {
           means = λ k ps g u w y.
               let t = parts-gave ps g w y in
-              beyond 1 twoCells 1 1 (t .later) (owes-one (o .state)) (owes-one s) (omega arith) (omega arith) (then-ok _ (t .is)) (d .means (bindsOf st1) k ps (t .value) (carry u (t .later .kept) (t .later .grows)) (t .shown .rep));
+              beyond 1 twoCells 1 1 (t .later) (owes-one (o .state)) (owes-one s) (omega arith) (omega arith) (then-ok _ (t .is)) (d .means (storeOf st1) k ps (t .value) (carry u (t .later .kept) (t .later .grows)) (t .shown .rep));
         }
 
 -- ---- what is expanded next
@@ -107,7 +105,7 @@ in-place-expanded {at} {st} {st1} {l} {l1} {x} {o} {p} {r} e wider a = record {
       let same : o ≡ n = cc in
       let v : ShownNext at l o k = rw same w in
       let there : k .there ≡ record { phase = at .phase; meanings = v .meant; prunable = scopesOf p } = v .there ∙ (λ i. record { phase = at .phase; meanings = v .meant; prunable = (sym wider) i }) in
-      let d : Agrees objects 1 twoCells l l1 (o .state) (bindsOf st1) (expand (at .entries) (k .there) (k .object) (stateOf (o .state) (bindsOf st))) (ended r) = rw there (a .means (k .object) (v .meant) (v .rep) (v .known)) in
+      let d : Agrees objects 1 twoCells l l1 (o .state) (storeOf st1) (expand (at .entries) (k .there) (k .object) (stateOf (o .state) (storeOf st))) (ended r) = rw there (a .means (k .object) (v .meant) (v .rep) (v .known)) in
       rw same at d;
   refused = λ g h. let z : _≡_ {A = ℕ} 0 1 = cc in absurd (omega arith);
 }
@@ -119,17 +117,17 @@ module _ {at : Surroundings} {l l1 : List ℕ} {s : State} {i w : ℕ} {x : Onwa
   made-of r q = v .means q (r .thing) (r .value) (r .meant) (r .shown) (r .shown-value) (r .known)
 
   pub macro-next-ready : {st : List ℕ} → ReadyMacro l s i w at → Held st s → length l1 ≡ length l → ReadyOnward l1 st x at
-  macro-next-ready r h len = onward-ready (made-of r (λ n. [])) (r .room) h len refl
+  macro-next-ready r h len = onward-ready (made-of r noStore) (r .room) h len refl
 
   pub macro-less : {T : ℕ} → ReadyMacro l s i w at → s .left * 32 + 18 ≡ T → leftOf x * 32 + 1 < T
-  macro-less r z = omega (arith, onward-less x (made-of r (λ n. [])))
+  macro-less r z = omega (arith, onward-less x (made-of r noStore))
 
   pub macro-expanded : {st st1 l2 : List ℕ} {r : Answer} → ExpandedOnward at st st1 l1 l2 x r → ExpandedMacro at st st1 l l2 s i w r
   macro-expanded {st} p =
       record {
         means = λ y t g a b k.
-            since 1 twoCells (later-refl l s) (omega arith) (omega arith) (macro-split (expansion (at .entries)) (at .entries) (around g at) (stateOf s (bindsOf st)) t y)
-            (onward-goes x (v .means (bindsOf st) y t g a b k) p);
+            since 1 twoCells (later-refl l s) (omega arith) (omega arith) (macro-split (expansion (at .entries)) (at .entries) (around g at) (stateOf s (storeOf st)) t y)
+            (onward-goes x (v .means (storeOf st) y t g a b k) p);
       }
 
 pub ruleset laws = (

@@ -11,7 +11,6 @@ use Rattle.model.specs.Steps as ms
 use Rattle.model.specs.Steps.{ok}
 use Rattle.model.specs.Expanding.{Env, expandMacro, expandEntry}
 use Rattle.refusals.specs.declared.Refusal.the-variants.{Ambiguous, NoRule}
-use Rattle.store.specs.Words.{bindsOf}
 use Rattle.table.specs.Tags.{listTag}
 use Rattle.table.specs.Words.{getNode, getCell}
 use Rattle.table.specs.declared.Node.{Node}
@@ -20,7 +19,7 @@ use Rattle.things.specs.Rep.{Rep, is-atom, is-list}
 use Rattle.things.specs.Measuring.{Seen}
 use Rattle.things.proofs.Frame.{below}
 use Rattle.things.proofs.ByTag.{tag-is, atom-at, list-at, stx-tag, same-object}
-use Rattle.steps.specs.States.{stopOf, Store, stateOf, enterOf}
+use Rattle.steps.specs.States.{stopOf, Store, storeOf, Held, stateOf, enterOf}
 use Rattle.steps.specs.Agreement.{Ended, ended, Agrees, gives, stops}
 use Rattle.steps.specs.declared.State.{State}
 use Rattle.steps.specs.declared.Stop.{Stop}
@@ -30,7 +29,6 @@ use Rattle.steps.specs.declared.Answer.the-variants.{Done, Refused}
 use Rattle.steps.specs.declared.Charged.{Charged}
 use Rattle.steps.specs.declared.Charged.the-variants as charged
 use Rattle.steps.proofs.Laws.{Went, enter-spare, enter-went, entry-refused, entry-goes, later-refl}
-use Rattle.parse.specs.Shown.{Held}
 use Rattle.parse.specs.Parsing.{unpaid}
 use Rattle.forms.proofs.Shapes.{nil-at, first-at}
 use Rattle.environment.specs.Meanings.{Known, MeansAt}
@@ -80,14 +78,14 @@ module _ (at : Surroundings) (s : State) {u : State} {x : Charged} (h : x ≡ en
       record {
         means = λ y g q k.
             let a = f .means y g (rw (top-is w) q) (rw (top-is w) k) in
-            let d : Agrees objects 1 twoCells l l1 s (bindsOf st1) (expandEntry (expansion (at .entries - 1)) (at .entries - 1) (around g at) y (stateOf u (bindsOf st))) (ended r) = rw (unpaid-is w) at a in
-            rw (entry-goes (expand-entry (around g at) y) (at .entries) s (bindsOf st) h e) d;
+            let d : Agrees objects 1 twoCells l l1 s (storeOf st1) (expandEntry (expansion (at .entries - 1)) (at .entries - 1) (around g at) y (stateOf u (storeOf st))) (ended r) = rw (unpaid-is w) at a in
+            rw (entry-goes (expand-entry (around g at) y) (at .entries) s (storeOf st) h e) d;
       }
 
 pub enter-stops : {at : Surroundings} {st : List ℕ} {s : State} {x : Charged} {f : Stop} {l : List ℕ} {i : ℕ} → x ≡ enterOf (at .entries) s → x ≡ charged.Refused f
     → Expanded at st st l l s i (Refused f)
 enter-stops {at} {st} {s} {f = f} h e =
-    record { means = λ y g q k. stops f (entry-refused (expand-entry (around g at) y) (at .entries) s (bindsOf st) h e) }
+    record { means = λ y g q k. stops f (entry-refused (expand-entry (around g at) y) (at .entries) s (storeOf st) h e) }
 
 -- ---- an entry by its tag
 
@@ -126,7 +124,7 @@ module _ {st l : List ℕ} (s : State) {i : ℕ} {at : Surroundings} {o : Node} 
         means = λ x g w k.
             let q = symbol-at w e h in
             let w2 : Rep l (s .top) i (stx (atom (q .0) (symbol (q .1 .0)))) = rw (q .1 .1) at w in
-            rw (q .1 .1, entry-symbol (expansion (at .entries)) (at .entries) (around g at) (stateOf s (bindsOf st)) (q .0) (q .1 .0)) (a .means (q .0) (q .1 .0) g w2 k);
+            rw (q .1 .1, entry-symbol (expansion (at .entries)) (at .entries) (around g at) (stateOf s (storeOf st)) (q .0) (q .1 .0)) (a .means (q .0) (q .1 .0) g w2 k);
       }
 
   pub entry-other : ReadyToExpand l st (unpaid s) i at → ¬ (o .tag ≡ listTag) → ¬ (o .tag ≡ 0) → ExpandedEntry at st st l l s i (Done (record { at = i; state = s }))
@@ -135,10 +133,10 @@ module _ {st l : List ℕ} (s : State) {i : ℕ} {at : Surroundings} {o : Node} 
       record {
         means = λ x g w k.
             let q = atom-at w e (omega (arith, stx-tag w e, n5)) in
-            let rule : expandEntry (expansion (at .entries)) (at .entries) (around g at) x (stateOf s (bindsOf st)) ≡ ok x (stateOf s (bindsOf st)) =
-            ap (λ (v : Stx). expandEntry (expansion (at .entries)) (at .entries) (around g at) v (stateOf s (bindsOf st))) (same-object (q .is))
-            ∙ entry-atom (expansion (at .entries)) (at .entries) (around g at) (stateOf s (bindsOf st)) (q .sets) (q .value) (λ t. n0 (q .tag ∙ t))
-            ∙ ap (λ (v : Stx). ok v (stateOf s (bindsOf st))) (sym (same-object (q .is))) in
+            let rule : expandEntry (expansion (at .entries)) (at .entries) (around g at) x (stateOf s (storeOf st)) ≡ ok x (stateOf s (storeOf st)) =
+            ap (λ (v : Stx). expandEntry (expansion (at .entries)) (at .entries) (around g at) v (stateOf s (storeOf st))) (same-object (q .is))
+            ∙ entry-atom (expansion (at .entries)) (at .entries) (around g at) (stateOf s (storeOf st)) (q .sets) (q .value) (λ t. n0 (q .tag ∙ t))
+            ∙ ap (λ (v : Stx). ok v (stateOf s (storeOf st))) (sym (same-object (q .is))) in
             gives _ (record {
               value = x;
               is = rule;
@@ -155,7 +153,7 @@ same-form at g y t k e a = rw e at a
 
 pub list-empty : {at : Surroundings} {st l : List ℕ} {s : State} {i c : ℕ} {r : Answer} → c ≡ 0 → r ≡ Refused (stopOf NoRule s) → ExpandedList at st st l l s i c r
 list-empty {at} {st} {l} {s} h same =
-    rw same (record { means = λ k ps g u w z. rw (nil-at ps w h) (stops _ (entry-empty (expansion (at .entries)) (at .entries) (around g at) (stateOf s (bindsOf st)) k)) })
+    rw same (record { means = λ k ps g u w z. rw (nil-at ps w h) (stops _ (entry-empty (expansion (at .entries)) (at .entries) (around g at) (stateOf s (storeOf st)) k)) })
 
 module _ {st l : List ℕ} (s : State) {i c : ℕ} {at : Surroundings} where
   pub list-inside : ReadyChain l st (unpaid s) i c at → ¬ (c ≡ 0) → c + cellSize ≤ length l
@@ -210,7 +208,7 @@ module _ {st l : List ℕ} (s : State) {i c : ℕ} {at : Surroundings} where
               means = λ k ps g u v y.
                   let q = first-at ps v h e in
                   let m = on-lambda (p .means (s .top) (q .first) g (q .cell .shown) y) z in
-                  rw (q .is, list-means (expansion (at .entries)) (at .entries) (around g at) (stateOf s (bindsOf st)) k (q .first) (q .others) m, form-lambda (expansion (at .entries)) (at .entries) (around g at) (stateOf s (bindsOf st)) k (q .first) (q .others))
+                  rw (q .is, list-means (expansion (at .entries)) (at .entries) (around g at) (stateOf s (storeOf st)) k (q .first) (q .others) m, form-lambda (expansion (at .entries)) (at .entries) (around g at) (stateOf s (storeOf st)) k (q .first) (q .others))
                   (a .means k (q .first) (q .others) g (rw (q .is) at u) (q .cell .shown) (q .cell .shown-others) y);
             }
 
@@ -220,7 +218,7 @@ module _ {st l : List ℕ} (s : State) {i c : ℕ} {at : Surroundings} where
               means = λ k ps g u v y.
                   let q = first-at ps v h e in
                   let m = on-let-syntax (p .means (s .top) (q .first) g (q .cell .shown) y) z in
-                  rw (q .is, list-means (expansion (at .entries)) (at .entries) (around g at) (stateOf s (bindsOf st)) k (q .first) (q .others) m, form-let-syntax (expansion (at .entries)) (at .entries) (around g at) (stateOf s (bindsOf st)) k (q .first) (q .others))
+                  rw (q .is, list-means (expansion (at .entries)) (at .entries) (around g at) (stateOf s (storeOf st)) k (q .first) (q .others) m, form-let-syntax (expansion (at .entries)) (at .entries) (around g at) (stateOf s (storeOf st)) k (q .first) (q .others))
                   (a .means (q .others) g (q .cell .shown-others) y);
             }
 
@@ -231,7 +229,7 @@ module _ {st l : List ℕ} (s : State) {i c : ℕ} {at : Surroundings} where
                   let q = first-at ps v h e in
                   let m = on-variable (p .means (s .top) (q .first) g (q .cell .shown) y) z in
                   let d = a .means k ps g u v y in
-                  rw (q .is, list-means (expansion (at .entries)) (at .entries) (around g at) (stateOf s (bindsOf st)) k (q .first) (q .others) (m .is), form-variable (expansion (at .entries)) (at .entries) (around g at) (stateOf s (bindsOf st)) k (q .first) (q .others) (m .sets) (m .symb))
+                  rw (q .is, list-means (expansion (at .entries)) (at .entries) (around g at) (stateOf s (storeOf st)) k (q .first) (q .others) (m .is), form-variable (expansion (at .entries)) (at .entries) (around g at) (stateOf s (storeOf st)) k (q .first) (q .others) (m .sets) (m .symb))
                   (rw (q .is) at d);
             }
 
@@ -242,7 +240,7 @@ module _ {st l : List ℕ} (s : State) {i c : ℕ} {at : Surroundings} where
                   let q = first-at ps v h e in
                   let m = on-unknown (p .means (s .top) (q .first) g (q .cell .shown) y) z in
                   let d = a .means k ps g u v y in
-                  rw (q .is, list-means (expansion (at .entries)) (at .entries) (around g at) (stateOf s (bindsOf st)) k (q .first) (q .others) m, form-unknown (expansion (at .entries)) (at .entries) (around g at) (stateOf s (bindsOf st)) k (q .first) (q .others))
+                  rw (q .is, list-means (expansion (at .entries)) (at .entries) (around g at) (stateOf s (storeOf st)) k (q .first) (q .others) m, form-unknown (expansion (at .entries)) (at .entries) (around g at) (stateOf s (storeOf st)) k (q .first) (q .others))
                   (rw (q .is) at d);
             }
 
@@ -253,8 +251,8 @@ module _ {st l : List ℕ} (s : State) {i c : ℕ} {at : Surroundings} where
                   let q = first-at ps v h e in
                   let m = on-macro (p .means (s .top) (q .first) g (q .cell .shown) y) z in
                   let d = a .means (list k ps) (m .value) g u (m .shown) y in
-                  rw (q .is, list-means (expansion (at .entries)) (at .entries) (around g at) (stateOf s (bindsOf st)) k (q .first) (q .others) (m .is), form-macro (expansion (at .entries)) (at .entries) (around g at) (stateOf s (bindsOf st)) k (q .first) (q .others) (m .value))
-                  (same-form at g (stateOf s (bindsOf st)) (m .value) k (q .is) (beyond 1 twoCells 0 1 (later-refl l s) (owes-none s) (owes-one s) (omega arith) (omega arith) refl d));
+                  rw (q .is, list-means (expansion (at .entries)) (at .entries) (around g at) (stateOf s (storeOf st)) k (q .first) (q .others) (m .is), form-macro (expansion (at .entries)) (at .entries) (around g at) (stateOf s (storeOf st)) k (q .first) (q .others) (m .value))
+                  (same-form at g (stateOf s (storeOf st)) (m .value) k (q .is) (beyond 1 twoCells 0 1 (later-refl l s) (owes-none s) (owes-one s) (omega arith) (omega arith) refl d));
             }
 
       pub list-quote : {r : Answer} → w ≡ meant.Quote → ExpandedQuote l s i (x .tail) r → ExpandedList at st st l l s i c r
@@ -263,8 +261,8 @@ module _ {st l : List ℕ} (s : State) {i c : ℕ} {at : Surroundings} where
             means = λ k ps g u v y.
                 let q = first-at ps v h e in
                 let m = on-quote (p .means (s .top) (q .first) g (q .cell .shown) y) z in
-                rw (q .is, list-means (expansion (at .entries)) (at .entries) (around g at) (stateOf s (bindsOf st)) k (q .first) (q .others) m, form-quote (expansion (at .entries)) (at .entries) (around g at) (stateOf s (bindsOf st)) k (q .first) (q .others))
-                (a .means (bindsOf st) (list k (cons (q .first) (q .others))) (q .others) (rw (q .is) at u) (q .cell .shown-others));
+                rw (q .is, list-means (expansion (at .entries)) (at .entries) (around g at) (stateOf s (storeOf st)) k (q .first) (q .others) m, form-quote (expansion (at .entries)) (at .entries) (around g at) (stateOf s (storeOf st)) k (q .first) (q .others))
+                (a .means (storeOf st) (list k (cons (q .first) (q .others))) (q .others) (rw (q .is) at u) (q .cell .shown-others));
           }
 
       pub list-syntax : {l1 : List ℕ} {r : Answer} → w ≡ meant.Syntax → ExpandedSyntax at l l1 s i (x .head) (x .tail) r → ExpandedList at st st l l1 s i c r
@@ -273,8 +271,8 @@ module _ {st l : List ℕ} (s : State) {i c : ℕ} {at : Surroundings} where
             means = λ k ps g u v y.
                 let q = first-at ps v h e in
                 let m = on-syntax (p .means (s .top) (q .first) g (q .cell .shown) y) z in
-                rw (q .is, list-means (expansion (at .entries)) (at .entries) (around g at) (stateOf s (bindsOf st)) k (q .first) (q .others) m, form-syntax (expansion (at .entries)) (at .entries) (around g at) (stateOf s (bindsOf st)) k (q .first) (q .others))
-                (a .means (bindsOf st) g k (q .first) (q .others) (rw (q .is) at u) (q .cell .shown) (q .cell .shown-others));
+                rw (q .is, list-means (expansion (at .entries)) (at .entries) (around g at) (stateOf s (storeOf st)) k (q .first) (q .others) m, form-syntax (expansion (at .entries)) (at .entries) (around g at) (stateOf s (storeOf st)) k (q .first) (q .others))
+                (a .means (storeOf st) g k (q .first) (q .others) (rw (q .is) at u) (q .cell .shown) (q .cell .shown-others));
           }
 
       pub list-is-unclear : {r : Answer} → w ≡ meant.Unclear → r ≡ Refused (stopOf Ambiguous s) → ExpandedList at st st l l s i c r
@@ -282,7 +280,7 @@ module _ {st l : List ℕ} (s : State) {i c : ℕ} {at : Surroundings} where
           rw same (record {
             means = λ k ps g u v y.
                 let q = first-at ps v h e in
-                rw (q .is) (stops _ (list-unclear (expansion (at .entries)) (at .entries) (around g at) (stateOf s (bindsOf st)) k (q .first) (q .others) (on-meaning-unclear (p .means (s .top) (q .first) g (q .cell .shown) y) z)));
+                rw (q .is) (stops _ (list-unclear (expansion (at .entries)) (at .entries) (around g at) (stateOf s (storeOf st)) k (q .first) (q .others) (on-meaning-unclear (p .means (s .top) (q .first) g (q .cell .shown) y) z)));
           })
 
 pub ruleset laws = (

@@ -11,11 +11,10 @@ use Rattle.model.specs.Steps.{after, parts2, identifier}
 use Rattle.model.specs.Expanding as m
 use Rattle.model.specs.Expanding.{variable, Env, expandLambda, bindFresh}
 use Rattle.refusals.specs.declared.Refusal.the-variants.{NoRule}
-use Rattle.store.specs.Words.{bindsOf}
 use Rattle.things.specs.Rep.{Rep}
 use Rattle.things.specs.Measuring.{Seen, SeenP}
 use Rattle.things.proofs.Frame.{carry}
-use Rattle.steps.specs.States.{stopOf, stateOf}
+use Rattle.steps.specs.States.{storeOf, stopOf, stateOf}
 use Rattle.steps.specs.Agreement.{ended, Gave, Agrees, stops}
 use Rattle.steps.specs.declared.State.{State}
 use Rattle.steps.specs.declared.Stop.{Stop}
@@ -59,7 +58,7 @@ module _ {st l : List ℕ} (s : State) {i head tail : ℕ} {at : Surroundings} w
   module _ {d : Two} (h : Double l tail d) where
     pub lambda-shape : {r : Answer} → d ≡ two.Not → r ≡ Refused (stopOf NoRule s) → ExpandedLambda at st st l l s i head tail r
     unfolding expandLambda
-    lambda-shape e same = rw same (record { means = λ k y ps g u v w z. stops _ (not-parts2 ps _ (stateOf s (bindsOf st)) (on-not-two (h .means (s .top) ps w) e)) })
+    lambda-shape e same = rw same (record { means = λ k y ps g u v w z. stops _ (not-parts2 ps _ (stateOf s (storeOf st)) (on-not-two (h .means (s .top) ps w) e)) })
 
     module _ {a b : ℕ} (e : d ≡ two.Are a b) where
       pub lambda-id-seen : ReadyForm l st (unpaid s) i head tail at → Seen l a
@@ -75,7 +74,7 @@ module _ {st l : List ℕ} (s : State) {i head tail : ℕ} {at : Surroundings} w
             rw same (record {
               means = λ k y ps g u v w c.
                   let q = on-two (h .means (s .top) ps w) e in
-                  rw (q .is) (stops _ (not-identifier (q .first) _ (stateOf s (bindsOf st)) (sym (f .means (s .top) (q .first) (q .shown)) ∙ t)));
+                  rw (q .is) (stops _ (not-identifier (q .first) _ (stateOf s (storeOf st)) (sym (f .means (s .top) (q .first) (q .shown)) ∙ t)));
             })
 
         module _ (t : z ≡ true) where
@@ -117,10 +116,10 @@ module _ {st l : List ℕ} (s : State) {i head id body : ℕ} {at : Surroundings
   module _ {st1 l1 : List ℕ} {z : Bound} (v : BindsFresh (at .phase) st st1 l l1 s id z) where
     pub function-refused : {f : Stop} → z ≡ bounds.Refused f → ExpandedFunction at st st1 l l1 s i head id body (Refused f)
     function-refused e =
-        record { means = λ k qs h c x y g u w a b t. stops _ (function-split (expansion (at .entries)) (at .entries) (around g at) (stateOf s (bindsOf st)) k h c x y ∙ then-no _ (on-refused (v .means c x a) (ap boundOf e))) }
+        record { means = λ k qs h c x y g u w a b t. stops _ (function-split (expansion (at .entries)) (at .entries) (around g at) (stateOf s (storeOf st)) k h c x y ∙ then-no _ (on-refused (v .means c x a) (ap boundOf e))) }
 
     module _ {o : Binder} (e : z ≡ bounds.Done o) where
-      bound-to : (c : Sets) (x : ℕ) → Rep l (s .top) id (stx (atom c (symbol x))) → Gave (binders x) 1 nodeSpare l l1 s (bindsOf st1) (bindFresh (at .phase) c x (stateOf s (bindsOf st))) o
+      bound-to : (c : Sets) (x : ℕ) → Rep l (s .top) id (stx (atom c (symbol x))) → Gave (binders x) 1 nodeSpare l l1 s (storeOf st1) (bindFresh (at .phase) c x (stateOf s (storeOf st))) o
       bound-to c x a = on-done (v .means c x a) (ap boundOf e)
 
       pub function-less : {T : ℕ} → s .left * 32 + 17 ≡ T → o .state .left * 32 + 16 < T
@@ -152,7 +151,7 @@ module _ {st l : List ℕ} (s : State) {i head id body : ℕ} {at : Surroundings
             means = λ k qs h c x y g u w a b t.
                 let j = bound-to c x a in
                 beyond 1 twoCells 2 1 (j .later) (owes-two (o .state)) (owes-one s) (omega arith) (omega arith)
-                (function-split (expansion (at .entries)) (at .entries) (around g at) (stateOf s (bindsOf st)) k h c x y ∙ then-ok _ (j .is))
+                (function-split (expansion (at .entries)) (at .entries) (around g at) (stateOf s (storeOf st)) k h c x y ∙ then-ok _ (j .is))
                 (f .means k qs h (j .value) x y g (carry u (j .later .kept) (j .later .grows)) (carry w (j .later .kept) (j .later .grows)) (j .shown) (carry b (j .later .kept) (j .later .grows)) (carryE t (j .later .kept) (j .later .grows)));
           }
 
@@ -175,8 +174,8 @@ abstraction-scoped-ready r =
 
 module _ {at : Surroundings} {l l1 : List ℕ} {b : Binder} {body : ℕ} {x : Onward} (v : Scoped at l l1 (b .state) b 0 (b .at) body x) where
   inside : (st : List ℕ) (k : m.Binder) (n : ℕ) (y : Stx) (g : Env) → ShownBinder n l b k → Rep l (b .state .top) body (stx y) → RepE l (b .state .top) (at .meanings) g
-      → Agrees (nexts at) 1 cellSize l l1 (b .state) (bindsOf st) (scopedRule (around g at) k (variable (k .sets) n) y (stateOf (b .state) (bindsOf st))) (onwardOf x)
-  inside st k n y g p q t = v .means (bindsOf st) k (variable (k .sets) n) y g (by-name p) (meant-variable (p .rep)) q t
+      → Agrees (nexts at) 1 cellSize l l1 (b .state) (storeOf st) (scopedRule (around g at) k (variable (k .sets) n) y (stateOf (b .state) (storeOf st))) (onwardOf x)
+  inside st k n y g p q t = v .means (storeOf st) k (variable (k .sets) n) y g (by-name p) (meant-variable (p .rep)) q t
 
   module _ {st : List ℕ} {i head : ℕ} (r : ReadyAbstraction l st b i head body at) where
     pub abstraction-next-ready : length l1 ≡ length l → ReadyOnward l1 st x at
@@ -187,7 +186,7 @@ module _ {at : Surroundings} {l l1 : List ℕ} {b : Binder} {body : ℕ} {x : On
 
   module _ {st st1 l2 : List ℕ} {a : Answer} (w : ExpandedOnward at st st1 l1 l2 x a) where
     abstraction-goes : (k : m.Binder) (n : ℕ) (y : Stx) (g : Env) → ShownBinder n l b k → Rep l (b .state .top) body (stx y) → RepE l (b .state .top) (at .meanings) g
-        → Agrees objects 2 nodeSpare l l2 (b .state) (bindsOf st1) (after (scopedRule (around g at) k (variable (k .sets) n) y (stateOf (b .state) (bindsOf st))) (furtherRule (expansion (at .entries)))) (ended a)
+        → Agrees objects 2 nodeSpare l l2 (b .state) (storeOf st1) (after (scopedRule (around g at) k (variable (k .sets) n) y (stateOf (b .state) (storeOf st))) (furtherRule (expansion (at .entries)))) (ended a)
     abstraction-goes k n y g p q t = onward-goes x (inside st k n y g p q t) w
 
     pub abstraction-refused : {i head : ℕ} {f : Stop} → a ≡ Refused f → ExpandedAbstraction at st st1 l l2 b i head body (Refused f)
@@ -196,7 +195,7 @@ module _ {at : Surroundings} {l l1 : List ℕ} {b : Binder} {body : ℕ} {x : On
 
     module _ {o : Out} (e : a ≡ Done o) where
       scoped-to : (k : m.Binder) (n : ℕ) (y : Stx) (g : Env) → ShownBinder n l b k → Rep l (b .state .top) body (stx y) → RepE l (b .state .top) (at .meanings) g
-          → Gave objects 2 nodeSpare l l2 (b .state) (bindsOf st1) (after (scopedRule (around g at) k (variable (k .sets) n) y (stateOf (b .state) (bindsOf st))) (furtherRule (expansion (at .entries)))) o
+          → Gave objects 2 nodeSpare l l2 (b .state) (storeOf st1) (after (scopedRule (around g at) k (variable (k .sets) n) y (stateOf (b .state) (storeOf st))) (furtherRule (expansion (at .entries)))) o
       scoped-to k n y g p q t = on-done (abstraction-goes k n y g p q t) (ap ended e)
 
       pub abstraction-three-ready : {i head : ℕ} → ReadyAbstraction l st b i head body at → length l1 ≡ length l → length l2 ≡ length l1 → ReadyThree l2 (o .state) i head (b .at) (o .at)
@@ -225,7 +224,7 @@ module _ {at : Surroundings} {l l1 : List ℕ} {b : Binder} {body : ℕ} {x : On
             means = λ c qs h k n y g u w2 p q t.
                 let j = scoped-to k n y g p q t in
                 beyond 2 (nodeSpare + tripleSpare) 2 2 (j .later) (owes-two (o .state)) (owes-two (b .state)) (omega arith) (omega arith) (then-ok _ (j .is))
-                (f .means (bindsOf st1) c qs h (atom (k .sets) (symbol n)) (j .value) (carry u (j .later .kept) (j .later .grows)) (carry w2 (j .later .kept) (j .later .grows)) (carry (p .rep) (j .later .kept) (j .later .grows)) (j .shown .rep));
+                (f .means (storeOf st1) c qs h (atom (k .sets) (symbol n)) (j .value) (carry u (j .later .kept) (j .later .grows)) (carry w2 (j .later .kept) (j .later .grows)) (carry (p .rep) (j .later .kept) (j .later .grows)) (j .shown .rep));
           }
 
 pub ruleset laws = (

@@ -13,13 +13,12 @@ use Rattle.model.specs.Expanding as m
 use Rattle.model.specs.Expanding.{macro, ofBody, ofResult}
 use Rattle.model.specs.Scopes.{add}
 use Rattle.scopes.specs.Sets.{Declared}
-use Rattle.store.specs.Words.{bindsOf}
 use Rattle.table.proofs.Laws.{same-trans}
 use Rattle.things.specs.Rep.{Rep}
 use Rattle.things.specs.Making.{Roomy}
 use Rattle.things.specs.declared.Made.{Made}
 use Rattle.things.proofs.Frame.{carry}
-use Rattle.steps.specs.States.{Store, stateOf, raisedTo, Room}
+use Rattle.steps.specs.States.{Store, storeOf, noStore, Held, stateOf, raisedTo, Room}
 use Rattle.steps.specs.Agreement.{ended, Gave, Agrees, gives, stops}
 use Rattle.steps.specs.declared.State.{State}
 use Rattle.steps.specs.declared.Stop.{Stop}
@@ -27,7 +26,7 @@ use Rattle.steps.specs.declared.Out.{Out}
 use Rattle.steps.specs.declared.Answer.{Answer}
 use Rattle.steps.specs.declared.Answer.the-variants.{Done, Refused}
 use Rattle.steps.proofs.Laws.{then-ok, then-no, later-trans, room-later, on-done, on-refused, since}
-use Rattle.parse.specs.Shown.{Held, trees}
+use Rattle.parse.specs.Shown.{trees}
 use Rattle.environment.specs.Meanings.{meant-macro, Extended}
 use Rattle.environment.proofs.Frame.{carryE, carryM}
 use Rattle.scoping.specs.Changing.{objects, ReadyObject, changeRule, Changes}
@@ -70,7 +69,7 @@ module _ (at : Surroundings) (b : Binder) {l l1 : List ℕ} {s : State} {body : 
 
     pub scoped-roomy : {kind thing : ℕ} → ReadyScoped l s b kind thing body at → length l1 ≡ length l → Roomy l1 (o .state .top) cellSize
     scoped-roomy r len =
-        let g = added (r .named) (λ n. []) (r .object) (r .shown-body) in
+        let g = added (r .named) noStore (r .object) (r .shown-body) in
         record { fits = omega (arith, g .later .fits, r .room .fits, len); small = omega (arith, r .room .small, len); low = omega (arith, r .room .low, g .later .grows) }
 
     pub scoped-next : {kind thing : ℕ} {l2 : List ℕ} {k : Made} {t : State} → Extended l1 l2 (o .state .top) (b .name .0) kind thing (at .meanings) (k .at) (k .top) → t ≡ raisedTo (k .top) (o .state)
@@ -116,7 +115,7 @@ module _ (at : Surroundings) {st l l1 : List ℕ} {s : State} {right : ℕ} {a :
   defined-refused e = record { means = λ k u y g n w z c. stops _ (then-no _ (on-refused (v .means u w) (ap ended e))) }
 
   module _ {o : Out} (e : a ≡ Done o) where
-    value-to : (u : Stx) → Rep l (s .top) right (stx u) → Gave trees 1 twoCells l l1 s (bindsOf st) (valueRule (at .entries) (at .phase + 1) u (stateOf s (bindsOf st))) o
+    value-to : (u : Stx) → Rep l (s .top) right (stx u) → Gave trees 1 twoCells l l1 s (storeOf st) (valueRule (at .entries) (at .phase + 1) u (stateOf s (storeOf st))) o
     value-to u w = on-done (v .means u w) (ap ended e)
 
     pub defined-scoped-ready : {b : Binder} {body : ℕ} → ReadyDefined l st s b right body at → length l1 ≡ length l → ReadyScoped l1 (o .state) b 1 (o .at) body at
@@ -142,7 +141,7 @@ module _ (at : Surroundings) {st l l1 : List ℕ} {s : State} {right : ℕ} {a :
           means = λ n u y g h w z k.
               let j = value-to u w in
               since 1 cellSize (j .later) (omega arith) (omega arith) (then-ok _ (j .is))
-              (c .means (bindsOf st) n (macro (j .value)) y g h (meant-macro (j .shown .rep)) (carry z (j .later .kept) (j .later .grows)) (carryE k (j .later .kept) (j .later .grows)));
+              (c .means (storeOf st) n (macro (j .value)) y g h (meant-macro (j .shown .rep)) (carry z (j .later .kept) (j .later .grows)) (carryE k (j .later .kept) (j .later .grows)));
         }
 
 -- ---- what a macro makes of its use
@@ -160,11 +159,11 @@ module _ (at : Surroundings) {l l1 : List ℕ} {s : State} {i : ℕ} {z : Markin
     marked-to q x a = on-done (v .means q x a) (ap markingOf e)
 
     pub rewritten-declared : {w : ℕ} → ReadyMacro l s i w at → Declared (o .intro)
-    rewritten-declared r = marked-to (λ n. []) (r .thing) (r .shown) .shown .intro-declared
+    rewritten-declared r = marked-to noStore (r .thing) (r .shown) .shown .intro-declared
 
     pub rewritten-ready : {w : ℕ} → ReadyMacro l s i w at → length l1 ≡ length l → ReadyTranscribed l1 (o .state) w (o .at)
     rewritten-ready r len =
-        let g = marked-to (λ n. []) (r .thing) (r .shown) in
+        let g = marked-to noStore (r .thing) (r .shown) in
         record {
           value = r .value;
           thing = g .value .object;
@@ -224,8 +223,8 @@ onward-ready a r h len len2 =
           record { further = g .value; shown = g .shown; room = room-later r (g .later) len; held = record { few = g .shown .few; wide = omega (arith, h .wide, len2) } };
     }
 
-pub onward-goes : {at : Surroundings} {st st1 l l1 l2 : List ℕ} {s : State} {q : ms.Out Further} {r : Answer} (x : Onward) → Agrees (nexts at) 1 cellSize l l1 s (bindsOf st) q (onwardOf x) → ExpandedOnward at st st1 l1 l2 x r
-    → Agrees objects 2 nodeSpare l l2 s (bindsOf st1) (after q (furtherRule (expansion (at .entries)))) (ended r)
+pub onward-goes : {at : Surroundings} {st st1 l l1 l2 : List ℕ} {s : State} {q : ms.Out Further} {r : Answer} (x : Onward) → Agrees (nexts at) 1 cellSize l l1 s (storeOf st) q (onwardOf x) → ExpandedOnward at st st1 l1 l2 x r
+    → Agrees objects 2 nodeSpare l l2 s (storeOf st1) (after q (furtherRule (expansion (at .entries)))) (ended r)
 onward-goes (onward.Done o) a e = let j = on-done a refl in since 2 nodeSpare (j .later) (omega arith) (omega arith) (then-ok _ (j .is)) (e .means o (j .value) refl (j .shown))
 onward-goes (onward.Refused f) a e = rw (e .refused f refl) (stops f (then-no _ (on-refused a refl)))
 

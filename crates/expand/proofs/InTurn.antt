@@ -9,8 +9,7 @@ use Rattle.model.specs.Trees.{stx, fromStxs}
 use Rattle.model.specs.Steps as m
 use Rattle.model.specs.Steps.{ok, after}
 use Rattle.model.specs.Expanding.{Env, expandAll, expand}
-use Rattle.store.specs.Words.{bindsOf}
-use Rattle.steps.specs.States.{stateOf, raisedTo, end}
+use Rattle.steps.specs.States.{storeOf, stateOf, raisedTo, end}
 use Rattle.steps.specs.Agreement.{Later, ended, Gave, gives, stops}
 use Rattle.steps.specs.declared.State.{State}
 use Rattle.steps.specs.declared.Stop.{Stop}
@@ -61,7 +60,7 @@ pub record Half (at : Surroundings) (st st′ l : List ℕ) (s t : State) (from 
   pub done : Stxs
   pub shown : RepP l (t .top) from (fromStxs rest)
   pub made : RepP l (t .top) turned (fromStxs done)
-  pub whole : all at e ps (stateOf s (bindsOf st)) ≡ after (all at e rest (stateOf t (bindsOf st′))) (handedOn done)
+  pub whole : all at e ps (stateOf s (storeOf st)) ≡ after (all at e rest (stateOf t (storeOf st′))) (handedOn done)
   pub fits : end t + cellSize * counts (fromStxs done) ≤ end s
 
 pub record Going (at : Surroundings) (st l : List ℕ) (s : State) (c : ℕ) (st′ l′ : List ℕ) (t : State) (from turned : ℕ) : Type 0 where
@@ -87,7 +86,7 @@ parts-start {at} {st} {l} {s} r = record {
     done = nil;
     shown = w;
     made = is-none;
-    whole = sym (after-done (all at e ps (stateOf s (bindsOf st))));
+    whole = sym (after-done (all at e ps (stateOf s (storeOf st))));
     fits = omega arith;
   };
 }
@@ -123,13 +122,13 @@ module _ {at : Surroundings} {st l : List ℕ} {s : State} {c : ℕ} (r : ReadyP
           means = λ ps d w y.
               let h = g .means ps d w y in
               let q = first-at (h .rest) (h .shown) n e in
-              stops _ (h .whole ∙ ap (λ (z : Stxs). after (all at d z (stateOf t (bindsOf st1))) (handedOn (h .done))) (q .is)
+              stops _ (h .whole ∙ ap (λ (z : Stxs). after (all at d z (stateOf t (storeOf st1))) (handedOn (h .done))) (q .is)
               ∙ then-no _ (then-no _ (on-refused (v .means (q .first) d (q .cell .shown) (carryE y (g .kept) (g .grows))) (ap ended k))));
         }
 
         module _ {o : Out} (k : a ≡ Done o) where
           gave : (z : Stx) (d : Env) → Rep l1 (t .top) (x .head) (stx z) → RepE l1 (t .top) (at .meanings) d
-              → Gave objects 1 twoCells l1 l2 t (bindsOf st2) (expand (at .entries) (around d at) z (stateOf t (bindsOf st1))) o
+              → Gave objects 1 twoCells l1 l2 t (storeOf st2) (expand (at .entries) (around d at) z (stateOf t (storeOf st1))) o
           gave z d w y = on-done (v .means z d w y) (ap ended k)
 
           linkable : {i : ℕ} {z : Stx} → length l2 ≡ length l1 → Rep l2 (o .state .top) i (stx z) → Linkable l2 (o .state .top) i turned
@@ -180,9 +179,9 @@ module _ {at : Surroundings} {st l : List ℕ} {s : State} {c : ℕ} (r : ReadyP
                       shown = carryP (carryP (q .cell .shown-others) (j .later .kept) (j .later .grows)) (y .kept) (omega (arith, y .grows));
                       made = y .means (stx (j .value)) (fromStxs (h .done)) (j .shown .rep) (carryP (h .made) (j .later .kept) (j .later .grows));
                       whole =
-                          h .whole ∙ ap (λ (z1 : Stxs). after (all at env z1 (stateOf t (bindsOf st1))) (handedOn (h .done))) (q .is)
+                          h .whole ∙ ap (λ (z1 : Stxs). after (all at env z1 (stateOf t (storeOf st1))) (handedOn (h .done))) (q .is)
                           ∙ ap (λ (z1 : m.Out Stxs). after z1 (handedOn (h .done))) (then-ok _ (j .is))
-                          ∙ after-after (all at env (q .others) (stateOf (o .state) (bindsOf st2))) (λ us. λ y1. ok (cons (j .value) us) y1) (handedOn (h .done));
+                          ∙ after-after (all at env (q .others) (stateOf (o .state) (storeOf st2))) (λ us. λ y1. ok (cons (j .value) us) y1) (handedOn (h .done));
                       fits = omega (arith, more, h .fits, j .later .fits, y .grows);
                     };
               })
@@ -200,7 +199,7 @@ parts-turned {at} {st} {l} {s} {c} {st1} {l1} {t} {from} {turned} g z {l2} {d} {
           let k = y .means (fromStxs (h .done)) (h .made) in
           rw e (gives (record { at = d .at; state = raisedTo (d .top) t }) (record {
             value = turnObjects (h .done) nil;
-            is = h .whole ∙ ap (λ (z1 : Stxs). after (all at env z1 (stateOf t (bindsOf st1))) (handedOn (h .done))) (nil-at (h .rest) (h .shown) z);
+            is = h .whole ∙ ap (λ (z1 : Stxs). after (all at env z1 (stateOf t (storeOf st1))) (handedOn (h .done))) (nil-at (h .rest) (h .shown) z);
             shown = record { rep = rw (from-turned (h .done) nil) at (k .0); few = g .few };
             later = record {
               kept = same-trans (s .top) (t .top) l l1 l2 (g .grows) (g .kept) (y .kept);

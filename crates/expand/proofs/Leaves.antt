@@ -22,7 +22,7 @@ use Rattle.things.specs.Rep.{Rep, is-var, is-app, is-fun, is-lst, is-datum, is-
 use Rattle.things.specs.Measuring.{Seen, SeenP}
 use Rattle.things.proofs.Frame.{below, carry}
 use Rattle.things.proofs.ByTag.{tag-is, not-syntax}
-use Rattle.steps.specs.States.{stopOf, Store, stateOf}
+use Rattle.steps.specs.States.{stopOf, Store, storeOf, noStore, stateOf}
 use Rattle.steps.specs.Agreement as agr
 use Rattle.steps.specs.Agreement.{Later, ended, Gave, Agrees, gives, stops}
 use Rattle.steps.specs.declared.State.{State}
@@ -98,7 +98,7 @@ module _ {l st : List ℕ} (s : State) {i : ℕ} {at : Surroundings} (r : ReadyN
               let q = on-variable (p .means (s .top) (atom c (symbol x)) e u k) z in
               gives _ (record {
                 value = atom (q .sets) (symbol (q .symb));
-                is = name-split (around e at) c x (stateOf s (bindsOf st)) ∙ then-ok _ (head-means (at .phase) e (stateOf s (bindsOf st)) (atom c (symbol x)) (q .is));
+                is = name-split (around e at) c x (stateOf s (storeOf st)) ∙ then-ok _ (head-means (at .phase) e (stateOf s (storeOf st)) (atom c (symbol x)) (q .is));
                 shown = record { rep = q .shown; few = r .within .held .few };
                 later = unmade l s;
               });
@@ -107,36 +107,36 @@ module _ {l st : List ℕ} (s : State) {i : ℕ} {at : Surroundings} (r : ReadyN
     pub name-unknown : {r : Answer} → w ≡ meant.Unknown → r ≡ Refused (stopOf NoMeaning s) → ExpandedName at st l s i r
     unfolding expandName
     name-unknown z same =
-        rw same (record { means = λ c x e u k. stops _ (name-split (around e at) c x (stateOf s (bindsOf st)) ∙ then-ok _ (head-means (at .phase) e (stateOf s (bindsOf st)) (atom c (symbol x)) (on-unknown (p .means (s .top) (atom c (symbol x)) e u k) z))) })
+        rw same (record { means = λ c x e u k. stops _ (name-split (around e at) c x (stateOf s (storeOf st)) ∙ then-ok _ (head-means (at .phase) e (stateOf s (storeOf st)) (atom c (symbol x)) (on-unknown (p .means (s .top) (atom c (symbol x)) e u k) z))) })
 
     pub name-unclear : {r : Answer} → w ≡ meant.Unclear → r ≡ Refused (stopOf Ambiguous s) → ExpandedName at st l s i r
     name-unclear z same =
-        rw same (record { means = λ c x e u k. stops _ (name-split (around e at) c x (stateOf s (bindsOf st)) ∙ then-no _ (head-unclear (at .phase) e (stateOf s (bindsOf st)) (atom c (symbol x)) (on-meaning-unclear (p .means (s .top) (atom c (symbol x)) e u k) z))) })
+        rw same (record { means = λ c x e u k. stops _ (name-split (around e at) c x (stateOf s (storeOf st)) ∙ then-no _ (head-unclear (at .phase) e (stateOf s (storeOf st)) (atom c (symbol x)) (on-meaning-unclear (p .means (s .top) (atom c (symbol x)) e u k) z))) })
 
     pub name-lambda : {r : Answer} → w ≡ meant.Lambda → r ≡ Refused (stopOf NoRule s) → ExpandedName at st l s i r
     unfolding expandName
     name-lambda z same =
-        rw same (record { means = λ c x e u k. stops _ (name-split (around e at) c x (stateOf s (bindsOf st)) ∙ then-ok _ (head-means (at .phase) e (stateOf s (bindsOf st)) (atom c (symbol x)) (on-lambda (p .means (s .top) (atom c (symbol x)) e u k) z))) })
+        rw same (record { means = λ c x e u k. stops _ (name-split (around e at) c x (stateOf s (storeOf st)) ∙ then-ok _ (head-means (at .phase) e (stateOf s (storeOf st)) (atom c (symbol x)) (on-lambda (p .means (s .top) (atom c (symbol x)) e u k) z))) })
 
     pub name-let-syntax : {r : Answer} → w ≡ meant.LetSyntax → r ≡ Refused (stopOf NoRule s) → ExpandedName at st l s i r
     unfolding expandName
     name-let-syntax z same =
-        rw same (record { means = λ c x e u k. stops _ (name-split (around e at) c x (stateOf s (bindsOf st)) ∙ then-ok _ (head-means (at .phase) e (stateOf s (bindsOf st)) (atom c (symbol x)) (on-let-syntax (p .means (s .top) (atom c (symbol x)) e u k) z))) })
+        rw same (record { means = λ c x e u k. stops _ (name-split (around e at) c x (stateOf s (storeOf st)) ∙ then-ok _ (head-means (at .phase) e (stateOf s (storeOf st)) (atom c (symbol x)) (on-let-syntax (p .means (s .top) (atom c (symbol x)) e u k) z))) })
 
     pub name-quote : {r : Answer} → w ≡ meant.Quote → r ≡ Refused (stopOf NoRule s) → ExpandedName at st l s i r
     unfolding expandName
     name-quote z same =
-        rw same (record { means = λ c x e u k. stops _ (name-split (around e at) c x (stateOf s (bindsOf st)) ∙ then-ok _ (head-means (at .phase) e (stateOf s (bindsOf st)) (atom c (symbol x)) (on-quote (p .means (s .top) (atom c (symbol x)) e u k) z))) })
+        rw same (record { means = λ c x e u k. stops _ (name-split (around e at) c x (stateOf s (storeOf st)) ∙ then-ok _ (head-means (at .phase) e (stateOf s (storeOf st)) (atom c (symbol x)) (on-quote (p .means (s .top) (atom c (symbol x)) e u k) z))) })
 
     pub name-syntax : {r : Answer} → w ≡ meant.Syntax → r ≡ Refused (stopOf NoRule s) → ExpandedName at st l s i r
     unfolding expandName
     name-syntax z same =
-        rw same (record { means = λ c x e u k. stops _ (name-split (around e at) c x (stateOf s (bindsOf st)) ∙ then-ok _ (head-means (at .phase) e (stateOf s (bindsOf st)) (atom c (symbol x)) (on-syntax (p .means (s .top) (atom c (symbol x)) e u k) z))) })
+        rw same (record { means = λ c x e u k. stops _ (name-split (around e at) c x (stateOf s (storeOf st)) ∙ then-ok _ (head-means (at .phase) e (stateOf s (storeOf st)) (atom c (symbol x)) (on-syntax (p .means (s .top) (atom c (symbol x)) e u k) z))) })
 
     pub name-macro : {v : ℕ} {r : Answer} → w ≡ meant.Macro v → r ≡ Refused (stopOf NoRule s) → ExpandedName at st l s i r
     unfolding expandName
     name-macro z same =
-        rw same (record { means = λ c x e u k. stops _ (name-split (around e at) c x (stateOf s (bindsOf st)) ∙ then-ok _ (head-means (at .phase) e (stateOf s (bindsOf st)) (atom c (symbol x)) (on-macro (p .means (s .top) (atom c (symbol x)) e u k) z .is))) })
+        rw same (record { means = λ c x e u k. stops _ (name-split (around e at) c x (stateOf s (storeOf st)) ∙ then-ok _ (head-means (at .phase) e (stateOf s (storeOf st)) (atom c (symbol x)) (on-macro (p .means (s .top) (atom c (symbol x)) e u k) z .is))) })
 
 -- ---- quote and syntax
 
@@ -195,7 +195,7 @@ module _ {l : List ℕ} (s : State) {i head x : ℕ} (r : ReadyPruned l (unpaid 
       pub prune-two : length l1 ≡ length l → ReadyTwo l1 (o .state) i head (o .at)
       unfolding unpaid
       prune-two len =
-          let g = pruned-to (λ n. []) (r .thing) (r .shown-thing) in
+          let g = pruned-to noStore (r .thing) (r .shown-thing) in
           record {
             sets = r .sets;
             old = r .old;
@@ -221,9 +221,9 @@ module _ {l : List ℕ} (s : State) {i head x : ℕ} (r : ReadyPruned l (unpaid 
 
 -- ---- values
 
-few-after : (s : State) (o : Out) (st : List ℕ) (d : ℕ) (t : Tree) {v : Tree} → s .bindings ≤ 512 → evaluate d t (stateOf s (bindsOf st)) ≡ ok v (stateOf (o .state) (bindsOf st)) → o .state .bindings ≤ 512
+few-after : (s : State) (o : Out) (st : List ℕ) (d : ℕ) (t : Tree) {v : Tree} → s .bindings ≤ 512 → evaluate d t (stateOf s (storeOf st)) ≡ ok v (stateOf (o .state) (storeOf st)) → o .state .bindings ≤ 512
 few-after s o st d t {v} h e =
-    let k : bindsOf st (o .state .bindings) ≡ bindsOf st (s .bindings) = evaluate-keeps d t .kept (stateOf s (bindsOf st)) (stateOf (o .state) (bindsOf st)) v e in
+    let k : bindsOf st (o .state .bindings) ≡ bindsOf st (s .bindings) = evaluate-keeps d t .kept (stateOf s (storeOf st)) (stateOf (o .state) (storeOf st)) v e in
     let n : length (bindsOf st (o .state .bindings)) ≡ length (bindsOf st (s .bindings)) = ap length k in
     omega (arith, n, binds-length st (o .state .bindings), binds-length st (s .bindings))
 
@@ -236,7 +236,7 @@ module _ {entries ph : ℕ} {st l l1 : List ℕ} {s : State} {i : ℕ} {a : Answ
   value-refused e = record { means = λ x w. stops _ (then-no _ (on-refused (v .means x w) (ap ended e))) }
 
   module _ {o : Out} (e : a ≡ Done o) where
-    parsed-to : (x : Stx) → Rep l (s .top) i (stx x) → Gave trees 1 twoCells l l1 s (bindsOf st) (parse entries ph x (stateOf s (bindsOf st))) o
+    parsed-to : (x : Stx) → Rep l (s .top) i (stx x) → Gave trees 1 twoCells l l1 s (storeOf st) (parse entries ph x (stateOf s (storeOf st))) o
     parsed-to x w = on-done (v .means x w) (ap ended e)
 
     pub value-evaluate : ReadyValue l st s i → length l1 ≡ length l → agr.Ready Rep l1 (o .state) (o .at)
@@ -246,7 +246,7 @@ module _ {entries ph : ℕ} {st l l1 : List ℕ} {s : State} {i : ℕ} {a : Answ
 
     -- with what is known of bindings
     as-tree : (t : Tree) {s1 : State} {l2 : List ℕ} {q : agr.Ended Out} → s1 .bindings ≤ 512
-        → Agrees (agr.placed Rep) 1 unitSize l1 l2 s1 (bindsOf st) (evaluate entries t (stateOf s1 (bindsOf st))) q → Agrees trees 1 unitSize l1 l2 s1 (bindsOf st) (evaluate entries t (stateOf s1 (bindsOf st))) q
+        → Agrees (agr.placed Rep) 1 unitSize l1 l2 s1 (storeOf st) (evaluate entries t (stateOf s1 (storeOf st))) q → Agrees trees 1 unitSize l1 l2 s1 (storeOf st) (evaluate entries t (stateOf s1 (storeOf st))) q
     as-tree t {s1} h (gives p g) = gives p (record { value = g .value; is = g .is; shown = record { rep = g .shown; few = few-after s1 p st entries t h (g .is) }; later = g .later })
     as-tree t h (stops f g) = stops f g
 
@@ -256,7 +256,7 @@ module _ {entries ph : ℕ} {st l l1 : List ℕ} {s : State} {i : ℕ} {a : Answ
         record {
           means = λ x w.
               let g = parsed-to x w in
-              since 1 twoCells (g .later) (omega arith) (omega arith) (then-ok _ (g .is)) (as-tree (g .value) (g .shown .few) (d .means (bindsOf st) (g .value) (g .shown .rep)));
+              since 1 twoCells (g .later) (omega arith) (omega arith) (then-ok _ (g .is)) (as-tree (g .value) (g .shown .few) (d .means (storeOf st) (g .value) (g .shown .rep)));
         }
 
 -- ---- back from a macro's use
@@ -306,7 +306,7 @@ module _ {entries : ℕ} {l l1 : List ℕ} {s : State} {v form : ℕ} {a : Answe
 
     pub apply-back : ReadyTranscribed l s v form → length l1 ≡ length l → ReadyBack l1 (o .state) (o .at)
     apply-back r len =
-        let g = applied-to (bindsOf []) (r .value) (r .thing) (r .shown) (r .shown-form) in
+        let g = applied-to (storeOf []) (r .value) (r .thing) (r .shown) (r .shown-form) in
         record {
           thing = g .value;
           shown = g .shown;

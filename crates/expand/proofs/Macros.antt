@@ -16,11 +16,10 @@ use Rattle.model.specs.Expanding.{ofRightHandSide, Env, coreOnly, expandLetSynt
 use Rattle.refusals.specs.declared.Refusal.the-variants.{NoRule, NoPhase}
 use Rattle.scopes.specs.Sets.{scopesOf}
 use Rattle.scopes.specs.declared.ScopeSet.{ScopeSet}
-use Rattle.store.specs.Words.{bindsOf}
 use Rattle.things.specs.Rep.{Rep}
 use Rattle.things.specs.Measuring.{Seen, SeenP}
 use Rattle.things.proofs.Frame.{carry}
-use Rattle.steps.specs.States.{stopOf, stateOf}
+use Rattle.steps.specs.States.{storeOf, stopOf, stateOf}
 use Rattle.steps.specs.Agreement.{ended, Gave, Agrees, stops}
 use Rattle.steps.specs.declared.State.{State}
 use Rattle.steps.specs.declared.Stop.{Stop}
@@ -64,7 +63,7 @@ module _ {st l : List ℕ} (s : State) {tail : ℕ} {at : Surroundings} where
   module _ {d : Three} (h : Triple l tail d) where
     pub let-shape : {r : Answer} → d ≡ three.Not → r ≡ Refused (stopOf NoRule s) → ExpandedLetSyntax at st st l l s tail r
     unfolding expandLetSyntax
-    let-shape e same = rw same (record { means = λ ps g w z. stops _ (not-parts3 ps _ (stateOf s (bindsOf st)) (on-not-three (h .means (s .top) ps w) e)) })
+    let-shape e same = rw same (record { means = λ ps g w z. stops _ (not-parts3 ps _ (stateOf s (storeOf st)) (on-not-three (h .means (s .top) ps w) e)) })
 
     module _ {a b c : ℕ} (e : d ≡ three.Are a b c) where
       pub let-id-seen : ReadyLet l st (unpaid s) tail at → Seen l a
@@ -80,7 +79,7 @@ module _ {st l : List ℕ} (s : State) {tail : ℕ} {at : Surroundings} where
             rw same (record {
               means = λ ps g w k.
                   let q = on-three (h .means (s .top) ps w) e in
-                  rw (q .is) (stops _ (not-identifier (q .first) _ (stateOf s (bindsOf st)) (sym (f .means (s .top) (q .first) (q .shown)) ∙ t)));
+                  rw (q .is) (stops _ (not-identifier (q .first) _ (stateOf s (storeOf st)) (sym (f .means (s .top) (q .first) (q .shown)) ∙ t)));
             })
 
         module _ (t : z ≡ true) where
@@ -92,7 +91,7 @@ module _ {st l : List ℕ} (s : State) {tail : ℕ} {at : Surroundings} where
               record { binder = n .sets; symb = n .symb; thing = q .second; object = q .third; shown = rw (n .is) at (q .shown); shown-right = q .shown-second; shown-body = q .shown-third; within = within-paid s (r .within) }
 
           module _ {st1 l1 : List ℕ} {x : Onward} (v : OnwardBinding at st st1 l l1 s a b c x) where
-            let-inside : (r : ReadyBinding l st s a b c at) → Agrees (nexts at) 1 cellSize l l1 s (bindsOf st1) (bindingRule (expansion (at .entries)) (at .entries) (around (r .within .meant) at) (r .binder) (r .symb) (r .thing) (r .object) (stateOf s (bindsOf st))) (onwardOf x)
+            let-inside : (r : ReadyBinding l st s a b c at) → Agrees (nexts at) 1 cellSize l l1 s (storeOf st1) (bindingRule (expansion (at .entries)) (at .entries) (around (r .within .meant) at) (r .binder) (r .symb) (r .thing) (r .object) (stateOf s (storeOf st))) (onwardOf x)
             let-inside r = v .means (r .binder) (r .symb) (r .thing) (r .object) (r .within .meant) (r .shown) (r .shown-right) (r .shown-body) (r .within .known)
 
             pub let-next-ready : ReadyLet l st (unpaid s) tail at → length l1 ≡ length l → length st1 ≡ length st → ReadyOnward l1 st1 x at
@@ -109,7 +108,7 @@ module _ {st l : List ℕ} (s : State) {tail : ℕ} {at : Surroundings} where
                       let q = on-three (h .means (s .top) ps w) e in
                       let n = is-identifier (q .first) (sym (f .means (s .top) (q .first) (q .shown)) ∙ t) in
                       let y = onward-goes x (v .means (n .sets) (n .symb) (q .second) (q .third) g (rw (n .is) at (q .shown)) (q .shown-second) (q .shown-third) k) p in
-                      rw (q .is, n .is) (beyond 1 twoCells 0 1 (later-refl l s) (owes-none s) (owes-one s) (omega arith) (omega arith) (binding-split (expansion (at .entries)) (at .entries) (around g at) (stateOf s (bindsOf st)) (n .sets) (n .symb) (q .second) (q .third)) y);
+                      rw (q .is, n .is) (beyond 1 twoCells 0 1 (later-refl l s) (owes-none s) (owes-one s) (omega arith) (omega arith) (binding-split (expansion (at .entries)) (at .entries) (around g at) (stateOf s (storeOf st)) (n .sets) (n .symb) (q .second) (q .third)) y);
                 }
 
 -- ---- binding
@@ -124,7 +123,7 @@ module _ {st l : List ℕ} {s : State} {id right body : ℕ} {at : Surroundings}
     binding-refused e = record { means = λ c x u y g a b w k. stops _ (then-no _ (on-refused (v .means c x a) (ap boundOf e))) }
 
     module _ {o : Binder} (e : z ≡ bounds.Done o) where
-      let-bound : (c : Sets) (x : ℕ) → Rep l (s .top) id (stx (atom c (symbol x))) → Gave (binders x) 1 nodeSpare l l1 s (bindsOf st1) (bindFresh (at .phase) c x (stateOf s (bindsOf st))) o
+      let-bound : (c : Sets) (x : ℕ) → Rep l (s .top) id (stx (atom c (symbol x))) → Gave (binders x) 1 nodeSpare l l1 s (storeOf st1) (bindFresh (at .phase) c x (stateOf s (storeOf st))) o
       let-bound c x a = on-done (v .means c x a) (ap boundOf e)
 
       pub binding-less : {T : ℕ} → s .left * 32 + 17 ≡ T → o .state .left * 32 + 18 < T
@@ -160,22 +159,22 @@ rhs-up at h = omega arith
 
 pub rhs-phase : {st l : List ℕ} {b : Binder} {right body : ℕ} {at : Surroundings} → 2 ≤ at .phase → OnwardRhs at st st l l b right body (onward.Refused (record { refusal = NoPhase; left = b .state .left }))
 unfolding rhsRule lastPhase
-rhs-phase {st} {b = b} {at = at} h = record { means = λ n u y g d w z k. stops _ (then-no _ (unless-no ref.noPhase (stateOf (b .state) (bindsOf st)) (lt-leb (at .phase + 1) 2 (omega arith)))) }
+rhs-phase {st} {b = b} {at = at} h = record { means = λ n u y g d w z k. stops _ (then-no _ (unless-no ref.noPhase (stateOf (b .state) (storeOf st)) (lt-leb (at .phase + 1) 2 (omega arith)))) }
 
 -- of the right-hand side
 abbrev aboveOf : Surroundings → ScopeSet → Surroundings
 aboveOf at p = record { entries = at .entries; phase = at .phase + 1; meanings = 0; prunable = p }
 
 module _ {st l : List ℕ} {s : State} {right : ℕ} (at : Surroundings) (h : at .phase < 2) {p : ScopeSet} (f : scopesOf p ≡ 0) {st1 l1 : List ℕ} {a : Answer} (v : Expanded (aboveOf at p) st st1 l l1 s right a) where
-  above : (g : Env) (u : Stx) → Rep l (s .top) right (stx u) → Agrees objects 1 twoCells l l1 s (bindsOf st1) (expand (at .entries) (ofRightHandSide (around g at)) u (stateOf s (bindsOf st))) (ended a)
+  above : (g : Env) (u : Stx) → Rep l (s .top) right (stx u) → Agrees objects 1 twoCells l l1 s (storeOf st1) (expand (at .entries) (ofRightHandSide (around g at)) u (stateOf s (storeOf st))) (ended a)
   above g u w = rw f at (v .means u coreOnly w is-core)
 
-  starts : (g : Env) (k : m.Binder) (u y : Stx) → rhsRule (expansion (at .entries)) (at .entries) (around g at) k u y (stateOf s (bindsOf st))
-      ≡ after (expand (at .entries) (ofRightHandSide (around g at)) u (stateOf s (bindsOf st))) (λ t. definedRule (at .entries) (around g at) k t y)
+  starts : (g : Env) (k : m.Binder) (u y : Stx) → rhsRule (expansion (at .entries)) (at .entries) (around g at) k u y (stateOf s (storeOf st))
+      ≡ after (expand (at .entries) (ofRightHandSide (around g at)) u (stateOf s (storeOf st))) (λ t. definedRule (at .entries) (around g at) k t y)
   unfolding rhsRule lastPhase
-  starts g k u y = then-ok _ (unless-ok ref.noPhase (stateOf s (bindsOf st)) (le-leb (at .phase + 1) 2 (omega arith)))
+  starts g k u y = then-ok _ (unless-ok ref.noPhase (stateOf s (storeOf st)) (le-leb (at .phase + 1) 2 (omega arith)))
 
-  right-to : {o : Out} → a ≡ Done o → (g : Env) (u : Stx) → Rep l (s .top) right (stx u) → Gave objects 1 twoCells l l1 s (bindsOf st1) (expand (at .entries) (ofRightHandSide (around g at)) u (stateOf s (bindsOf st))) o
+  right-to : {o : Out} → a ≡ Done o → (g : Env) (u : Stx) → Rep l (s .top) right (stx u) → Gave objects 1 twoCells l l1 s (storeOf st1) (expand (at .entries) (ofRightHandSide (around g at)) u (stateOf s (storeOf st))) o
   right-to e g u w = on-done (above g u w) (ap ended e)
 
 module _ {st l : List ℕ} {b : Binder} {right body : ℕ} {at : Surroundings} (h : at .phase < 2) {p : ScopeSet} where

@@ -8,9 +8,8 @@ use Rattle.model.specs.Trees.{Tree, stx, fromStxs}
 use Rattle.model.specs.Steps.{Step, _>>=_, made}
 use Rattle.model.specs.Expanding as m
 use Rattle.model.specs.Expanding.{variable, Env, Expander, expandAll, expandApplication, expandFunction, expandLambda, expandLetSyntax, expandMacro, expandEntry, expand}
-use Rattle.store.specs.Words.{bindsOf}
 use Rattle.store.specs.Sizes.{mostBindings}
-use Rattle.steps.specs.States.{stateOf, end, Room}
+use Rattle.steps.specs.States.{storeOf, Held, stateOf, end, Room}
 use Rattle.steps.specs.Agreement.{Shape, ended, Agrees}
 use Rattle.steps.specs.declared.State.{State}
 use Rattle.steps.specs.declared.Out.{Out}
@@ -18,7 +17,6 @@ use Rattle.steps.specs.declared.Answer.{Answer}
 use Rattle.steps.specs.declared.Answer.the-variants.{Refused}
 use Rattle.steps.specs.declared.Stop.{Stop}
 use Rattle.things.specs.Rep.{Rep, RepP}
-use Rattle.parse.specs.Shown.{Held}
 use Rattle.parse.specs.Parsing.{unpaid}
 use Rattle.environment.specs.Meanings.{RepE}
 use Rattle.scoping.specs.Changing.{objects}
@@ -148,57 +146,57 @@ abstractionRule self here c h b x body = do
 module _ (at : Surroundings) (st st′ l l′ : List ℕ) (s : State) where
   pub record Expanded (i : ℕ) (r : Answer) : Type 0 where
     pub means : (x : Stx) (e : Env) → Rep l (s .top) i (stx x) → RepE l (s .top) (at .meanings) e
-        → Agrees objects 1 twoCells l l′ s (bindsOf st′) (expand (at .entries) (around e at) x (stateOf s (bindsOf st))) (ended r)
+        → Agrees objects 1 twoCells l l′ s (storeOf st′) (expand (at .entries) (around e at) x (stateOf s (storeOf st))) (ended r)
 
   pub record ExpandedEntry (i : ℕ) (r : Answer) : Type 0 where
     pub means : (x : Stx) (e : Env) → Rep l (s .top) i (stx x) → RepE l (s .top) (at .meanings) e
-        → Agrees objects 1 twoCells l l′ (unpaid s) (bindsOf st′) (expandEntry (expansion (at .entries)) (at .entries) (around e at) x (stateOf s (bindsOf st))) (ended r)
+        → Agrees objects 1 twoCells l l′ (unpaid s) (storeOf st′) (expandEntry (expansion (at .entries)) (at .entries) (around e at) x (stateOf s (storeOf st))) (ended r)
 
   pub record ExpandedList (i c : ℕ) (r : Answer) : Type 0 where
     pub means : (k : Sets) (ps : Stxs) (e : Env) → Rep l (s .top) i (stx (list k ps)) → RepP l (s .top) c (fromStxs ps) → RepE l (s .top) (at .meanings) e
-        → Agrees objects 1 twoCells l l′ (unpaid s) (bindsOf st′) (expandEntry (expansion (at .entries)) (at .entries) (around e at) (list k ps) (stateOf s (bindsOf st))) (ended r)
+        → Agrees objects 1 twoCells l l′ (unpaid s) (storeOf st′) (expandEntry (expansion (at .entries)) (at .entries) (around e at) (list k ps) (stateOf s (storeOf st))) (ended r)
 
   pub record ExpandedApplication (i c : ℕ) (r : Answer) : Type 0 where
     pub means : (k : Sets) (ps : Stxs) (e : Env) → Rep l (s .top) i (stx (list k ps)) → RepP l (s .top) c (fromStxs ps) → RepE l (s .top) (at .meanings) e
-        → Agrees objects 1 twoCells l l′ (unpaid s) (bindsOf st′) (expandApplication (expansion (at .entries)) (around e at) k ps (stateOf s (bindsOf st))) (ended r)
+        → Agrees objects 1 twoCells l l′ (unpaid s) (storeOf st′) (expandApplication (expansion (at .entries)) (around e at) k ps (stateOf s (storeOf st))) (ended r)
 
   pub record ExpandedParts (c : ℕ) (r : Answer) : Type 0 where
     pub means : (ps : Stxs) (e : Env) → RepP l (s .top) c (fromStxs ps) → RepE l (s .top) (at .meanings) e
-        → Agrees partsOf 0 0 l l′ s (bindsOf st′) (expandAll (expansion (at .entries) (around e at)) ps (stateOf s (bindsOf st))) (ended r)
+        → Agrees partsOf 0 0 l l′ s (storeOf st′) (expandAll (expansion (at .entries) (around e at)) ps (stateOf s (storeOf st))) (ended r)
 
   pub record ExpandedLambda (i head tail : ℕ) (r : Answer) : Type 0 where
     pub means : (k : Sets) (h : Stx) (ps : Stxs) (e : Env) → Rep l (s .top) i (stx (list k (cons h ps))) → Rep l (s .top) head (stx h) → RepP l (s .top) tail (fromStxs ps) → RepE l (s .top) (at .meanings) e
-        → Agrees objects 1 twoCells l l′ (unpaid s) (bindsOf st′) (expandLambda (expansion (at .entries)) (around e at) k h ps (stateOf s (bindsOf st))) (ended r)
+        → Agrees objects 1 twoCells l l′ (unpaid s) (storeOf st′) (expandLambda (expansion (at .entries)) (around e at) k h ps (stateOf s (storeOf st))) (ended r)
 
   pub record ExpandedFunction (i head id body : ℕ) (r : Answer) : Type 0 where
     pub means : (k : Sets) (qs : Stxs) (h : Stx) (c : Sets) (x : ℕ) (y : Stx) (e : Env) → Rep l (s .top) i (stx (list k qs)) → Rep l (s .top) head (stx h) → Rep l (s .top) id (stx (atom c (symbol x))) → Rep l (s .top) body (stx y)
         → RepE l (s .top) (at .meanings) e
-        → Agrees objects 1 twoCells l l′ (unpaid s) (bindsOf st′) (expandFunction (expansion (at .entries)) (around e at) k h c x y (stateOf s (bindsOf st))) (ended r)
+        → Agrees objects 1 twoCells l l′ (unpaid s) (storeOf st′) (expandFunction (expansion (at .entries)) (around e at) k h c x y (stateOf s (storeOf st))) (ended r)
 
   pub record ExpandedLetSyntax (tail : ℕ) (r : Answer) : Type 0 where
     pub means : (ps : Stxs) (e : Env) → RepP l (s .top) tail (fromStxs ps) → RepE l (s .top) (at .meanings) e
-        → Agrees objects 1 twoCells l l′ (unpaid s) (bindsOf st′) (expandLetSyntax (expansion (at .entries)) (at .entries) (around e at) ps (stateOf s (bindsOf st))) (ended r)
+        → Agrees objects 1 twoCells l l′ (unpaid s) (storeOf st′) (expandLetSyntax (expansion (at .entries)) (at .entries) (around e at) ps (stateOf s (storeOf st))) (ended r)
 
   pub record OnwardBinding (id right body : ℕ) (r : Onward) : Type 0 where
     pub means : (c : Sets) (x : ℕ) (u y : Stx) (e : Env) → Rep l (s .top) id (stx (atom c (symbol x))) → Rep l (s .top) right (stx u) → Rep l (s .top) body (stx y) → RepE l (s .top) (at .meanings) e
-        → Agrees (nexts at) 1 cellSize l l′ s (bindsOf st′) (bindingRule (expansion (at .entries)) (at .entries) (around e at) c x u y (stateOf s (bindsOf st))) (onwardOf r)
+        → Agrees (nexts at) 1 cellSize l l′ s (storeOf st′) (bindingRule (expansion (at .entries)) (at .entries) (around e at) c x u y (stateOf s (storeOf st))) (onwardOf r)
 
   pub record ExpandedMacro (i v : ℕ) (r : Answer) : Type 0 where
     pub means : (x : Stx) (t : Tree) (e : Env) → Rep l (s .top) i (stx x) → Rep l (s .top) v t → RepE l (s .top) (at .meanings) e
-        → Agrees objects 1 twoCells l l′ s (bindsOf st′) (expandMacro (expansion (at .entries)) (at .entries) (around e at) t x (stateOf s (bindsOf st))) (ended r)
+        → Agrees objects 1 twoCells l l′ s (storeOf st′) (expandMacro (expansion (at .entries)) (at .entries) (around e at) t x (stateOf s (storeOf st))) (ended r)
 
 module _ (at : Surroundings) (st st′ l l′ : List ℕ) (b : Binder) where
   pub record ExpandedAbstraction (i head body : ℕ) (r : Answer) : Type 0 where
     pub means : (c : Sets) (qs : Stxs) (h : Stx) (k : m.Binder) (x : ℕ) (y : Stx) (e : Env) → Rep l (b .state .top) i (stx (list c qs)) → Rep l (b .state .top) head (stx h) → ShownBinder x l b k → Rep l (b .state .top) body (stx y)
         → RepE l (b .state .top) (at .meanings) e
-        → Agrees objects 2 (nodeSpare + tripleSpare) l l′ (unpaid (unpaid (b .state))) (bindsOf st′) (abstractionRule (expansion (at .entries)) (around e at) c h k x y (stateOf (b .state) (bindsOf st))) (ended r)
+        → Agrees objects 2 (nodeSpare + tripleSpare) l l′ (unpaid (unpaid (b .state))) (storeOf st′) (abstractionRule (expansion (at .entries)) (around e at) c h k x y (stateOf (b .state) (storeOf st))) (ended r)
 
   pub record OnwardRhs (right body : ℕ) (r : Onward) : Type 0 where
     pub means : (k : m.Binder) (u y : Stx) (e : Env) → Named b k → Rep l (b .state .top) right (stx u) → Rep l (b .state .top) body (stx y) → RepE l (b .state .top) (at .meanings) e
-        → Agrees (nexts at) 1 cellSize l l′ (b .state) (bindsOf st′) (rhsRule (expansion (at .entries)) (at .entries) (around e at) k u y (stateOf (b .state) (bindsOf st))) (onwardOf r)
+        → Agrees (nexts at) 1 cellSize l l′ (b .state) (storeOf st′) (rhsRule (expansion (at .entries)) (at .entries) (around e at) k u y (stateOf (b .state) (storeOf st))) (onwardOf r)
 
 -- where nothing is to be expanded next, the refusal is handed on
 pub record ExpandedOnward (at : Surroundings) (st st′ l l′ : List ℕ) (n : Onward) (r : Answer) : Type 0 where
   pub means : (o : Next) (k : Further) → n ≡ onward.Done o → ShownNext at l o k
-      → Agrees objects 1 twoCells l l′ (o .state) (bindsOf st′) (furtherRule (expansion (at .entries)) k (stateOf (o .state) (bindsOf st))) (ended r)
+      → Agrees objects 1 twoCells l l′ (o .state) (storeOf st′) (furtherRule (expansion (at .entries)) k (stateOf (o .state) (storeOf st))) (ended r)
   pub refused : (f : Stop) → n ≡ onward.Refused f → r ≡ Refused f

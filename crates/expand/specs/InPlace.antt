@@ -12,9 +12,8 @@ use Rattle.model.specs.Steps.{Entries, Step, _>>=_, _>>_, done, unless, addTo}
 use Rattle.model.specs.Expanding as m
 use Rattle.model.specs.Expanding.{Meaning, macro, Env, bindFresh, ofRightHandSide, ofBody, ofResult, Expander}
 use Rattle.scopes.specs.Sets.{scopesOf, Declared}
-use Rattle.store.specs.Words.{bindsOf}
 use Rattle.store.specs.Sizes.{mostBindings}
-use Rattle.steps.specs.States.{Store, stateOf, Room}
+use Rattle.steps.specs.States.{Store, storeOf, stateOf, Room}
 use Rattle.steps.specs.Agreement.{Shape, Ended, done as ends, refused, Agrees}
 use Rattle.steps.specs.declared.State.{State}
 use Rattle.things.specs.Rep.{Rep}
@@ -102,7 +101,7 @@ definedRule d here b r body = do
 
 pub record Defined (at : Surroundings) (st l l′ : List ℕ) (s : State) (b : Binder) (right body : ℕ) (r : Onward) : Type 0 where
   pub means : (k : m.Binder) (u y : Stx) (e : Env) → Named b k → Rep l (s .top) right (stx u) → Rep l (s .top) body (stx y) → RepE l (s .top) (at .meanings) e
-      → Agrees (nexts at) 1 cellSize l l′ s (bindsOf st) (definedRule (at .entries) (around e at) k u y (stateOf s (bindsOf st))) (onwardOf r)
+      → Agrees (nexts at) 1 cellSize l l′ s (storeOf st) (definedRule (at .entries) (around e at) k u y (stateOf s (storeOf st))) (onwardOf r)
 
 -- ---- the right-hand side, expanded one phase up, and the binder before it
 

@@ -9,14 +9,13 @@ use Rattle.model.specs.Parsing.{parse}
 use Rattle.model.specs.Expanding as m
 use Rattle.model.specs.Expanding.{Env, meaning, expandName, expandSyntax, orNoSyntax}
 use Rattle.scopes.specs.Sets.{scopesOf}
-use Rattle.store.specs.Words.{bindsOf}
 use Rattle.store.specs.Sizes.{mostBindings}
-use Rattle.steps.specs.States.{Store, stateOf, Room}
+use Rattle.steps.specs.States.{Store, storeOf, Held, stateOf, Room}
 use Rattle.steps.specs.Agreement.{ended, Agrees}
 use Rattle.steps.specs.declared.State.{State}
 use Rattle.steps.specs.declared.Answer.{Answer}
 use Rattle.things.specs.Rep.{Rep, RepP}
-use Rattle.parse.specs.Shown.{Held, trees}
+use Rattle.parse.specs.Shown.{trees}
 use Rattle.parse.specs.Parsing.{unpaid}
 use Rattle.environment.specs.Meanings.{RepE}
 use Rattle.scoping.specs.Changing.{objects}
@@ -52,7 +51,7 @@ nameRule here c x = do
 
 pub record ExpandedName (at : Surroundings) (st l : List ℕ) (s : State) (i : ℕ) (r : Answer) : Type 0 where
   pub means : (c : Sets) (x : ℕ) (e : Env) → Rep l (s .top) i (stx (atom c (symbol x))) → RepE l (s .top) (at .meanings) e
-      → Agrees objects 1 twoCells l l (unpaid s) (bindsOf st) (nameRule (around e at) c x (stateOf s (bindsOf st))) (ended r)
+      → Agrees objects 1 twoCells l l (unpaid s) (storeOf st) (nameRule (around e at) c x (stateOf s (storeOf st))) (ended r)
 
 -- ---- quote and syntax: a list, and its parts after the head
 
@@ -114,7 +113,7 @@ valueRule d ph x = do
   evaluate d t
 
 pub record Values (entries ph : ℕ) (st l l′ : List ℕ) (s : State) (i : ℕ) (r : Answer) : Type 0 where
-  pub means : (x : Stx) → Rep l (s .top) i (stx x) → Agrees trees 1 twoCells l l′ s (bindsOf st) (valueRule entries ph x (stateOf s (bindsOf st))) (ended r)
+  pub means : (x : Stx) → Rep l (s .top) i (stx x) → Agrees trees 1 twoCells l l′ s (storeOf st) (valueRule entries ph x (stateOf s (storeOf st))) (ended r)
 
 pub record ReadyBack (l : List ℕ) (s : State) (i : ℕ) : Type 0 where
   pub thing : Tree

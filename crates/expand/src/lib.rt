@@ -14,8 +14,8 @@ use steps::Charged;
 use steps::Out;
 use steps::State;
 use table::Node;
+ghost use Rattle.steps.specs.States.{Held};
 ghost use Rattle.parse.specs.Parsing.{unpaid};
-ghost use Rattle.parse.specs.Shown.{Held};
 ghost use Rattle.expand.specs.InPlace.{ReadyMacro};
 ghost use Rattle.expand.specs.Cycle.{ReadyToExpand, ReadyParts, ReadyChain, ReadyOnward, Expanded, ExpandedOnward, ExpandedEntry, ExpandedList, ExpandedApplication, ExpandedParts, ExpandedMacro};
 

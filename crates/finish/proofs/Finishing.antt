@@ -21,6 +21,7 @@ use Rattle.store.proofs.Runs.{binds-length}
 use Rattle.store.specs.Sizes.{bindingSize}
 use Rattle.store.specs.Words.{bindsOf}
 use Rattle.things.specs.Rep.{Rep}
+use Rattle.steps.specs.States.{Held}
 use Rattle.steps.specs.declared.State.{State}
 use Rattle.steps.specs.declared.Out.{Out}
 use Rattle.head.specs.declared.Front.{Front}
@@ -32,7 +33,7 @@ use Rattle.writer.proofs.Putting.{run}
 use Rattle.finish.specs.declared.Ending.the-variants.{Refused, Written}
 use Rattle.finish.specs.Headings.{headAfter, Longer, HeadLength, Fitting, PutsHead}
 use Rattle.finish.specs.Finishing as spec
-use Rattle.finish.specs.Finishing.{Images, imageBytes, treeImages, syntaxFront, syntaxImages, Came, Held, FrontReady, FrontLength, PutsImage, Finishes}
+use Rattle.finish.specs.Finishing.{Images, imageBytes, treeImages, syntaxFront, syntaxImages, Came, FrontReady, FrontLength, PutsImage, Finishes}
 use Rattle.finish.proofs.Ends.{ends-written, ends-too-long}
 use Rattle.finish.proofs.Heads.{head-few}
 

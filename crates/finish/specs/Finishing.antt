@@ -9,10 +9,9 @@ use Rattle.model.specs.Resolving.{Bind}
 use Rattle.model.specs.Reading as m
 use Rattle.model.specs.Writing.{numBytes, headBytes, bindsBytes, stxBytes, treeBytes}
 use Rattle.model.specs.Jobs.{fitted}
-use Rattle.store.specs.Sizes.{mostBindings, storeSize}
 use Rattle.steps.specs.declared.State.{State}
 use Rattle.steps.specs.declared.Out.{Out}
-use Rattle.steps.specs.States.{Room}
+use Rattle.steps.specs.States.{Held, Room}
 use Rattle.things.specs.Rep.{Rep}
 use Rattle.head.specs.declared.Front.{Front}
 use Rattle.head.specs.Fronts.{Headed}
@@ -47,11 +46,6 @@ pub record Came {A : Type 0} (K : Images A) (s : List ℕ) (f : Front) (l : List
   pub value : A
   pub shown : Rep l (o .state .top) (o .at) (K .thing value)
   pub room : Room l (o .state)
-
--- the store is whole, and holds no more than it has room for
-pub record Held (store : List ℕ) (t : State) : Type 0 where
-  pub few : t .bindings ≤ mostBindings
-  pub wide : storeSize ≤ length store
 
 pub record FrontReady (s : List ℕ) (f : Front) (store : List ℕ) (t : State) : Type 0 where
   pub longer : Longer s f t

@@ -10,8 +10,9 @@ use steps::Out;
 use steps::State;
 ghost use mathlib.Core.Path.{_≡_};
 ghost use Prim.Native.Nat.{ℕ, _+_, _≤_, min};
+ghost use Rattle.steps.specs.States.{Held};
 ghost use Rattle.store.specs.Words.{bindsOf};
-ghost use Rattle.finish.specs.Finishing.{treeImages, syntaxImages, syntaxFront, Held, Came, Fits, PutsImage, Finishes, FrontReady, FrontLength};
+ghost use Rattle.finish.specs.Finishing.{treeImages, syntaxImages, syntaxFront, Came, Fits, PutsImage, Finishes, FrontReady, FrontLength};
 ghost use Rattle.numbers.specs.Limits.{mostImage};
 
 // How a job ends, each after so many units: a refusal, a name, or an image of so many bytes.

@@ -16,7 +16,6 @@ use Rattle.table.specs.Words.{getNode, getCell}
 use Rattle.table.specs.declared.Node.{Node}
 use Rattle.table.specs.declared.Cell.{Cell}
 use Rattle.things.specs.Rep.{Rep, RepP, is-atom, is-list}
-use Rattle.things.specs.Measuring.{Seen}
 use Rattle.things.proofs.Frame.{below}
 use Rattle.things.proofs.ByTag.{tag-is, ConsAt, cons-at}
 pub use Rattle.things.proofs.ByTag.{nil-at}

@@ -18,7 +18,7 @@ use Rattle.steps.specs.declared.State.{State}
 use Rattle.steps.specs.declared.Stop.{Stop}
 use Rattle.steps.specs.declared.Charged.{Charged}
 use Rattle.steps.specs.declared.Charged.the-variants.{Paid, Refused}
-use Rattle.steps.specs.States.{stateOf, paid, chargeOf}
+use Rattle.steps.specs.States.{storeOf, stateOf, paid, chargeOf}
 use Rattle.steps.proofs.Laws.{charge-went, charge-failed, charge-ok, charge-no, then-ok, then-no}
 use Rattle.head.specs.declared.Head.{Head}
 use Rattle.image.specs.declared.Judgement.{Judgement}
@@ -42,7 +42,7 @@ module _ {A B : Type 0} (J : Job A B) (image : List ℕ) (budget room : ℕ) whe
 
   module _ {st : List ℕ} {j : Judgement} (g : Good (J .kind) image st j) where
     -- the rules' state at the start
-    start-is : start budget (g .image) ≡ stateOf (begun j budget) (bindsOf st)
+    start-is : start budget (g .image) ≡ stateOf (begun j budget) (storeOf st)
     unfolding start
     start-is =
         ap (λ (x : List Bind). record { left = budget; names = g .image .head .names; scopes = g .image .head .scopes; binds = x }) (sym (g .binds-are))
@@ -50,19 +50,19 @@ module _ {A B : Type 0} (J : Job A B) (image : List ℕ) (budget room : ℕ) whe
 
     -- with the code's charge
     charged : jobEnding J budget room image
-        ≡ worked budget (after (charge (j .size) (stateOf (begun j budget) (bindsOf st))) (λ u. J .work (g .image .root))) (J .ends budget room (g .image .head))
+        ≡ worked budget (after (charge (j .size) (stateOf (begun j budget) (storeOf st))) (λ u. J .work (g .image .root))) (J .ends budget room (g .image .head))
     unfolding withImage
     charged =
         reading (g .reads)
         ∙ ap (λ (s : m.State). worked budget (after (charge (J .kind .size (g .image .root)) s) (λ u. J .work (g .image .root))) (J .ends budget room (g .image .head))) start-is
-        ∙ ap (λ (n : ℕ). worked budget (after (charge n (stateOf (begun j budget) (bindsOf st))) (λ u. J .work (g .image .root))) (J .ends budget room (g .image .head))) (sym (g .size-is))
+        ∙ ap (λ (n : ℕ). worked budget (after (charge n (stateOf (begun j budget) (storeOf st))) (λ u. J .work (g .image .root))) (J .ends budget room (g .image .head))) (sym (g .size-is))
 
     pub loaded-is : {s : State} → j .size ≤ budget → s ≡ paid (j .size) (begun j budget)
-        → jobEnding J budget room image ≡ worked budget (J .work (g .image .root) (stateOf s (bindsOf st))) (J .ends budget room (g .image .head))
+        → jobEnding J budget room image ≡ worked budget (J .work (g .image .root) (stateOf s (storeOf st))) (J .ends budget room (g .image .head))
     loaded-is {s} h i =
         charged ∙ ap (λ (o : m.Out B). worked budget o (J .ends budget room (g .image .head)))
-        (then-ok (λ u. J .work (g .image .root)) (charge-ok (j .size) (begun j budget) (bindsOf st) h)
-        ∙ ap (λ (t : State). J .work (g .image .root) (stateOf t (bindsOf st))) (sym i))
+        (then-ok (λ u. J .work (g .image .root)) (charge-ok (j .size) (begun j budget) (storeOf st) h)
+        ∙ ap (λ (t : State). J .work (g .image .root) (stateOf t (storeOf st))) (sym i))
 
 -- ---- the image
 
@@ -83,8 +83,8 @@ module _ (j : Judgement) (budget : ℕ) {q : Charged} (c : q ≡ chargeOf (j .si
     unpaid-ends {f} {x} out i y =
         let p = charge-failed (j .size) _ c i in
         let g = w .good j e in
-        let s : after (charge (j .size) (stateOf (begun j budget) (bindsOf st))) (λ u. J .work (g .image .root)) ≡ no (refusalOf (f .refusal)) (f .left) =
-        rw (p .is) (then-no (λ u. J .work (g .image .root)) (charge-no (j .size) (begun j budget) (bindsOf st) (p .short))) in
+        let s : after (charge (j .size) (stateOf (begun j budget) (storeOf st))) (λ u. J .work (g .image .root)) ≡ no (refusalOf (f .refusal)) (f .left) =
+        rw (p .is) (then-no (λ u. J .work (g .image .root)) (charge-no (j .size) (begun j budget) (storeOf st) (p .short))) in
         subst (λ (z : Ending). EndsAs (jobEnding J budget (length out) image) out out z) (sym y)
         (ends-refused out (charged J image budget (length out) g ∙ ap (λ (o : m.Out B). worked budget o (J .ends budget (length out) (g .image .head))) s))
 

@@ -28,7 +28,7 @@ use Rattle.steps.specs.declared.Charged.{Charged}
 use Rattle.steps.specs.declared.Charged.the-variants as charged
 use Rattle.steps.specs.declared.Charged.the-variants.{Paid}
 use Rattle.steps.specs.declared.Stop.{Stop}
-use Rattle.steps.specs.States.{Store, stateOf, chargeOf}
+use Rattle.steps.specs.States.{Store, storeOf, stateOf, chargeOf}
 use Rattle.steps.proofs.Laws.{charge-went}
 use Rattle.head.specs.declared.Head.{Head}
 use Rattle.head.specs.declared.Counts.{Counts}
@@ -109,9 +109,9 @@ pub ruleset root-laws = (root-within, root-words, root-scopes, root-held, root-f
 
 -- the rules' work past the charge, after u units
 work-is : (ph : ℕ) (x : Stx) (t : State) (b : Store) (budget u : ℕ) → budget - t .left ≡ u
-    → worked budget (identifier x (λ c n. resolveAt ph c n) (stateOf t b)) (λ n k. m.named n (budget - k .left)) ≡ rootEnding ph x (b (t .bindings)) u
+    → worked budget (identifier x (λ c n. resolveAt ph c n) (stateOf t b)) (λ n k. m.named n (budget - k .left)) ≡ rootEnding ph x (b .bindings (t .bindings)) u
 unfolding worked identifier resolveAt nameOf rootEnding
-work-is ph (atom c (symbol n)) t b budget u e = by (resolve n (setAt ph c) (b (t .bindings)))
+work-is ph (atom c (symbol n)) t b budget u e = by (resolve n (setAt ph c) (b .bindings (t .bindings)))
   where
     by : (f : r.Found) → worked budget (nameOf f (stateOf t b)) (λ k y. m.named k (budget - y .left)) ≡ foundEnding f u
     by (means k) = ap (m.named k) e
@@ -158,7 +158,7 @@ resolved-ends j ph budget {t = t} {image = image} st {x = x} c i w e v =
     let k = ap (λ (z : State). z .left) (p .is) in
     let spent : budget - t .left ≡ j .size = omega (arith, p .enough) in
     let binds : t .bindings ≡ j .bindings = ap (λ (z : State). z .bindings) (p .is) in
-    let is = loaded-is (resolving ph) image budget 0 g (p .enough) (p .is) ∙ work-is ph (g .image .root) t (bindsOf st) budget (j .size) spent
+    let is = loaded-is (resolving ph) image budget 0 g (p .enough) (p .is) ∙ work-is ph (g .image .root) t (storeOf st) budget (j .size) spent
     ∙ ap (λ (n : ℕ). rootEnding ph (g .image .root) (bindsOf st n) (j .size)) binds in
     subst (λ (z : m.Ending). EndsAs z [] [] x) (sym is) (root-quiet ph (g .image .root) (bindsOf st (j .bindings)) (j .size) x (v .means g))
 

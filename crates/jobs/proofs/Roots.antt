@@ -14,13 +14,12 @@ use Rattle.model.specs.Expanding.{ofRoot, expand, coreOnly}
 use Rattle.laws.proofs.Units.{NoRise, evaluate-no-rise, parse-no-rise, expand-no-rise, names-after, left-after-refusal}
 use Rattle.scopes.specs.declared.ScopeSet.{ScopeSet}
 use Rattle.scopes.specs.Sets.{scopesOf}
-use Rattle.store.specs.Words.{bindsOf}
 use Rattle.store.specs.Sizes.{storeSize}
 use Rattle.steps.specs.declared.State.{State}
 use Rattle.steps.specs.declared.Out.{Out}
 use Rattle.steps.specs.declared.Answer.{Answer}
 use Rattle.steps.specs.declared.Answer.the-variants.{Done, Refused}
-use Rattle.steps.specs.States.{stateOf, raisedTo, Room}
+use Rattle.steps.specs.States.{storeOf, stateOf, raisedTo, Room}
 use Rattle.steps.specs.Agreement as agreement
 use Rattle.steps.specs.Agreement.{ended, Agrees}
 use Rattle.steps.proofs.Laws.{room-later, on-done, on-refused}
@@ -85,7 +84,7 @@ with-good d g = record { budget = d .budget; good = g; lent = d .lent; enough = 
 -- over any result that lies in the table
 module _ {B : Type 0} (thing : B → Tree) (Shows : List ℕ → Out → B → Type 0) (rep : (l : List ℕ) (o : Out) (x : B) → Shows l o x → Rep l (o .state .top) (o .at) (thing x)) (work : Step B) (calm : NoRise work) where
   agreed : {n v top : ℕ} {l l′ : List ℕ} (s : State) (st st′ : List ℕ) (a : Answer) → Room l (raisedTo top s) → length l′ ≡ length l
-      → Agrees (record { shows = Shows; state = λ o. o .state }) n v l l′ (raisedTo top s) (bindsOf st′) (work (stateOf s (bindsOf st))) (ended a) → cameTo thing s st′ l′ (work (stateOf s (bindsOf st))) a
+      → Agrees (record { shows = Shows; state = λ o. o .state }) n v l l′ (raisedTo top s) (storeOf st′) (work (stateOf s (storeOf st))) (ended a) → cameTo thing s st′ l′ (work (stateOf s (storeOf st))) a
   agreed s st st′ (Done o) fits same g =
       let y = on-done g refl in
       record {
@@ -117,11 +116,11 @@ module _ {image : List ℕ} {j : Judgement} {l : List ℕ} {s : State} (d : Load
     pub tree-ready : agreement.Ready Rep l′ t (b .at)
     tree-ready = subst (λ (z : State). agreement.Ready Rep l′ z (b .at)) (sym te) (record { thing = d .good .image .root; shown = tree-shown; room = tree-room })
 
-    tree-came : {l″ : List ℕ} (a : Answer) → Evaluates 128 l′ l″ t (b .at) a → length l″ ≡ length l′ → cameTo itself s [] l″ (evaluate 128 (d .good .image .root) (stateOf s (bindsOf []))) a
+    tree-came : {l″ : List ℕ} (a : Answer) → Evaluates 128 l′ l″ t (b .at) a → length l″ ≡ length l′ → cameTo itself s [] l″ (evaluate 128 (d .good .image .root) (stateOf s (storeOf []))) a
     tree-came {l″} a e more =
         let e′ = subst (λ (z : State). Evaluates 128 l′ l″ z (b .at) a) te e in
         agreed itself (λ k o x. Rep k (o .state .top) (o .at) x) (λ k o x r. r) (evaluate 128 (d .good .image .root)) (evaluate-no-rise 128 (d .good .image .root)) s [] [] a tree-room more
-        (e′ .means (bindsOf []) (d .good .image .root) tree-shown)
+        (e′ .means (storeOf []) (d .good .image .root) tree-shown)
 
 pub tree-worked : {image : List ℕ} {j : Judgement} {l l′ l″ : List ℕ} {s t : State} {b : Built} {a : Answer} → Loaded treeKind image [] j l s
     → Builds (TreeRead (j .front .head .scopes)) l l′ (s .top) image (j .root) (j .root + 1) b → length l′ ≡ length l → t ≡ raisedTo (b .top) s → Evaluates 128 l′ l″ t (b .at) a → length l″ ≡ length l′
@@ -163,7 +162,7 @@ module _ {image st : List ℕ} {j : Judgement} {l : List ℕ} {s : State} (d : L
     parse-ready wide =
         subst (λ (z : State). parsing.ReadyToParse l′ st z (b .at)) (sym te) (record { thing = object; shown = object-shown; room = object-room; held = record { few = few; wide = wide } })
 
-    parse-came : {l″ : List ℕ} (a : Answer) → Parsed 128 0 st l′ l″ t (b .at) a → length l″ ≡ length l′ → cameTo itself s st l″ (parse 128 0 object (stateOf s (bindsOf st))) a
+    parse-came : {l″ : List ℕ} (a : Answer) → Parsed 128 0 st l′ l″ t (b .at) a → length l″ ≡ length l′ → cameTo itself s st l″ (parse 128 0 object (stateOf s (storeOf st))) a
     parse-came {l″} a e more =
         let e′ = subst (λ (z : State). Parsed 128 0 st l′ l″ z (b .at) a) te e in
         agreed itself ShownTree (λ k o x r. r .rep) (parse 128 0 object) (parse-no-rise 128 0 object) s st st a object-room more (e′ .means object object-shown)
@@ -177,14 +176,14 @@ module _ {image st : List ℕ} {j : Judgement} {l : List ℕ} {s : State} (d : L
           (record { thing = object; shown = object-shown; within = record { meant = coreOnly; known = rw core is-core; room = object-room; held = record { few = few; wide = wide } } })
 
       expand-agrees : {st′ l″ : List ℕ} {a : Answer} → scopesOf (at .prunable) ≡ 0 → Expanded at st st′ l′ l″ t (b .at) a
-          → Agrees objects 1 twoCells l′ l″ (raisedTo (b .top) s) (bindsOf st′) (expand (at .entries) (ofRoot (at .phase)) object (stateOf s (bindsOf st))) (ended a)
+          → Agrees objects 1 twoCells l′ l″ (raisedTo (b .top) s) (storeOf st′) (expand (at .entries) (ofRoot (at .phase)) object (stateOf s (storeOf st))) (ended a)
       expand-agrees {st′} {l″} {a} none e =
           let e′ = subst (λ (z : State). Expanded at st st′ l′ l″ z (b .at) a) te e in
-          subst (λ (p : Scopes). Agrees objects 1 twoCells l′ l″ (raisedTo (b .top) s) (bindsOf st′) (expand (at .entries) (record { phase = at .phase; meanings = coreOnly; prunable = p }) object (stateOf s (bindsOf st))) (ended a)) none
+          subst (λ (p : Scopes). Agrees objects 1 twoCells l′ l″ (raisedTo (b .top) s) (storeOf st′) (expand (at .entries) (record { phase = at .phase; meanings = coreOnly; prunable = p }) object (stateOf s (storeOf st))) (ended a)) none
           (e′ .means object coreOnly object-shown (rw core is-core))
 
       expand-came : {st′ l″ : List ℕ} (a : Answer) → scopesOf (at .prunable) ≡ 0 → Expanded at st st′ l′ l″ t (b .at) a → length l″ ≡ length l′
-          → cameTo stx s st′ l″ (expand (at .entries) (ofRoot (at .phase)) object (stateOf s (bindsOf st))) a
+          → cameTo stx s st′ l″ (expand (at .entries) (ofRoot (at .phase)) object (stateOf s (storeOf st))) a
       expand-came {st′} a none e more =
           agreed stx ShownObject (λ k o x r. r .rep) (expand (at .entries) (ofRoot (at .phase)) object) (expand-no-rise (at .entries) (ofRoot (at .phase)) object) s st st′ a object-room more (expand-agrees none e)
 

@@ -16,7 +16,6 @@ use Rattle.model.specs.Jobs as j
 use Rattle.model.specs.Jobs.{withImage, worked, start, reached, fitted}
 use Rattle.refusals.specs.Refusing.{refusalOf}
 use Rattle.table.specs.Lending.{Lent}
-use Rattle.store.specs.Words.{bindsOf}
 use Rattle.store.specs.Sizes.{mostBindings}
 use Rattle.things.specs.Rep.{Rep}
 use Rattle.steps.specs.declared.State.{State}
@@ -24,7 +23,7 @@ use Rattle.steps.specs.declared.Stop.{Stop}
 use Rattle.steps.specs.declared.Out.{Out}
 use Rattle.steps.specs.declared.Answer.{Answer}
 use Rattle.steps.specs.declared.Answer.the-variants.{Done, Refused}
-use Rattle.steps.specs.States.{mostEntries, stateOf, paid, Room}
+use Rattle.steps.specs.States.{mostEntries, storeOf, stateOf, paid, Room}
 use Rattle.image.specs.declared.Judgement.{Judgement}
 use Rattle.image.specs.Judging.{Kind, syntaxKind, treeKind, Good}
 use Rattle.finish.specs.Finishing.{Images, imageBytes, treeImages, syntaxImages}
@@ -80,7 +79,7 @@ itself t = t
 
 pub record Result {B : Type 0} (thing : B → Tree) (s : State) (store l : List ℕ) (q : r.Out B) (o : Out) : Type 0 where
   pub value : B
-  pub is : q ≡ ok value (stateOf (o .state) (bindsOf store))
+  pub is : q ≡ ok value (stateOf (o .state) (storeOf store))
   pub shown : Rep l (o .state .top) (o .at) (thing value)
   pub room : Room l (o .state)
   pub names-from : s .names ≤ o .state .names
@@ -96,7 +95,7 @@ cameTo thing s store l q (Done o) = Result thing s store l q o
 cameTo thing s store l q (Refused f) = Stopped s q f
 
 pub record Worked {A B : Type 0} (J : Job A B) (thing : B → Tree) (image store : List ℕ) (j : Judgement) (s : State) (store′ l : List ℕ) (r : Answer) : Type 0 where
-  pub means : (g : Good (J .kind) image store j) → cameTo thing s store′ l (J .work (g .image .root) (stateOf s (bindsOf store))) r
+  pub means : (g : Good (J .kind) image store j) → cameTo thing s store′ l (J .work (g .image .root) (stateOf s (storeOf store))) r
 
 abbrev pub FewBindings : Answer → Type 0
 FewBindings (Done o) = o .state .bindings ≤ mostBindings

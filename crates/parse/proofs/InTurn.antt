@@ -10,8 +10,7 @@ use Rattle.model.specs.Trees.{Trees, tnil, tcons, stx, fromStxs}
 use Rattle.model.specs.Steps as m
 use Rattle.model.specs.Steps.{ok, after}
 use Rattle.model.specs.Parsing.{parseAll, parse}
-use Rattle.store.specs.Words.{bindsOf}
-use Rattle.steps.specs.States.{stateOf, raisedTo, end, Room}
+use Rattle.steps.specs.States.{storeOf, stateOf, raisedTo, end, Room}
 use Rattle.steps.specs.Agreement.{ended, Gave, gives, stops}
 use Rattle.steps.specs.declared.State.{State}
 use Rattle.steps.specs.declared.Stop.{Stop}
@@ -43,7 +42,7 @@ pub record Half (entries ph : ℕ) (st l : List ℕ) (s t : State) (from turned 
   pub done : Trees
   pub shown : RepP l (t .top) from (fromStxs rest)
   pub made : RepP l (t .top) turned done
-  pub whole : parseAll (λ y. parse entries ph y) ps (stateOf s (bindsOf st)) ≡ after (parseAll (λ y. parse entries ph y) rest (stateOf t (bindsOf st))) (handedOn done)
+  pub whole : parseAll (λ y. parse entries ph y) ps (stateOf s (storeOf st)) ≡ after (parseAll (λ y. parse entries ph y) rest (stateOf t (storeOf st))) (handedOn done)
   pub fits : end t + cellSize * counts done ≤ end s
 
 pub record Going (entries ph : ℕ) (st l : List ℕ) (s : State) (c : ℕ) (l′ : List ℕ) (t : State) (from turned : ℕ) : Type 0 where
@@ -67,7 +66,7 @@ parts-start {entries} {ph} {st} {l} {s} r = record {
     done = tnil;
     shown = w;
     made = is-none;
-    whole = sym (after-done (parseAll (λ y. parse entries ph y) ps (stateOf s (bindsOf st))));
+    whole = sym (after-done (parseAll (λ y. parse entries ph y) ps (stateOf s (storeOf st))));
     fits = omega arith;
   };
 }
@@ -102,12 +101,12 @@ module _ {entries ph : ℕ} {st l : List ℕ} {s : State} {c : ℕ} (r : ReadyPa
           means = λ ps w.
               let h = g .means ps w in
               let q = first-at (h .rest) (h .shown) n e in
-              stops _ (h .whole ∙ ap (λ (z : Stxs). after (parseAll (λ y. parse entries ph y) z (stateOf t (bindsOf st))) (handedOn (h .done))) (q .is)
+              stops _ (h .whole ∙ ap (λ (z : Stxs). after (parseAll (λ y. parse entries ph y) z (stateOf t (storeOf st))) (handedOn (h .done))) (q .is)
               ∙ then-no _ (then-no _ (on-refused (v .means (q .first) (q .cell .shown)) (ap ended k))));
         }
 
         module _ {o : Out} (k : a ≡ Done o) where
-          gave : (x1 : Stx) → Rep l1 (t .top) (x .head) (stx x1) → Gave trees 1 twoCells l1 l2 t (bindsOf st) (parse entries ph x1 (stateOf t (bindsOf st))) o
+          gave : (x1 : Stx) → Rep l1 (t .top) (x .head) (stx x1) → Gave trees 1 twoCells l1 l2 t (storeOf st) (parse entries ph x1 (stateOf t (storeOf st))) o
           gave x1 w = on-done (v .means x1 w) (ap ended k)
 
           pub part-linkable : length l2 ≡ length l1 → Linkable l2 (o .state .top) (o .at) turned
@@ -145,9 +144,9 @@ module _ {entries ph : ℕ} {st l : List ℕ} {s : State} {c : ℕ} (r : ReadyPa
                       shown = carryP (carryP (q .cell .shown-others) (j .later .kept) (j .later .grows)) (y .kept) (omega (arith, y .grows));
                       made = y .means (j .value) (h .done) (j .shown .rep) (carryP (h .made) (j .later .kept) (j .later .grows));
                       whole =
-                          h .whole ∙ ap (λ (z1 : Stxs). after (parseAll (λ y1. parse entries ph y1) z1 (stateOf t (bindsOf st))) (handedOn (h .done))) (q .is)
+                          h .whole ∙ ap (λ (z1 : Stxs). after (parseAll (λ y1. parse entries ph y1) z1 (stateOf t (storeOf st))) (handedOn (h .done))) (q .is)
                           ∙ ap (λ (z1 : m.Out Trees). after z1 (handedOn (h .done))) (then-ok _ (j .is))
-                          ∙ after-after (parseAll (λ y1. parse entries ph y1) (q .others) (stateOf (o .state) (bindsOf st))) (λ us. λ y1. ok (tcons (j .value) us) y1) (handedOn (h .done));
+                          ∙ after-after (parseAll (λ y1. parse entries ph y1) (q .others) (stateOf (o .state) (storeOf st))) (λ us. λ y1. ok (tcons (j .value) us) y1) (handedOn (h .done));
                       fits = omega (arith, more, h .fits, j .later .fits, y .grows);
                     };
               })
@@ -165,7 +164,7 @@ parts-turned {entries} {ph} {st} {l} {s} {c} {l1} {t} {from} {turned} g z {l2} {
           let k = y .means (h .done) (h .made) in
           rw e (gives (record { at = d .at; state = raisedTo (d .top) t }) (record {
             value = turnOnto (h .done) tnil;
-            is = h .whole ∙ ap (λ (z1 : Stxs). after (parseAll (λ y1. parse entries ph y1) z1 (stateOf t (bindsOf st))) (handedOn (h .done))) (nil-at (h .rest) (h .shown) z);
+            is = h .whole ∙ ap (λ (z1 : Stxs). after (parseAll (λ y1. parse entries ph y1) z1 (stateOf t (storeOf st))) (handedOn (h .done))) (nil-at (h .rest) (h .shown) z);
             shown = record { rep = k .0; few = g .few };
             later = record {
               kept = same-trans (s .top) (t .top) l l1 l2 (g .grows) (g .kept) (y .kept);

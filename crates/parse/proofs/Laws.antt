@@ -14,8 +14,7 @@ use Rattle.model.specs.Parsing as p
 use Rattle.model.specs.Parsing.{formOf, parseAll, parseForm, parseEntry, parse}
 use Rattle.refusals.specs.declared.Refusal.the-variants.{Ambiguous, NoRule}
 use Rattle.scopes.specs.declared.Name.{Name}
-use Rattle.store.specs.Words.{bindsOf}
-use Rattle.steps.specs.States.{Store, stateOf, stopOf, paid, raisedTo, chargeOf, enterOf, end, Room}
+use Rattle.steps.specs.States.{Store, storeOf, stateOf, stopOf, paid, raisedTo, chargeOf, enterOf, end, Room}
 use Rattle.steps.specs.Agreement.{Later, Ended, ended, done, refused, Gave, Agrees, gives, stops}
 use Rattle.steps.specs.declared.State.{State}
 use Rattle.steps.specs.declared.Stop.{Stop}
@@ -52,7 +51,7 @@ use Rattle.forms.specs.declared.Naming.the-variants.{Named, Unclear, Unnamed}
 use Rattle.forms.proofs.Shapes.{nil-at, first-at, on-one, on-not-one, on-two, on-not-two, not-parts1, not-parts2}
 use Rattle.forms.proofs.Names.{on-named, on-unclear, on-unnamed, identifier-named, identifier-unclear, identifier-unnamed}
 use Rattle.copying.specs.Copying.{Copyable, Copied}
-use Rattle.parse.specs.Shown.{Held, ShownTree, ShownChain, trees, chains}
+use Rattle.parse.specs.Shown.{ShownTree, ShownChain, trees, chains}
 use Rattle.parse.specs.Parsing.{unpaid, ReadyToParse, ReadyParts, ReadyForm, ReadyChain, ReadyData, nameRule, functionRule, lambdaRule, dataRule, quoteRule, syntaxRule, applicationRule, Parsed, ParsedEntry, ParsedName, ParsedList, ParsedForm, ParsedLambda, ParsedFunction, ParsedQuote, ParsedData, ParsedSyntax, ParsedApplication, ParsedParts}
 use Rattle.parse.proofs.Rules.{parse-entry, entry-atom, entry-symbol, entry-empty, list-named, list-unclear, list-unnamed, form-lambda, form-let-syntax, form-quote, form-syntax, form-other, application-is, application-no}
 use Rattle.table.specs.Sizes.{cellSize, twoCells, nodeSize, unitSize, mostSize}
@@ -110,13 +109,13 @@ module _ (entries : ℕ) (s : State) {u : State} {x : Charged} (h : x ≡ enterO
       record {
         means = λ y q.
             let a = f .means y (rw (top-is w) q) in
-            let d : Agrees trees 1 twoCells l l1 s (bindsOf st) (parseEntry (λ z. parse (entries - 1) ph z) ph y (stateOf u (bindsOf st))) (ended r) = rw (unpaid-is w) at a in
-            rw (entry-goes (parse-entry ph y) entries s (bindsOf st) h e) d;
+            let d : Agrees trees 1 twoCells l l1 s (storeOf st) (parseEntry (λ z. parse (entries - 1) ph z) ph y (stateOf u (storeOf st))) (ended r) = rw (unpaid-is w) at a in
+            rw (entry-goes (parse-entry ph y) entries s (storeOf st) h e) d;
       }
 
 pub enter-stops : {entries ph : ℕ} {st : List ℕ} {s : State} {x : Charged} {f : Stop} {l : List ℕ} {i : ℕ} → x ≡ enterOf entries s → x ≡ charged.Refused f
     → Parsed entries ph st l l s i (Refused f)
-enter-stops {entries} {ph} {st} {s} {f = f} h e = record { means = λ y q. stops f (entry-refused (parse-entry ph y) entries s (bindsOf st) h e) }
+enter-stops {entries} {ph} {st} {s} {f = f} h e = record { means = λ y q. stops f (entry-refused (parse-entry ph y) entries s (storeOf st) h e) }
 
 -- ---- an entry by its tag
 
@@ -141,8 +140,8 @@ module _ {st l : List ℕ} (s : State) {i : ℕ} {o : Node} (e : o ≡ getNode l
       record {
         means = λ x w.
             let q = symbol-at w e h in
-            let same : parseEntry (λ y. parse entries ph y) ph x (stateOf s (bindsOf st)) ≡ nameRule ph x (stateOf s (bindsOf st)) =
-            rw (q .1 .1) (entry-symbol (λ y. parse entries ph y) ph (stateOf s (bindsOf st)) (q .0) (q .1 .0)) in
+            let same : parseEntry (λ y. parse entries ph y) ph x (stateOf s (storeOf st)) ≡ nameRule ph x (stateOf s (storeOf st)) =
+            rw (q .1 .1) (entry-symbol (λ y. parse entries ph y) ph (stateOf s (storeOf st)) (q .0) (q .1 .0)) in
             rw same (a .means x w);
       }
 
@@ -160,9 +159,9 @@ module _ {st l : List ℕ} (s : State) {i : ℕ} {o : Node} (e : o ≡ getNode l
             let node : _≡_ {A = Node} (record { tag = atomValueTag + o .tag; content = o .content }) (record { tag = atomValueTag + tagOf (q .value); content = contentOf (q .value) }) =
             λ j. record { tag = atomValueTag + (q .tag) j; content = (q .content) j } in
             let d2 : Stored l l1 (s .top) (record { tag = atomValueTag + tagOf (q .value); content = contentOf (q .value) }) (k .at) (k .top) = rw node at d in
-            let rule : parseEntry (λ y. parse entries ph y) ph x (stateOf s (bindsOf st)) ≡ ok (datum (q .value)) (stateOf s (bindsOf st)) =
-            ap (λ (v : Stx). parseEntry (λ y. parse entries ph y) ph v (stateOf s (bindsOf st))) (same-object (q .is))
-            ∙ entry-atom (λ y. parse entries ph y) ph (stateOf s (bindsOf st)) (q .sets) (q .value) (λ t. n0 (q .tag ∙ t)) in
+            let rule : parseEntry (λ y. parse entries ph y) ph x (stateOf s (storeOf st)) ≡ ok (datum (q .value)) (stateOf s (storeOf st)) =
+            ap (λ (v : Stx). parseEntry (λ y. parse entries ph y) ph v (stateOf s (storeOf st))) (same-object (q .is))
+            ∙ entry-atom (λ y. parse entries ph y) ph (stateOf s (storeOf st)) (q .sets) (q .value) (λ t. n0 (q .tag ∙ t)) in
             rw g (gives (record { at = k .at; state = raisedTo (k .top) s }) (record {
               value = datum (q .value);
               is = rule;
@@ -176,11 +175,11 @@ module _ {st l : List ℕ} (s : State) {i : ℕ} {o : Node} (e : o ≡ getNode l
 module _ {ph : ℕ} {st l : List ℕ} (s : State) {i : ℕ} {n : Naming} (p : Names ph st (s .bindings) l i n) where
   pub name-unnamed : n ≡ Unnamed → ParsedName ph st l l s i (Refused (record { refusal = NoRule; left = s .left }))
   unfolding nameRule
-  name-unnamed e = record { means = λ x w. stops _ (identifier-unnamed ph (stateOf s (bindsOf st)) x _ (on-unnamed p w e)) }
+  name-unnamed e = record { means = λ x w. stops _ (identifier-unnamed ph (stateOf s (storeOf st)) x _ (on-unnamed p w e)) }
 
   pub name-unclear : n ≡ Unclear → ParsedName ph st l l s i (Refused (record { refusal = Ambiguous; left = s .left }))
   unfolding nameRule
-  name-unclear e = record { means = λ x w. stops _ (identifier-unclear ph (stateOf s (bindsOf st)) (λ k. λ z. ok (var k) z) x (on-unclear p w e)) }
+  name-unclear e = record { means = λ x w. stops _ (identifier-unclear ph (stateOf s (storeOf st)) (λ k. λ z. ok (var k) z) x (on-unclear p w e)) }
 
   pub name-var : {v : Name} {l1 : List ℕ} {k : Made} {z : State} → ReadyToParse l st (unpaid s) i → n ≡ Named v
       → Stored l l1 (s .top) (record { tag = variableTag; content = v .0 }) (k .at) (k .top) → z ≡ raisedTo (k .top) s
@@ -191,7 +190,7 @@ module _ {ph : ℕ} {st l : List ℕ} (s : State) {i : ℕ} {n : Naming} (p : Na
         means = λ x w.
             rw g (gives (record { at = k .at; state = raisedTo (k .top) s }) (record {
               value = var (v .0);
-              is = identifier-named ph (stateOf s (bindsOf st)) (λ k. λ z. ok (var k) z) x (on-named p w e);
+              is = identifier-named ph (stateOf s (storeOf st)) (λ k. λ z. ok (var k) z) x (on-named p w e);
               shown = record { rep = made-var d; few = r .held .few };
               later = node-later s (d .kept) (d .grows);
             }));
@@ -201,7 +200,7 @@ module _ {ph : ℕ} {st l : List ℕ} (s : State) {i : ℕ} {n : Naming} (p : Na
 
 pub list-empty : {entries ph : ℕ} {st l : List ℕ} {s : State} {c : ℕ} → c ≡ 0 → ParsedList entries ph st l l s c (Refused (record { refusal = NoRule; left = s .left }))
 list-empty {entries} {ph} {st} {l} {s} h =
-    record { means = λ k ps w. rw (nil-at ps w h) (stops _ (entry-empty (λ y. parse entries ph y) ph (stateOf s (bindsOf st)) k)) }
+    record { means = λ k ps w. rw (nil-at ps w h) (stops _ (entry-empty (λ y. parse entries ph y) ph (stateOf s (storeOf st)) k)) }
 
 pub list-inside : {l st : List ℕ} (s : State) {c : ℕ} → ReadyParts l st (unpaid s) c → ¬ (c ≡ 0) → c + cellSize ≤ length l
 unfolding unpaid
@@ -227,7 +226,7 @@ module _ {st l : List ℕ} (s : State) {c : ℕ} {x : Cell} (h : ¬ (c ≡ 0)) (
         record {
           means = λ k ps w.
               let q = first-at ps w h e in
-              rw (q .is) (stops _ (list-unclear (λ y. parse entries ph y) ph (stateOf s (bindsOf st)) k (q .first) (q .others) (on-unclear p (q .cell .shown) z)));
+              rw (q .is) (stops _ (list-unclear (λ y. parse entries ph y) ph (stateOf s (storeOf st)) k (q .first) (q .others) (on-unclear p (q .cell .shown) z)));
         }
 
     pub list-applied : {l1 : List ℕ} {r : Answer} → n ≡ Unnamed → ParsedApplication entries ph st l l1 s c r → ParsedList entries ph st l l1 s c r
@@ -237,7 +236,7 @@ module _ {st l : List ℕ} (s : State) {c : ℕ} {x : Cell} (h : ¬ (c ≡ 0)) (
           means = λ k ps w.
               let q = first-at ps w h e in
               let all : RepP l (s .top) c (tcons (stx (q .first)) (fromStxs (q .others))) = rw (q .is) at w in
-              rw (q .is, list-unnamed (λ y. parse entries ph y) ph (stateOf s (bindsOf st)) k (q .first) (q .others) (on-unnamed p (q .cell .shown) z))
+              rw (q .is, list-unnamed (λ y. parse entries ph y) ph (stateOf s (storeOf st)) k (q .first) (q .others) (on-unnamed p (q .cell .shown) z))
               (a .means (q .first) (q .others) all);
         }
 
@@ -248,7 +247,7 @@ module _ {st l : List ℕ} (s : State) {c : ℕ} {x : Cell} (h : ¬ (c ≡ 0)) (
           means = λ k ps w.
               let q = first-at ps w h e in
               let all : RepP l (s .top) c (tcons (stx (q .first)) (fromStxs (q .others))) = rw (q .is) at w in
-              rw (q .is, list-named (λ y. parse entries ph y) ph (stateOf s (bindsOf st)) k (q .first) (q .others) (on-named p (q .cell .shown) z))
+              rw (q .is, list-named (λ y. parse entries ph y) ph (stateOf s (storeOf st)) k (q .first) (q .others) (on-named p (q .cell .shown) z))
               (a .means (q .first) (q .others) all (q .cell .shown-others));
         }
 
@@ -257,22 +256,22 @@ module _ {st l : List ℕ} (s : State) {c : ℕ} {x : Cell} (h : ¬ (c ≡ 0)) (
 module _ {entries ph : ℕ} {st l : List ℕ} {s : State} {n : ℕ} {c tail : ℕ} {f : Form} (h : formed f ≡ formOf n) where
   pub form-is-lambda : {l1 : List ℕ} {r : Answer} → f ≡ form.Lambda → ParsedLambda entries ph st l l1 s tail r → ParsedForm entries ph st l l1 s n c tail r
   form-is-lambda z a =
-      record { means = λ x ps u w. rw (form-lambda (λ y. parse entries ph y) ph (stateOf s (bindsOf st)) x ps (sym (ap formed z) ∙ h)) (a .means ps w) }
+      record { means = λ x ps u w. rw (form-lambda (λ y. parse entries ph y) ph (stateOf s (storeOf st)) x ps (sym (ap formed z) ∙ h)) (a .means ps w) }
 
   pub form-is-let-syntax : f ≡ form.LetSyntax → ParsedForm entries ph st l l s n c tail (Refused (record { refusal = NoRule; left = s .left }))
-  form-is-let-syntax z = record { means = λ x ps u w. stops _ (form-let-syntax (λ y. parse entries ph y) ph (stateOf s (bindsOf st)) x ps (sym (ap formed z) ∙ h)) }
+  form-is-let-syntax z = record { means = λ x ps u w. stops _ (form-let-syntax (λ y. parse entries ph y) ph (stateOf s (storeOf st)) x ps (sym (ap formed z) ∙ h)) }
 
   pub form-is-quote : {l1 : List ℕ} {r : Answer} → f ≡ form.Quote → ParsedQuote l l1 s tail r → ParsedForm entries ph st l l1 s n c tail r
   form-is-quote z a =
-      record { means = λ x ps u w. rw (form-quote (λ y. parse entries ph y) ph (stateOf s (bindsOf st)) x ps (sym (ap formed z) ∙ h)) (a .means (bindsOf st) ps w) }
+      record { means = λ x ps u w. rw (form-quote (λ y. parse entries ph y) ph (stateOf s (storeOf st)) x ps (sym (ap formed z) ∙ h)) (a .means (storeOf st) ps w) }
 
   pub form-is-syntax : {r : Answer} → f ≡ form.Syntax → ParsedSyntax l s tail r → ParsedForm entries ph st l l s n c tail r
   form-is-syntax z a =
-      record { means = λ x ps u w. rw (form-syntax (λ y. parse entries ph y) ph (stateOf s (bindsOf st)) x ps (sym (ap formed z) ∙ h)) (a .means (bindsOf st) ps w) }
+      record { means = λ x ps u w. rw (form-syntax (λ y. parse entries ph y) ph (stateOf s (storeOf st)) x ps (sym (ap formed z) ∙ h)) (a .means (storeOf st) ps w) }
 
   pub form-is-other : {l1 : List ℕ} {r : Answer} → f ≡ form.Other → ParsedApplication entries ph st l l1 s c r → ParsedForm entries ph st l l1 s n c tail r
   form-is-other z a =
-      record { means = λ x ps u w. rw (form-other (λ y. parse entries ph y) ph (stateOf s (bindsOf st)) x ps (sym (ap formed z) ∙ h)) (a .means x ps u) }
+      record { means = λ x ps u w. rw (form-other (λ y. parse entries ph y) ph (stateOf s (storeOf st)) x ps (sym (ap formed z) ∙ h)) (a .means x ps u) }
 
 module _ {l st : List ℕ} (s : State) {c tail : ℕ} (r : ReadyForm l st (unpaid s) c tail) where
   pub form-tail-ready : ReadyParts l st (unpaid s) tail
@@ -298,7 +297,7 @@ parts-held s r = omega (arith, r .held .few, r .held .wide)
 module _ {st l : List ℕ} (s : State) {c : ℕ} {d : Two} (h : Double l c d) where
   pub lambda-shape : {entries ph : ℕ} → d ≡ two.Not → ParsedLambda entries ph st l l s c (Refused (record { refusal = NoRule; left = s .left }))
   unfolding lambdaRule
-  lambda-shape e = record { means = λ ps w. stops _ (not-parts2 ps _ (stateOf s (bindsOf st)) (on-not-two (h .means (s .top) ps w) e)) }
+  lambda-shape e = record { means = λ ps w. stops _ (not-parts2 ps _ (stateOf s (storeOf st)) (on-not-two (h .means (s .top) ps w) e)) }
 
   module _ {i j : ℕ} (e : d ≡ two.Are i j) where
     pub lambda-id-seen : ReadyParts l st (unpaid s) c → Seen l i
@@ -317,7 +316,7 @@ module _ {st l : List ℕ} (s : State) {c : ℕ} {d : Two} (h : Double l c d) wh
           record {
             means = λ ps w.
                 let q = on-two (h .means (s .top) ps w) e in
-                rw (q .is) (stops _ (identifier-unnamed ph (stateOf s (bindsOf st)) (q .first) _ (on-unnamed p (q .shown) z)));
+                rw (q .is) (stops _ (identifier-unnamed ph (stateOf s (storeOf st)) (q .first) _ (on-unnamed p (q .shown) z)));
           }
 
       pub lambda-unclear : n ≡ Unclear → ParsedLambda entries ph st l l s c (Refused (record { refusal = Ambiguous; left = s .left }))
@@ -326,7 +325,7 @@ module _ {st l : List ℕ} (s : State) {c : ℕ} {d : Two} (h : Double l c d) wh
           record {
             means = λ ps w.
                 let q = on-two (h .means (s .top) ps w) e in
-                rw (q .is) (stops _ (identifier-unclear ph (stateOf s (bindsOf st)) (λ k. functionRule (λ y. parse entries ph y) k (q .second)) (q .first) (on-unclear p (q .shown) z)));
+                rw (q .is) (stops _ (identifier-unclear ph (stateOf s (storeOf st)) (λ k. functionRule (λ y. parse entries ph y) k (q .second)) (q .first) (on-unclear p (q .shown) z)));
           }
 
       pub lambda-function : {v : Name} {l1 : List ℕ} {r : Answer} → n ≡ Named v → ParsedFunction entries ph st l l1 s (v .0) j r → ParsedLambda entries ph st l l1 s c r
@@ -335,7 +334,7 @@ module _ {st l : List ℕ} (s : State) {c : ℕ} {d : Two} (h : Double l c d) wh
           record {
             means = λ ps w.
                 let q = on-two (h .means (s .top) ps w) e in
-                rw (q .is, identifier-named ph (stateOf s (bindsOf st)) (λ k. functionRule (λ y. parse entries ph y) k (q .second)) (q .first) (on-named p (q .shown) z))
+                rw (q .is, identifier-named ph (stateOf s (storeOf st)) (λ k. functionRule (λ y. parse entries ph y) k (q .second)) (q .first) (on-named p (q .shown) z))
                 (a .means (q .second) (q .shown-second));
           }
 
@@ -352,7 +351,7 @@ module _ {entries ph : ℕ} {st l l1 : List ℕ} (s : State) {body : ℕ} {a : A
   function-refused e = record { means = λ x w. stops _ (then-no _ (on-refused (v .means x w) (ap ended e))) }
 
   module _ {o : Out} (e : a ≡ Done o) where
-    function-gave : (x : Stx) → Rep l (s .top) body (stx x) → Gave trees 1 twoCells l l1 s (bindsOf st) (parse entries ph x (stateOf s (bindsOf st))) o
+    function-gave : (x : Stx) → Rep l (s .top) body (stx x) → Gave trees 1 twoCells l l1 s (storeOf st) (parse entries ph x (stateOf s (storeOf st))) o
     function-gave x w = on-done (v .means x w) (ap ended e)
 
     pub function-ready : ReadyToParse l st (unpaid s) body → length l1 ≡ length l → Closable l1 (o .state .top) (o .at)
@@ -478,7 +477,7 @@ module _ {entries ph : ℕ} {st l l1 : List ℕ} (s : State) {c : ℕ} {a : Answ
   pub application-refused : {f : Stop} → a ≡ Refused f → ParsedApplication entries ph st l l1 s c (Refused f)
   unfolding fromStxs
   application-refused e =
-      record { means = λ h ps w. stops _ (application-no (λ y. parse entries ph y) h ps (stateOf s (bindsOf st)) (on-refused (v .means (cons h ps) w) (ap ended e))) }
+      record { means = λ h ps w. stops _ (application-no (λ y. parse entries ph y) h ps (stateOf s (storeOf st)) (on-refused (v .means (cons h ps) w) (ap ended e))) }
 
   module _ {o : Out} (e : a ≡ Done o) where
     pub application-roomy : ReadyParts l st (unpaid s) c → length l1 ≡ length l → Roomy l1 (o .state .top) nodeSize
@@ -494,7 +493,7 @@ module _ {entries ph : ℕ} {st l l1 : List ℕ} (s : State) {c : ℕ} {a : Answ
         record {
           means = λ h ps w.
               let q = on-done (v .means (cons h ps) w) (ap ended e) in
-              let f = application-is (λ y. parse entries ph y) h ps (stateOf s (bindsOf st)) (q .is) in
+              let f = application-is (λ y. parse entries ph y) h ps (stateOf s (storeOf st)) (q .is) in
               let shown : RepP l1 (o .state .top) (o .at) (tcons (f .first) (f .others)) = rw (f .is) at (q .shown .rep) in
               rw g (gives (record { at = k .at; state = raisedTo (k .top) (o .state) }) (record {
                 value = app (f .first) (f .others);

@@ -8,13 +8,12 @@ use Rattle.model.specs.Objects.{Sets, Stx, list, Stxs, size}
 use Rattle.model.specs.Trees.{Tree, var, app, fun, stx, Trees, tcons, fromStxs, strip}
 use Rattle.model.specs.Steps.{Step, _>>=_, _>>_, done, charge, resolveAt, parts1, parts2, identifier}
 use Rattle.model.specs.Parsing.{formOf, parseAll, parseForm, parseEntry, parse}
-use Rattle.store.specs.Words.{bindsOf}
-use Rattle.steps.specs.States.{Store, stateOf, end, Room}
+use Rattle.steps.specs.States.{Store, storeOf, Held, stateOf, end, Room}
 use Rattle.steps.specs.Agreement.{ended, Agrees}
 use Rattle.steps.specs.declared.State.{State}
 use Rattle.steps.specs.declared.Answer.{Answer}
 use Rattle.things.specs.Rep.{Rep, RepP}
-use Rattle.parse.specs.Shown.{Held, trees, chains}
+use Rattle.parse.specs.Shown.{trees, chains}
 use Rattle.table.specs.Sizes.{twoCells}
 
 unfoldable pub unpaid : State → State
@@ -99,30 +98,30 @@ applicationRule self h l = do
 -- ---- what is given
 
 pub record Parsed (entries ph : ℕ) (st l l′ : List ℕ) (s : State) (i : ℕ) (r : Answer) : Type 0 where
-  pub means : (x : Stx) → Rep l (s .top) i (stx x) → Agrees trees 1 twoCells l l′ s (bindsOf st) (parse entries ph x (stateOf s (bindsOf st))) (ended r)
+  pub means : (x : Stx) → Rep l (s .top) i (stx x) → Agrees trees 1 twoCells l l′ s (storeOf st) (parse entries ph x (stateOf s (storeOf st))) (ended r)
 
 pub record ParsedEntry (entries ph : ℕ) (st l l′ : List ℕ) (s : State) (i : ℕ) (r : Answer) : Type 0 where
   pub means : (x : Stx) → Rep l (s .top) i (stx x)
-      → Agrees trees 1 twoCells l l′ (unpaid s) (bindsOf st) (parseEntry (λ y. parse entries ph y) ph x (stateOf s (bindsOf st))) (ended r)
+      → Agrees trees 1 twoCells l l′ (unpaid s) (storeOf st) (parseEntry (λ y. parse entries ph y) ph x (stateOf s (storeOf st))) (ended r)
 
 pub record ParsedName (ph : ℕ) (st l l′ : List ℕ) (s : State) (i : ℕ) (r : Answer) : Type 0 where
-  pub means : (x : Stx) → Rep l (s .top) i (stx x) → Agrees trees 1 twoCells l l′ (unpaid s) (bindsOf st) (nameRule ph x (stateOf s (bindsOf st))) (ended r)
+  pub means : (x : Stx) → Rep l (s .top) i (stx x) → Agrees trees 1 twoCells l l′ (unpaid s) (storeOf st) (nameRule ph x (stateOf s (storeOf st))) (ended r)
 
 pub record ParsedList (entries ph : ℕ) (st l l′ : List ℕ) (s : State) (c : ℕ) (r : Answer) : Type 0 where
   pub means : (k : Sets) (ps : Stxs) → RepP l (s .top) c (fromStxs ps)
-      → Agrees trees 1 twoCells l l′ (unpaid s) (bindsOf st) (parseEntry (λ y. parse entries ph y) ph (list k ps) (stateOf s (bindsOf st))) (ended r)
+      → Agrees trees 1 twoCells l l′ (unpaid s) (storeOf st) (parseEntry (λ y. parse entries ph y) ph (list k ps) (stateOf s (storeOf st))) (ended r)
 
 pub record ParsedForm (entries ph : ℕ) (st l l′ : List ℕ) (s : State) (head c tail : ℕ) (r : Answer) : Type 0 where
   pub means : (h : Stx) (ps : Stxs) → RepP l (s .top) c (tcons (stx h) (fromStxs ps)) → RepP l (s .top) tail (fromStxs ps)
-      → Agrees trees 1 twoCells l l′ (unpaid s) (bindsOf st) (parseForm (λ y. parse entries ph y) ph (formOf head) h ps (stateOf s (bindsOf st))) (ended r)
+      → Agrees trees 1 twoCells l l′ (unpaid s) (storeOf st) (parseForm (λ y. parse entries ph y) ph (formOf head) h ps (stateOf s (storeOf st))) (ended r)
 
 pub record ParsedLambda (entries ph : ℕ) (st l l′ : List ℕ) (s : State) (c : ℕ) (r : Answer) : Type 0 where
   pub means : (ps : Stxs) → RepP l (s .top) c (fromStxs ps)
-      → Agrees trees 1 twoCells l l′ (unpaid s) (bindsOf st) (lambdaRule (λ y. parse entries ph y) ph ps (stateOf s (bindsOf st))) (ended r)
+      → Agrees trees 1 twoCells l l′ (unpaid s) (storeOf st) (lambdaRule (λ y. parse entries ph y) ph ps (stateOf s (storeOf st))) (ended r)
 
 pub record ParsedFunction (entries ph : ℕ) (st l l′ : List ℕ) (s : State) (n body : ℕ) (r : Answer) : Type 0 where
   pub means : (x : Stx) → Rep l (s .top) body (stx x)
-      → Agrees trees 1 twoCells l l′ (unpaid s) (bindsOf st) (functionRule (λ y. parse entries ph y) n x (stateOf s (bindsOf st))) (ended r)
+      → Agrees trees 1 twoCells l l′ (unpaid s) (storeOf st) (functionRule (λ y. parse entries ph y) n x (stateOf s (storeOf st))) (ended r)
 
 pub record ParsedQuote (l l′ : List ℕ) (s : State) (c : ℕ) (r : Answer) : Type 0 where
   pub means : (b : Store) (ps : Stxs) → RepP l (s .top) c (fromStxs ps) → Agrees trees 1 twoCells l l′ (unpaid s) b (quoteRule ps (stateOf s b)) (ended r)
@@ -135,8 +134,8 @@ pub record ParsedSyntax (l : List ℕ) (s : State) (c : ℕ) (r : Answer) : Type
 
 pub record ParsedApplication (entries ph : ℕ) (st l l′ : List ℕ) (s : State) (c : ℕ) (r : Answer) : Type 0 where
   pub means : (h : Stx) (ps : Stxs) → RepP l (s .top) c (tcons (stx h) (fromStxs ps))
-      → Agrees trees 1 twoCells l l′ (unpaid s) (bindsOf st) (applicationRule (λ y. parse entries ph y) h ps (stateOf s (bindsOf st))) (ended r)
+      → Agrees trees 1 twoCells l l′ (unpaid s) (storeOf st) (applicationRule (λ y. parse entries ph y) h ps (stateOf s (storeOf st))) (ended r)
 
 pub record ParsedParts (entries ph : ℕ) (st l l′ : List ℕ) (s : State) (c : ℕ) (r : Answer) : Type 0 where
   pub means : (ps : Stxs) → RepP l (s .top) c (fromStxs ps)
-      → Agrees chains 0 0 l l′ s (bindsOf st) (parseAll (λ y. parse entries ph y) ps (stateOf s (bindsOf st))) (ended r)
+      → Agrees chains 0 0 l l′ s (storeOf st) (parseAll (λ y. parse entries ph y) ps (stateOf s (storeOf st))) (ended r)

@@ -1,18 +1,12 @@
--- How an answer stands for a tree or a chain, and what the store is to a state.
+-- How an answer stands for a tree or a chain.
 use mathlib.Core.List.{List}
-use Prim.Native.Nat.{ℕ, _+_, _≤_}
-use lib.ListN.{length}
+use Prim.Native.Nat.{ℕ, _≤_}
 use Rattle.model.specs.Trees.{Tree, Trees}
 use Rattle.steps.specs.Agreement.{Shape}
 use Rattle.steps.specs.declared.State.{State}
 use Rattle.steps.specs.declared.Out.{Out}
 use Rattle.things.specs.Rep.{Rep, RepP}
-use Rattle.store.specs.Sizes.{storeSize, mostBindings}
-
--- the store is whole, and holds no more than it has room for
-pub record Held (st : List ℕ) (s : State) : Type 0 where
-  pub few : s .bindings ≤ mostBindings
-  pub wide : storeSize ≤ length st
+use Rattle.store.specs.Sizes.{mostBindings}
 
 pub record ShownTree (l : List ℕ) (o : Out) (t : Tree) : Type 0 where
   pub rep : Rep l (o .state .top) (o .at) t

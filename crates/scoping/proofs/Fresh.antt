@@ -26,7 +26,7 @@ use Rattle.scopes.specs.declared.ScopeSet.{ScopeSet}
 use Rattle.store.specs.Words.{bindOf, bindsOf, bindsFrom, bindAt}
 use Rattle.store.specs.declared.bindings.Binding.{Binding}
 pub use Rattle.store.proofs.Runs.{binds-length}
-use Rattle.steps.specs.States.{Store, stateOf, stopOf, paid, raisedTo, chargeOf, Room}
+use Rattle.steps.specs.States.{Store, storeOf, noStore, stateOf, stopOf, paid, raisedTo, chargeOf, Room}
 use Rattle.steps.specs.Agreement.{Later, Ended, ended, Gave, Agrees, gives, stops}
 use Rattle.steps.specs.declared.State.{State}
 use Rattle.steps.specs.declared.Stop.{Stop}
@@ -46,7 +46,6 @@ use Rattle.things.proofs.Frame.{up}
 use Rattle.things.proofs.ByTag.{content-is}
 use Rattle.things.proofs.Measuring.{node-inside}
 use Rattle.copying.specs.Copying.{Copyable, Copied}
-use Rattle.parse.specs.Shown.{Held}
 use Rattle.parse.specs.Parsing.{unpaid}
 use Rattle.scoping.specs.Changing.{ShownObject, objects, ReadyObject, changeRule, Changes}
 use Rattle.scoping.specs.Fresh.{paidOf, Taken, takeRule, ShownTaken, taken, Takes, Keys, Few, puts, Puts, ShownPut, putsBinder, PutsBinder, ReadyBinder, ShownBinder, binders, boundOf, bindRule, Binds, BindsFresh, Added, freshScopeOf, Marked, marksRule, markRule, ShownMark, marks, markingOf, Marks, MarksFresh}
@@ -82,7 +81,7 @@ abbrev takes : State → State
 takes s = record { top = s .top; left = s .left; names = s .names + 1; scopes = s .scopes + 1; bindings = s .bindings }
 
 after-name : State → Store → ms.State
-after-name s b = record { left = s .left; names = s .names + 1; scopes = s .scopes; binds = b (s .bindings) }
+after-name s b = record { left = s .left; names = s .names + 1; scopes = s .scopes; binds = b .bindings (s .bindings) }
 
 module _ (s : State) where
   pub take-no-name : 1024 ≤ s .names → Takes s (charged.Refused (record { refusal = NoNameLeft; left = s .left }))
@@ -201,15 +200,15 @@ module _ {l st : List ℕ} (s : State) {i : ℕ} (r : ReadyBinder l st (unpaid s
       key-of c x = record { symb = x; target = n .0; set = setAt ph (changeAt (add (d .0)) ph c) }
 
       put-as : (c : Sets) (x : ℕ) → Rep l (s .top) i (stx (atom c (symbol x)))
-          → Agrees (putsBinder n d (m .at)) 0 0 l1 l1 (raisedTo (m .top) s) (bindsOf st1) (bind (key-of c x) (stateOf s (bindsOf st))) (boundOf z)
+          → Agrees (putsBinder n d (m .at)) 0 0 l1 l1 (raisedTo (m .top) s) (storeOf st1) (bind (key-of c x) (stateOf s (storeOf st))) (boundOf z)
       unfolding key-of
       put-as c x w =
           let p2 : PutsBinder n d (m .at) st st1 (raisedTo (m .top) s) b z = rw e at p in
           let a = p2 .means l1 in
           rw (k .means (m .top) (changeAt (add (d .0)) ph c) x (copied c x w)) at a
 
-      as-bound : Declared d → (c : Sets) (x : ℕ) → Rep l (s .top) i (stx (atom c (symbol x))) → {q : Ended Binder} → Agrees (putsBinder n d (m .at)) 0 0 l1 l1 (raisedTo (m .top) s) (bindsOf st1) (bind (key-of c x) (stateOf s (bindsOf st))) q
-          → Agrees (binders x) 1 nodeSpare l l1 (unpaid s) (bindsOf st1) (bindRule (n .0) (d .0) ph c x (stateOf s (bindsOf st))) q
+      as-bound : Declared d → (c : Sets) (x : ℕ) → Rep l (s .top) i (stx (atom c (symbol x))) → {q : Ended Binder} → Agrees (putsBinder n d (m .at)) 0 0 l1 l1 (raisedTo (m .top) s) (storeOf st1) (bind (key-of c x) (stateOf s (storeOf st))) q
+          → Agrees (binders x) 1 nodeSpare l l1 (unpaid s) (storeOf st1) (bindRule (n .0) (d .0) ph c x (stateOf s (storeOf st))) q
       unfolding bindRule unpaid size key-of
       as-bound known c x w (gives o g) =
           let q = v .means (atom c (symbol x)) w in
@@ -256,7 +255,7 @@ bind-split ph c x y = simp after-after
 module _ {s : State} {y : Charged} (p : Takes s y) where
   pub fresh-refused : {ph : ℕ} {st l : List ℕ} {i : ℕ} {f : Stop} → y ≡ charged.Refused f → BindsFresh ph st st l l s i (bounds.Refused f)
   fresh-refused {ph} {st} {l} z =
-      record { means = λ c x w. stops _ (bind-split ph c x (stateOf s (bindsOf st)) ∙ then-no _ (on-refused (p .means l (bindsOf st)) (ap paidOf z))) }
+      record { means = λ c x w. stops _ (bind-split ph c x (stateOf s (storeOf st)) ∙ then-no _ (on-refused (p .means l (storeOf st)) (ap paidOf z))) }
 
   module _ {t : State} (z : y ≡ charged.Paid t) where
     took : (l : List ℕ) (b : Store) → Gave (taken (s .names)) 1 unitSize l l s b (takeRule (stateOf s b)) t
@@ -269,17 +268,17 @@ module _ {s : State} {y : Charged} (p : Takes s y) where
         record { kept = g .later .kept; grows = g .later .grows; fits = omega (arith, g .later .fits); spent = omega (arith, g .later .spent) }
 
     pub fresh-declared : Declared (record { 0 = t .scopes })
-    fresh-declared = let g = took [] (λ n. []) in record { from-one = g .shown .from-one; most = g .shown .most }
+    fresh-declared = let g = took [] noStore in record { from-one = g .shown .from-one; most = g .shown .most }
 
     pub fresh-ready : {st l : List ℕ} {i : ℕ} → ReadyBinder l st s i → ReadyBinder l st (unpaid t) i
     unfolding unpaid
     fresh-ready {st} {l} r =
-        let g = took l (λ n. []) in
+        let g = took l noStore in
         record {
           sets = r .sets;
           symb = r .symb;
           shown = up (r .shown) (g .later .grows);
-          room = room-later (r .room) (later-took l (λ n. [])) refl;
+          room = room-later (r .room) (later-took l noStore) refl;
           held = record { few = g .shown .few; wide = r .held .wide };
         }
 
@@ -287,11 +286,11 @@ module _ {s : State} {y : Charged} (p : Takes s y) where
     fresh-bound {ph} {st} {st1} {l} {l1} {i} {r} a =
         record {
           means = λ c x w.
-              let g = took l (bindsOf st) in
-              let named : bindRule (g .value .name) (g .value .scope) ph c x (stateOf t (bindsOf st)) ≡ bindRule (s .names) (t .scopes) ph c x (stateOf t (bindsOf st)) =
+              let g = took l (storeOf st) in
+              let named : bindRule (g .value .name) (g .value .scope) ph c x (stateOf t (storeOf st)) ≡ bindRule (s .names) (t .scopes) ph c x (stateOf t (storeOf st)) =
               rw (g .shown .name, sym (g .shown .scope)) refl in
-              since 1 nodeSpare (later-took l (bindsOf st)) (omega arith) (omega arith)
-              (bind-split ph c x (stateOf s (bindsOf st)) ∙ then-ok _ (g .is) ∙ named)
+              since 1 nodeSpare (later-took l (storeOf st)) (omega arith) (omega arith)
+              (bind-split ph c x (stateOf s (storeOf st)) ∙ then-ok _ (g .is) ∙ named)
               (a .means c x (up w (g .later .grows)));
         }
 
@@ -342,7 +341,7 @@ module _ (ph u k : ℕ) {l l1 : List ℕ} {s : State} {i : ℕ} {a : Answer} (v 
 
     pub mark-ready : ReadyObject l s i → length l1 ≡ length l → ReadyObject l1 (o .state) (o .at)
     mark-ready r len =
-        let g = used (λ n. []) (r .thing) (r .shown) in
+        let g = used noStore (r .thing) (r .shown) in
         record { thing = g .value; shown = g .shown .rep; room = room-later (r .room) (g .later) len; few = g .shown .few }
 
     module _ {l2 : List ℕ} {d : Answer} (q : Changes (flipScope k ph) l1 l2 (o .state) (o .at) d) where
@@ -384,7 +383,7 @@ module _ (s : State) {x : Charged} (h : x ≡ freshScopeOf s) where
         record {
           means = λ b x w. rw (q .is, tu) (stops _ (
               then-ok _ (scope-ok (stateOf s b) (first .some))
-              ∙ then-no _ (scope-no (record { left = s .left; names = s .names; scopes = s .scopes + 1; binds = b (s .bindings) }) (omega (arith, q .none, ts)))));
+              ∙ then-no _ (scope-no (record { left = s .left; names = s .names; scopes = s .scopes + 1; binds = b .bindings (s .bindings) }) (omega (arith, q .none, ts)))));
         }
 
     module _ {u : State} (z : y ≡ charged.Paid u) where
@@ -415,12 +414,12 @@ module _ (s : State) {x : Charged} (h : x ≡ freshScopeOf s) where
           record {
             means = λ b x w.
                 let d = a .means b x (rw ut w) in
-                let same : stateOf u b ≡ record { left = s .left; names = s .names; scopes = s .scopes + 1 + 1; binds = b (s .bindings) } = rw (second .is, first .is) refl in
-                let named : marksRule ph (s .scopes + 1) (s .scopes + 1 + 1) x (record { left = s .left; names = s .names; scopes = s .scopes + 1 + 1; binds = b (s .bindings) }) ≡ marksRule ph (t .scopes) (u .scopes) x (stateOf u b) =
+                let same : stateOf u b ≡ record { left = s .left; names = s .names; scopes = s .scopes + 1 + 1; binds = b .bindings (s .bindings) } = rw (second .is, first .is) refl in
+                let named : marksRule ph (s .scopes + 1) (s .scopes + 1 + 1) x (record { left = s .left; names = s .names; scopes = s .scopes + 1 + 1; binds = b .bindings (s .bindings) }) ≡ marksRule ph (t .scopes) (u .scopes) x (stateOf u b) =
                 λ j. marksRule ph ((sym ts) j) ((sym us) j) x ((sym same) j) in
                 let goes : markRule ph x (stateOf s b) ≡ marksRule ph (t .scopes) (u .scopes) x (stateOf u b) =
                 then-ok _ (scope-ok (stateOf s b) (first .some))
-                ∙ then-ok _ (scope-ok (record { left = s .left; names = s .names; scopes = s .scopes + 1; binds = b (s .bindings) }) (omega (arith, second .some, ts)))
+                ∙ then-ok _ (scope-ok (record { left = s .left; names = s .names; scopes = s .scopes + 1; binds = b .bindings (s .bindings) }) (omega (arith, second .some, ts)))
                 ∙ named in
                 since 1 nodeSpare (later-marks l) (omega arith) (omega arith) goes d;
           }

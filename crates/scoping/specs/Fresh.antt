@@ -18,16 +18,15 @@ use Rattle.refusals.specs.declared.Refusal.the-variants.{NoScopeLeft}
 use Rattle.scopes.specs.Sets.{Declared, setScopes}
 use Rattle.scopes.specs.declared.Name.{Name}
 use Rattle.scopes.specs.declared.Scope.{Scope}
-use Rattle.store.specs.Words.{bindOf, bindsOf}
+use Rattle.store.specs.Words.{bindOf}
 use Rattle.store.specs.declared.bindings.Binding.{Binding}
-use Rattle.steps.specs.States.{Store, stateOf, stopOf, Room}
+use Rattle.steps.specs.States.{Store, storeOf, Held, stateOf, stopOf, Room}
 use Rattle.steps.specs.Agreement.{Shape, Ended, done as ends, refused, Agrees}
 use Rattle.steps.specs.declared.State.{State}
 use Rattle.steps.specs.declared.Charged.{Charged}
 use Rattle.steps.specs.declared.Charged.the-variants as charged
 use Rattle.things.specs.Rep.{Rep}
 use Rattle.copying.specs.Copying.{Copied}
-use Rattle.parse.specs.Shown.{Held}
 use Rattle.parse.specs.Parsing.{unpaid}
 use Rattle.scoping.specs.Changing.{changeRule}
 use Rattle.scoping.specs.declared.Binder.{Binder}
@@ -82,7 +81,7 @@ abbrev pub puts : Shape (Unit {0}) State
 puts = record { shows = λ l o k. Few o; state = λ o. o }
 
 pub record Puts (st st′ : List ℕ) (s : State) (b : Binding) (r : Charged) : Type 0 where
-  pub means : (l : List ℕ) → Agrees puts 0 0 l l s (bindsOf st′) (bind (bindOf b) (stateOf s (bindsOf st))) (paidOf r)
+  pub means : (l : List ℕ) → Agrees puts 0 0 l l s (storeOf st′) (bind (bindOf b) (stateOf s (storeOf st))) (paidOf r)
 
 -- with the binder that it is for
 pub record ShownPut (n : Name) (k : Scope) (at : ℕ) (o : Binder) : Type 0 where
@@ -99,7 +98,7 @@ boundOf (bound.Done o) = ends o
 boundOf (bound.Refused f) = refused f
 
 pub record PutsBinder (n : Name) (k : Scope) (at : ℕ) (st st′ : List ℕ) (s : State) (b : Binding) (r : Bound) : Type 0 where
-  pub means : (l : List ℕ) → Agrees (putsBinder n k at) 0 0 l l s (bindsOf st′) (bind (bindOf b) (stateOf s (bindsOf st))) (boundOf r)
+  pub means : (l : List ℕ) → Agrees (putsBinder n k at) 0 0 l l s (storeOf st′) (bind (bindOf b) (stateOf s (storeOf st))) (boundOf r)
 
 -- ---- a binder
 
@@ -134,11 +133,11 @@ pub record Added (ph k : ℕ) (l l′ : List ℕ) (top i at top′ : ℕ) : Type
 -- the unit charged before pays for the binder
 pub record Binds (ph : ℕ) (st st′ l l′ : List ℕ) (s : State) (name scope i : ℕ) (r : Bound) : Type 0 where
   pub means : (c : Sets) (x : ℕ) → Rep l (s .top) i (stx (atom c (symbol x)))
-      → Agrees (binders x) 1 nodeSpare l l′ (unpaid s) (bindsOf st′) (bindRule name scope ph c x (stateOf s (bindsOf st))) (boundOf r)
+      → Agrees (binders x) 1 nodeSpare l l′ (unpaid s) (storeOf st′) (bindRule name scope ph c x (stateOf s (storeOf st))) (boundOf r)
 
 pub record BindsFresh (ph : ℕ) (st st′ l l′ : List ℕ) (s : State) (i : ℕ) (r : Bound) : Type 0 where
   pub means : (c : Sets) (x : ℕ) → Rep l (s .top) i (stx (atom c (symbol x)))
-      → Agrees (binders x) 1 nodeSpare l l′ s (bindsOf st′) (bindFresh ph c x (stateOf s (bindsOf st))) (boundOf r)
+      → Agrees (binders x) 1 nodeSpare l l′ s (storeOf st′) (bindFresh ph c x (stateOf s (storeOf st))) (boundOf r)
 
 -- ---- the marks of a macro's use
 

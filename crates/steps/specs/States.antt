@@ -1,5 +1,5 @@
 -- The code's state as the rules' state, and what the code's charges do to it.
-use mathlib.Core.List.{List}
+use mathlib.Core.List.{List, []}
 use Prim.Native.Nat.{ℕ, _+_, _-_, _*_, _≤_}
 use lib.ListN.{length}
 use lib.Dec.{eqb, ltb}
@@ -12,18 +12,33 @@ use Rattle.steps.specs.declared.State.{State}
 use Rattle.steps.specs.declared.Stop.{Stop}
 use Rattle.steps.specs.declared.Charged.{Charged}
 use Rattle.steps.specs.declared.Charged.the-variants.{Paid, Refused}
+use Rattle.store.specs.Sizes.{mostBindings, storeSize}
+use Rattle.store.specs.Words.{bindsOf}
 use Rattle.table.specs.Sizes.{tableSize, unitSize}
 
 -- entries in progress: the model's mostEntries
 abbrev pub mostEntries : ℕ
 mostEntries = 128
 
--- what the first n places of the store stand for. Evaluate and parse take any; expand takes what its store's contents are.
-abbrev pub Store : Type 0
-Store = ℕ → List Bind
+-- what an agreement speaks of that lies outside the state: what the first n places of the store stand for. Evaluate and parse take any;
+-- expand takes what its store's contents are.
+pub record Store : Type 0 where
+  pub bindings : ℕ → List Bind
+
+abbrev pub storeOf : List ℕ → Store
+storeOf l = record { bindings = bindsOf l }
+
+-- where any will do
+abbrev pub noStore : Store
+noStore = record { bindings = λ n. [] }
+
+-- the store is whole, and holds no more than it has room for
+pub record Held (st : List ℕ) (s : State) : Type 0 where
+  pub few : s .bindings ≤ mostBindings
+  pub wide : storeSize ≤ length st
 
 abbrev pub stateOf : State → Store → m.State
-stateOf s b = record { left = s .left; names = s .names; scopes = s .scopes; binds = b (s .bindings) }
+stateOf s b = record { left = s .left; names = s .names; scopes = s .scopes; binds = b .bindings (s .bindings) }
 
 abbrev pub stopOf : Refusal → State → Stop
 stopOf r s = record { refusal = r; left = s .left }
