@@ -11,7 +11,7 @@ use Rattle.steps.specs.declared.Stop.{Stop}
 use Rattle.steps.specs.declared.Out.{Out}
 use Rattle.steps.specs.declared.Answer.{Answer}
 use Rattle.steps.specs.declared.Answer.the-variants.{Done, Refused}
-use Rattle.steps.specs.States.{noStore, stateOf}
+use Rattle.steps.specs.States.{noStore, stateOf, stopOf}
 use Rattle.steps.specs.Agreement.{Ready, ended, gives, stops}
 use borrow.Author.Tests.{eqb-true}
 use Rattle.model.specs.Objects as objects
@@ -109,10 +109,11 @@ pub call-args-ready : {l : List ℕ} {s : State} {f c : ℕ} → ReadyCall l s f
 call-args-ready r = record { thing = r .things; shown = r .shown-parts; room = r .room }
 
 module _ {l : List ℕ} {s : State} {f c : ℕ} {y : Bool} (h : TestedP l f c y) where
-  pub call-refused : {entries : ℕ} → y ≡ false → Calls entries l l s f c (Refused (record { refusal = NotApplicable; left = s .left }))
+  pub call-refused : {entries : ℕ} {r : Answer} → y ≡ false → r ≡ Refused (stopOf NotApplicable s) → Calls entries l l s f c r
   unfolding callOf
-  call-refused k =
-      record { means = λ b t ts a d. stops (record { refusal = NotApplicable; left = s .left }) (then-no _ (unless-no notApplicable (stateOf s b) (sym (h .means (s .top) t ts a d) ∙ k))) }
+  call-refused k same =
+      rw same
+      (record { means = λ b t ts a d. stops (stopOf NotApplicable s) (then-no _ (unless-no notApplicable (stateOf s b) (sym (h .means (s .top) t ts a d) ∙ k))) })
 
   module _ (k : y ≡ true) {entries : ℕ} {l1 : List ℕ} {a : Gathered} (v : Gathers entries l l1 s c a) where
     pub call-args-refused : {e : Stop} → a ≡ all.Refused e → Calls entries l l1 s f c (Refused e)

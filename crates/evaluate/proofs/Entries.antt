@@ -11,7 +11,7 @@ use Rattle.steps.specs.declared.Answer.{Answer}
 use Rattle.steps.specs.declared.Answer.the-variants.{Done, Refused}
 use Rattle.steps.specs.declared.Charged.{Charged}
 use Rattle.steps.specs.declared.Charged.the-variants as charged
-use Rattle.steps.specs.States.{stateOf, enterOf}
+use Rattle.steps.specs.States.{stateOf, stopOf, enterOf}
 use Rattle.steps.specs.Agreement.{Ready, gives, stops}
 use Rattle.model.specs.Steps as m
 use Rattle.model.specs.Steps.{ok, Step}
@@ -69,9 +69,9 @@ value-is e self y (is-atom a q z) n6 n7 = refl
 value-is e self y (is-list a q z r) n6 n7 = refl
 
 module _ {l : List ℕ} {s : State} {i : ℕ} {o : Node} (e : o ≡ getNode l i) where
-  pub form-var : {entries : ℕ} → o .tag ≡ variableTag → Forms entries l l s i (Refused (record { refusal = Unowned; left = s .left }))
+  pub form-var : {entries : ℕ} {r : Answer} → o .tag ≡ variableTag → r ≡ Refused (stopOf Unowned s) → Forms entries l l s i r
   unfolding evalEntry
-  form-var h = record { means = λ b t r. stops (record { refusal = Unowned; left = s .left }) (rw (var-at r e h) refl) }
+  form-var h same = rw same (record { means = λ b t r. stops (stopOf Unowned s) (rw (var-at r e h) refl) })
 
   pub form-ready : Ready Rep l s i → o .tag ≡ applicationTag → ReadyApplication l s (o .content)
   form-ready r h = let p = app-at (r .shown) e h in record { first = p .first; others = p .others; shown = p .shown; room = r .room }

@@ -11,7 +11,7 @@ use Rattle.steps.specs.declared.Answer.{Answer}
 use Rattle.steps.specs.declared.Answer.the-variants.{Refused}
 use Rattle.steps.specs.declared.Charged.{Charged}
 use Rattle.steps.specs.declared.Charged.the-variants as charged
-use Rattle.steps.specs.States.{stateOf, paid, raisedTo, chargeOf, Room}
+use Rattle.steps.specs.States.{stateOf, stopOf, paid, raisedTo, chargeOf, Room}
 use Rattle.steps.specs.Agreement.{Later, Ready, stops}
 use borrow.Author.Tests.{le-leb, lt-leb}
 use Rattle.model.specs.Limits.{mostNesting}
@@ -83,19 +83,20 @@ module _ {l : List ℕ} {s u : State} {x : ℕ} {body : Body} {g : Charged} (r :
         }
 
     module _ {ex : Extent} (w : Measured l1 at ex) where
-      pub function-deep : {entries : ℕ} → 64 < ex .nesting → DoesFunction entries l l1 s n body x (Refused (record { refusal = TooDeep; left = u .left }))
+      pub function-deep : {entries : ℕ} {a : Answer} → 64 < ex .nesting → a ≡ Refused (stopOf TooDeep u) → DoesFunction entries l l1 s n body x a
       unfolding functionOf madeTree mostNesting
-      function-deep k =
-          let low = few (r .room) in
+      function-deep k same =
+          rw same
+          (let low = few (r .room) in
           record {
             means = λ b t v a c z.
                 let d = next t a z v c in
                 let deep : 64 < tnesting (substitute n v t) = omega (arith, k, w .means top1 (substitute n v t) (d .0) .nesting) in
-                stops (record { refusal = TooDeep; left = u .left })
+                stops (stopOf TooDeep u)
                 (then-ok _ (charge-ok (tsize t) s b (omega (arith, went .enough, low, z)))
                 ∙ then-no _ (then-no _ (unless-no tooDeep (stateOf (paid (tsize t) s) b) (lt-leb (tnesting (substitute n v t)) 64 deep)))
                 ∙ ap (λ (j : ℕ). no tooDeep j) (omega (arith, went .enough, low, z, left-is)));
-          }
+          })
 
       module _ (flat : ex .nesting ≤ 64) where
         pub function-ready-again : length l1 ≡ length l → Ready Rep l1 (raisedTo top1 u) at

@@ -13,7 +13,7 @@ use Rattle.steps.specs.declared.Answer.{Answer}
 use Rattle.steps.specs.declared.Answer.the-variants.{Done, Refused}
 use Rattle.steps.specs.declared.Charged.{Charged}
 use Rattle.steps.specs.declared.Charged.the-variants as charged
-use Rattle.steps.specs.States.{noStore, stateOf, enterOf}
+use Rattle.steps.specs.States.{noStore, stateOf, stopOf, enterOf}
 use Rattle.steps.specs.Agreement.{Ready, ended, stops}
 use Rattle.model.specs.Refusals.{notApplicable}
 use Rattle.model.specs.Trees.{tnil, tcons, tcount, app}
@@ -87,10 +87,11 @@ pub one-ready : {l : List ℕ} {s : State} {f i : ℕ} → ReadyOne l s f i → 
 one-ready r = record { thing = r .thing; shown = r .given; room = r .room }
 
 module _ {l : List ℕ} {s : State} {f i : ℕ} {y : Bool} (h : Tested l f 1 y) where
-  pub one-refused : {entries : ℕ} → y ≡ false → CallsOne entries l l s f i (Refused (record { refusal = NotApplicable; left = s .left }))
+  pub one-refused : {entries : ℕ} {r : Answer} → y ≡ false → r ≡ Refused (stopOf NotApplicable s) → CallsOne entries l l s f i r
   unfolding callOf tcount
-  one-refused k =
-      record { means = λ b t u p q. stops (record { refusal = NotApplicable; left = s .left }) (then-no _ (unless-no notApplicable (stateOf s b) (sym (h .means (s .top) t p) ∙ k))) }
+  one-refused k same =
+      rw same
+      (record { means = λ b t u p q. stops (stopOf NotApplicable s) (then-no _ (unless-no notApplicable (stateOf s b) (sym (h .means (s .top) t p) ∙ k))) })
 
   module _ (k : y ≡ true) {entries : ℕ} {l1 : List ℕ} {a : Answer} (v : Evaluates entries l l1 s i a) where
     pub one-argument-refused : {e : Stop} → a ≡ Refused e → CallsOne entries l l1 s f i (Refused e)

@@ -7,10 +7,11 @@ use lib.ListN.{length}
 use Rattle.refusals.specs.declared.Refusal.the-variants.{WrongArgument, TooDeep}
 use Rattle.steps.specs.declared.State.{State}
 use Rattle.steps.specs.declared.Stop.{Stop}
+use Rattle.steps.specs.declared.Answer.{Answer}
 use Rattle.steps.specs.declared.Answer.the-variants.{Done, Refused}
 use Rattle.steps.specs.declared.Charged.{Charged}
 use Rattle.steps.specs.declared.Charged.the-variants as charged
-use Rattle.steps.specs.States.{stateOf, paid, raisedTo, chargeOf}
+use Rattle.steps.specs.States.{stateOf, stopOf, paid, raisedTo, chargeOf}
 use Rattle.steps.specs.Agreement.{gives, stops}
 use mathlib.Core.Option.{Option, none, some}
 use borrow.Author.Tests.{le-leb, lt-leb}
@@ -82,18 +83,19 @@ module _ {l : List ℕ} {s u : State} {p x y z : ℕ} {g : Charged} (r : ReadyPr
     worked : Works l l1 (s .top) p x y z w
     worked = rw (went .is) at d
 
-    pub primitive-wrong : w ≡ Wrong → DoesPrimitive l l1 s p x y z (Refused (record { refusal = WrongArgument; left = u .left }))
+    pub primitive-wrong : {r : Answer} → w ≡ Wrong → r ≡ Refused (stopOf WrongArgument u) → DoesPrimitive l l1 s p x y z r
     unfolding applyPrimitive orWrongKind
-    primitive-wrong k =
-        record {
+    primitive-wrong k same =
+        rw same
+        (record {
           means = λ b ts a c.
               let o = taken (primitiveOf p) (tcount ts) c in
               rw (o .is)
-              (stops (record { refusal = WrongArgument; left = u .left })
+              (stops (stopOf WrongArgument u)
               (then-ok _ (charge-ok 1 s b (went .enough))
               ∙ ap (λ (v : Option Tree). orWrongKind v (stateOf (paid 1 s) b)) (on-wrong (worked .means (o .which) (o .is) ts a (o .able)) k)
               ∙ ap (λ (n : ℕ). no wrongArgument n) (sym left-is)));
-        }
+        })
 
     module _ {j : Made} (k : w ≡ Piece j) where
       pub primitive-seen : length l1 ≡ length l → Seen l1 (j .at)
@@ -109,20 +111,21 @@ module _ {l : List ℕ} {s u : State} {p x y z : ℕ} {g : Charged} (r : ReadyPr
           }
 
       module _ {ex : Extent} (f : Measured l1 (j .at) ex) where
-        pub primitive-deep : 64 < ex .nesting → DoesPrimitive l l1 s p x y z (Refused (record { refusal = TooDeep; left = u .left }))
+        pub primitive-deep : {r : Answer} → 64 < ex .nesting → r ≡ Refused (stopOf TooDeep u) → DoesPrimitive l l1 s p x y z r
         unfolding applyPrimitive orWrongKind madeTree mostNesting
-        primitive-deep n =
-            record {
+        primitive-deep n same =
+            rw same
+            (record {
               means = λ b ts a c.
                   let o = taken (primitiveOf p) (tcount ts) c in
                   let v = on-piece (worked .means (o .which) (o .is) ts a (o .able)) k in
                   let deep : 64 < tnesting (v .value) = omega (arith, n, f .means (j .top) (v .value) (v .shown) .nesting) in
-                  rw (o .is) (stops (record { refusal = TooDeep; left = u .left })
+                  rw (o .is) (stops (stopOf TooDeep u)
                   (then-ok _ (charge-ok 1 s b (went .enough))
                   ∙ ap (λ (t : Option Tree). orWrongKind t (stateOf (paid 1 s) b)) (v .is)
                   ∙ then-no _ (unless-no tooDeep (stateOf (paid 1 s) b) (lt-leb (tnesting (v .value)) 64 deep))
                   ∙ ap (λ (i : ℕ). no tooDeep i) (sym left-is)));
-            }
+            })
 
         pub primitive-done : ex .nesting ≤ 64 → DoesPrimitive l l1 s p x y z (Done (record { at = j .at; state = raisedTo (j .top) u }))
         unfolding applyPrimitive orWrongKind madeTree mostNesting

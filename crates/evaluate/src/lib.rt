@@ -94,10 +94,7 @@ fn form(table: &mut [u32], s: State, i: u32, entries: u32) -> Answer
     let o = table::get_node(table, i);
     let tag = o.tag;
     if tag == Node::VARIABLE {
-        return Answer::Refused(Stop {
-            refusal: Refusal::Unowned,
-            left: s.left,
-        });
+        return s.refuse(Refusal::Unowned);
     }
     if tag == Node::APPLICATION {
         return application(table, s, o.content, entries);
@@ -134,10 +131,7 @@ fn call(table: &mut [u32], s: State, f: u32, c: u32, entries: u32) -> Answer
             }
         }
     } else {
-        Answer::Refused(Stop {
-            refusal: Refusal::NotApplicable,
-            left: s.left,
-        })
+        s.refuse(Refusal::NotApplicable)
     }
 }
 
@@ -207,10 +201,7 @@ fn apply_function(
             let m = substitution::substitute(table, t.top, body.at, name, x);
             let e = things::measure(table, m.at);
             if State::MOST_NESTING < e.nesting {
-                return Answer::Refused(Stop {
-                    refusal: Refusal::TooDeep,
-                    left: t.left,
-                });
+                return t.refuse(Refusal::TooDeep);
             }
             let mut s1 = t;
             s1.top = m.top;
@@ -227,19 +218,13 @@ fn apply_primitive(table: &mut [u32], s: State, p: u32, x: u32, y: u32, z: u32) 
     match s.charge(1) {
         Charged::Refused(e) => Answer::Refused(e),
         Charged::Paid(u) => match primitives::primitive(table, u.top, p, x, y, z) {
-            Part::Wrong => Answer::Refused(Stop {
-                refusal: Refusal::WrongArgument,
-                left: u.left,
-            }),
+            Part::Wrong => u.refuse(Refusal::WrongArgument),
             Part::Piece(m) => {
                 let mut s1 = u;
                 s1.top = m.top;
                 let e = things::measure(table, m.at);
                 if State::MOST_NESTING < e.nesting {
-                    return Answer::Refused(Stop {
-                        refusal: Refusal::TooDeep,
-                        left: s1.left,
-                    });
+                    return s1.refuse(Refusal::TooDeep);
                 }
                 Answer::Done(Out {
                     at: m.at,
@@ -282,9 +267,6 @@ fn call_one(table: &mut [u32], s: State, f: u32, x: u32, entries: u32) -> Answer
             }
         }
     } else {
-        Answer::Refused(Stop {
-            refusal: Refusal::NotApplicable,
-            left: s.left,
-        })
+        s.refuse(Refusal::NotApplicable)
     }
 }

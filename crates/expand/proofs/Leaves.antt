@@ -280,7 +280,7 @@ back-inside r = omega (arith, below (r .shown), r .room .fits)
 module _ {l : List ℕ} {s : State} {i : ℕ} {o : Node} (e : o ≡ getNode l i) where
   pub back-none : {ph k : ℕ} {r : Answer} → listTag < o .tag → r ≡ Refused (stopOf NoSyntax s) → Backs ph k l l s i r
   unfolding backRule orNoSyntax
-  back-none h same = rw same (record { means = λ b t w. stops (record { refusal = NoSyntax; left = s .left }) (rw (not-syntax w e h) refl) })
+  back-none h same = rw same (record { means = λ b t w. stops (stopOf NoSyntax s) (rw (not-syntax w e h) refl) })
 
   module _ (h : o .tag ≤ listTag) where
     pub back-ready : ReadyBack l s i → ReadyObject l s i

@@ -157,9 +157,10 @@ module _ {st l : List ℕ} {s : State} {id right body : ℕ} {at : Surroundings}
 pub rhs-up : (at : Surroundings) → at .phase < 2 → at .phase + 1 < 2 ^ 32
 rhs-up at h = omega arith
 
-pub rhs-phase : {st l : List ℕ} {b : Binder} {right body : ℕ} {at : Surroundings} → 2 ≤ at .phase → OnwardRhs at st st l l b right body (onward.Refused (record { refusal = NoPhase; left = b .state .left }))
+pub rhs-phase : {st l : List ℕ} {b : Binder} {right body : ℕ} {at : Surroundings} {f : Stop} → 2 ≤ at .phase → f ≡ stopOf NoPhase (b .state) → OnwardRhs at st st l l b right body (onward.Refused f)
 unfolding rhsRule lastPhase
-rhs-phase {st} {b = b} {at = at} h = record { means = λ n u y g d w z k. stops _ (then-no _ (unless-no ref.noPhase (stateOf (b .state) (storeOf st)) (lt-leb (at .phase + 1) 2 (omega arith)))) }
+rhs-phase {st} {b = b} {at = at} h same =
+    rw same (record { means = λ n u y g d w z k. stops _ (then-no _ (unless-no ref.noPhase (stateOf (b .state) (storeOf st)) (lt-leb (at .phase + 1) 2 (omega arith)))) })
 
 -- of the right-hand side
 abbrev aboveOf : Surroundings → ScopeSet → Surroundings

@@ -12,7 +12,6 @@ use scoping::Binder;
 use scoping::Bound;
 use steps::Answer;
 use steps::State;
-use steps::Stop;
 ghost use Rattle.parse.specs.Parsing.{unpaid};
 ghost use Rattle.expand.specs.Cycle.{ReadyForm, ReadyLet, ReadyFunction, ReadyAbstraction, ReadyBinding, ReadyRhs, ExpandedLambda, ExpandedFunction, ExpandedAbstraction, ExpandedLetSyntax, OnwardBinding, OnwardRhs};
 
@@ -144,10 +143,7 @@ pub fn rhs(
     let phase = at.phase;
     let s = b.state;
     if table::Sets::LAST_PHASE <= phase {
-        return Onward::Refused(Stop {
-            refusal: Refusal::NoPhase,
-            left: s.left,
-        });
+        return Onward::Refused(s.stop(Refusal::NoPhase));
     }
     let none = ScopeSet::empty();
     let above = Surroundings {

@@ -173,13 +173,13 @@ module _ {st l : List ℕ} (s : State) {i : ℕ} {o : Node} (e : o ≡ getNode l
 -- ---- a variable
 
 module _ {ph : ℕ} {st l : List ℕ} (s : State) {i : ℕ} {n : Naming} (p : Names ph st (s .bindings) l i n) where
-  pub name-unnamed : n ≡ Unnamed → ParsedName ph st l l s i (Refused (record { refusal = NoRule; left = s .left }))
+  pub name-unnamed : {r : Answer} → n ≡ Unnamed → r ≡ Refused (stopOf NoRule s) → ParsedName ph st l l s i r
   unfolding nameRule
-  name-unnamed e = record { means = λ x w. stops _ (identifier-unnamed ph (stateOf s (storeOf st)) x _ (on-unnamed p w e)) }
+  name-unnamed e same = rw same (record { means = λ x w. stops _ (identifier-unnamed ph (stateOf s (storeOf st)) x _ (on-unnamed p w e)) })
 
-  pub name-unclear : n ≡ Unclear → ParsedName ph st l l s i (Refused (record { refusal = Ambiguous; left = s .left }))
+  pub name-unclear : {r : Answer} → n ≡ Unclear → r ≡ Refused (stopOf Ambiguous s) → ParsedName ph st l l s i r
   unfolding nameRule
-  name-unclear e = record { means = λ x w. stops _ (identifier-unclear ph (stateOf s (storeOf st)) (λ k. λ z. ok (var k) z) x (on-unclear p w e)) }
+  name-unclear e same = rw same (record { means = λ x w. stops _ (identifier-unclear ph (stateOf s (storeOf st)) (λ k. λ z. ok (var k) z) x (on-unclear p w e)) })
 
   pub name-var : {v : Name} {l1 : List ℕ} {k : Made} {z : State} → ReadyToParse l st (unpaid s) i → n ≡ Named v
       → Stored l l1 (s .top) (record { tag = variableTag; content = v .0 }) (k .at) (k .top) → z ≡ raisedTo (k .top) s
@@ -198,9 +198,10 @@ module _ {ph : ℕ} {st l : List ℕ} (s : State) {i : ℕ} {n : Naming} (p : Na
 
 -- ---- a list
 
-pub list-empty : {entries ph : ℕ} {st l : List ℕ} {s : State} {c : ℕ} → c ≡ 0 → ParsedList entries ph st l l s c (Refused (record { refusal = NoRule; left = s .left }))
-list-empty {entries} {ph} {st} {l} {s} h =
-    record { means = λ k ps w. rw (nil-at ps w h) (stops _ (entry-empty (λ y. parse entries ph y) ph (stateOf s (storeOf st)) k)) }
+pub list-empty : {entries ph : ℕ} {st l : List ℕ} {s : State} {c : ℕ} {r : Answer} → c ≡ 0 → r ≡ Refused (stopOf NoRule s) → ParsedList entries ph st l l s c r
+list-empty {entries} {ph} {st} {l} {s} h same =
+    rw same
+    (record { means = λ k ps w. rw (nil-at ps w h) (stops _ (entry-empty (λ y. parse entries ph y) ph (stateOf s (storeOf st)) k)) })
 
 pub list-inside : {l st : List ℕ} (s : State) {c : ℕ} → ReadyParts l st (unpaid s) c → ¬ (c ≡ 0) → c + cellSize ≤ length l
 unfolding unpaid
@@ -221,13 +222,14 @@ module _ {st l : List ℕ} (s : State) {c : ℕ} {x : Cell} (h : ¬ (c ≡ 0)) (
       record { first = q .first; others = q .others; shown = all; shown-others = q .cell .shown-others; room = r .room; held = r .held }
 
   module _ {entries ph : ℕ} {n : Naming} (p : Names ph st (s .bindings) l (x .head) n) where
-    pub list-is-unclear : n ≡ Unclear → ParsedList entries ph st l l s c (Refused (record { refusal = Ambiguous; left = s .left }))
-    list-is-unclear z =
-        record {
+    pub list-is-unclear : {r : Answer} → n ≡ Unclear → r ≡ Refused (stopOf Ambiguous s) → ParsedList entries ph st l l s c r
+    list-is-unclear z same =
+        rw same
+        (record {
           means = λ k ps w.
               let q = first-at ps w h e in
               rw (q .is) (stops _ (list-unclear (λ y. parse entries ph y) ph (stateOf s (storeOf st)) k (q .first) (q .others) (on-unclear p (q .cell .shown) z)));
-        }
+        })
 
     pub list-applied : {l1 : List ℕ} {r : Answer} → n ≡ Unnamed → ParsedApplication entries ph st l l1 s c r → ParsedList entries ph st l l1 s c r
     unfolding fromStxs
@@ -258,8 +260,8 @@ module _ {entries ph : ℕ} {st l : List ℕ} {s : State} {n : ℕ} {c tail : �
   form-is-lambda z a =
       record { means = λ x ps u w. rw (form-lambda (λ y. parse entries ph y) ph (stateOf s (storeOf st)) x ps (sym (ap formed z) ∙ h)) (a .means ps w) }
 
-  pub form-is-let-syntax : f ≡ form.LetSyntax → ParsedForm entries ph st l l s n c tail (Refused (record { refusal = NoRule; left = s .left }))
-  form-is-let-syntax z = record { means = λ x ps u w. stops _ (form-let-syntax (λ y. parse entries ph y) ph (stateOf s (storeOf st)) x ps (sym (ap formed z) ∙ h)) }
+  pub form-is-let-syntax : {r : Answer} → f ≡ form.LetSyntax → r ≡ Refused (stopOf NoRule s) → ParsedForm entries ph st l l s n c tail r
+  form-is-let-syntax z same = rw same (record { means = λ x ps u w. stops _ (form-let-syntax (λ y. parse entries ph y) ph (stateOf s (storeOf st)) x ps (sym (ap formed z) ∙ h)) })
 
   pub form-is-quote : {l1 : List ℕ} {r : Answer} → f ≡ form.Quote → ParsedQuote l l1 s tail r → ParsedForm entries ph st l l1 s n c tail r
   form-is-quote z a =
@@ -295,9 +297,9 @@ unfolding unpaid
 parts-held s r = omega (arith, r .held .few, r .held .wide)
 
 module _ {st l : List ℕ} (s : State) {c : ℕ} {d : Two} (h : Double l c d) where
-  pub lambda-shape : {entries ph : ℕ} → d ≡ two.Not → ParsedLambda entries ph st l l s c (Refused (record { refusal = NoRule; left = s .left }))
+  pub lambda-shape : {entries ph : ℕ} {r : Answer} → d ≡ two.Not → r ≡ Refused (stopOf NoRule s) → ParsedLambda entries ph st l l s c r
   unfolding lambdaRule
-  lambda-shape e = record { means = λ ps w. stops _ (not-parts2 ps _ (stateOf s (storeOf st)) (on-not-two (h .means (s .top) ps w) e)) }
+  lambda-shape e same = rw same (record { means = λ ps w. stops _ (not-parts2 ps _ (stateOf s (storeOf st)) (on-not-two (h .means (s .top) ps w) e)) })
 
   module _ {i j : ℕ} (e : d ≡ two.Are i j) where
     pub lambda-id-seen : ReadyParts l st (unpaid s) c → Seen l i
@@ -310,23 +312,25 @@ module _ {st l : List ℕ} (s : State) {c : ℕ} {d : Two} (h : Double l c d) wh
     lambda-body-ready r = let q = on-two (h .means (unpaid s .top) (r .thing) (r .shown)) e in record { thing = q .second; shown = q .shown-second; room = r .room; held = r .held }
 
     module _ {entries ph : ℕ} {n : Naming} (p : Names ph st (s .bindings) l i n) where
-      pub lambda-unnamed : n ≡ Unnamed → ParsedLambda entries ph st l l s c (Refused (record { refusal = NoRule; left = s .left }))
+      pub lambda-unnamed : {r : Answer} → n ≡ Unnamed → r ≡ Refused (stopOf NoRule s) → ParsedLambda entries ph st l l s c r
       unfolding lambdaRule parts2
-      lambda-unnamed z =
-          record {
+      lambda-unnamed z same =
+          rw same
+          (record {
             means = λ ps w.
                 let q = on-two (h .means (s .top) ps w) e in
                 rw (q .is) (stops _ (identifier-unnamed ph (stateOf s (storeOf st)) (q .first) _ (on-unnamed p (q .shown) z)));
-          }
+          })
 
-      pub lambda-unclear : n ≡ Unclear → ParsedLambda entries ph st l l s c (Refused (record { refusal = Ambiguous; left = s .left }))
+      pub lambda-unclear : {r : Answer} → n ≡ Unclear → r ≡ Refused (stopOf Ambiguous s) → ParsedLambda entries ph st l l s c r
       unfolding lambdaRule parts2
-      lambda-unclear z =
-          record {
+      lambda-unclear z same =
+          rw same
+          (record {
             means = λ ps w.
                 let q = on-two (h .means (s .top) ps w) e in
                 rw (q .is) (stops _ (identifier-unclear ph (stateOf s (storeOf st)) (λ k. functionRule (λ y. parse entries ph y) k (q .second)) (q .first) (on-unclear p (q .shown) z)));
-          }
+          })
 
       pub lambda-function : {v : Name} {l1 : List ℕ} {r : Answer} → n ≡ Named v → ParsedFunction entries ph st l l1 s (v .0) j r → ParsedLambda entries ph st l l1 s c r
       unfolding lambdaRule parts2
@@ -391,13 +395,13 @@ unfolding unpaid
 chain-seen s r = record { top = s .top; thing = fromStxs (r .thing); shown = r .shown; inside = omega (arith, r .room .fits); small = r .room .small }
 
 module _ {l : List ℕ} (s : State) {c : ℕ} {d : One} (h : Single l c d) where
-  pub syntax-shape : d ≡ one.Not → ParsedSyntax l s c (Refused (record { refusal = NoRule; left = s .left }))
+  pub syntax-shape : {r : Answer} → d ≡ one.Not → r ≡ Refused (stopOf NoRule s) → ParsedSyntax l s c r
   unfolding syntaxRule
-  syntax-shape e = record { means = λ b ps w. stops _ (not-parts1 ps _ (stateOf s b) (on-not-one (h .means (s .top) ps w) e)) }
+  syntax-shape e same = rw same (record { means = λ b ps w. stops _ (not-parts1 ps _ (stateOf s b) (on-not-one (h .means (s .top) ps w) e)) })
 
-  pub quote-shape : d ≡ one.Not → ParsedQuote l l s c (Refused (record { refusal = NoRule; left = s .left }))
+  pub quote-shape : {r : Answer} → d ≡ one.Not → r ≡ Refused (stopOf NoRule s) → ParsedQuote l l s c r
   unfolding quoteRule
-  quote-shape e = record { means = λ b ps w. stops _ (not-parts1 ps _ (stateOf s b) (on-not-one (h .means (s .top) ps w) e)) }
+  quote-shape e same = rw same (record { means = λ b ps w. stops _ (not-parts1 ps _ (stateOf s b) (on-not-one (h .means (s .top) ps w) e)) })
 
   module _ {i : ℕ} (e : d ≡ one.Is i) where
     pub syntax-is : ReadyChain l (unpaid s) c → ParsedSyntax l s c (Done (record { at = i; state = s }))

@@ -10,7 +10,6 @@ use steps::Answer;
 use steps::Charged;
 use steps::Out;
 use steps::State;
-use steps::Stop;
 use table::Node;
 ghost use mathlib.Core.Path.{_≡_};
 ghost use Rattle.parse.specs.Parsing.{unpaid, ReadyToParse, ReadyParts, ReadyForm, ReadyChain, ReadyData, Parsed, ParsedEntry, ParsedName, ParsedList, ParsedForm, ParsedLambda, ParsedFunction, ParsedQuote, ParsedData, ParsedSyntax, ParsedApplication, ParsedParts};
@@ -57,14 +56,8 @@ fn variable(table: &mut [u32], store: &[u64], s: State, i: u32, phase: u32) -> A
     ensures { λ r. ⌜ ParsedName phase (now (store .entry)) (now (table .entry)) (now (table .exit)) s i r ⌝ }
 {
     match forms::name_of(table, store, s.bindings, i, phase) {
-        Naming::Unnamed => Answer::Refused(Stop {
-            refusal: Refusal::NoRule,
-            left: s.left,
-        }),
-        Naming::Unclear => Answer::Refused(Stop {
-            refusal: Refusal::Ambiguous,
-            left: s.left,
-        }),
+        Naming::Unnamed => s.refuse(Refusal::NoRule),
+        Naming::Unclear => s.refuse(Refusal::Ambiguous),
         Naming::Named(n) => {
             let m = things::make(
                 table,
@@ -86,17 +79,11 @@ fn list(table: &mut [u32], store: &[u64], s: State, c: u32, phase: u32, entries:
     ensures { λ r. ⌜ ParsedList entries phase (now (store .entry)) (now (table .entry)) (now (table .exit)) s c r ⌝ }
 {
     if c == 0 {
-        return Answer::Refused(Stop {
-            refusal: Refusal::NoRule,
-            left: s.left,
-        });
+        return s.refuse(Refusal::NoRule);
     }
     let x = table::get_cell(table, c);
     match forms::name_of(table, store, s.bindings, x.head, phase) {
-        Naming::Unclear => Answer::Refused(Stop {
-            refusal: Refusal::Ambiguous,
-            left: s.left,
-        }),
+        Naming::Unclear => s.refuse(Refusal::Ambiguous),
         Naming::Unnamed => application(table, store, s, c, phase, entries),
         Naming::Named(n) => form(table, store, s, n, c, x.tail, phase, entries),
     }
@@ -118,10 +105,7 @@ fn form(
 {
     match forms::form_of(head) {
         Form::Lambda => lambda(table, store, s, tail, phase, entries),
-        Form::LetSyntax => Answer::Refused(Stop {
-            refusal: Refusal::NoRule,
-            left: s.left,
-        }),
+        Form::LetSyntax => s.refuse(Refusal::NoRule),
         Form::Quote => quote(table, s, tail),
         Form::Syntax => syntax_value(table, s, tail),
         Form::Other => application(table, store, s, c, phase, entries),
@@ -134,19 +118,10 @@ fn lambda(table: &mut [u32], store: &[u64], s: State, c: u32, phase: u32, entrie
     ensures { λ r. ⌜ ParsedLambda entries phase (now (store .entry)) (now (table .entry)) (now (table .exit)) s c r ⌝ }
 {
     match forms::two_parts(table, c) {
-        Two::Not => Answer::Refused(Stop {
-            refusal: Refusal::NoRule,
-            left: s.left,
-        }),
+        Two::Not => s.refuse(Refusal::NoRule),
         Two::Are(id, body) => match forms::name_of(table, store, s.bindings, id, phase) {
-            Naming::Unnamed => Answer::Refused(Stop {
-                refusal: Refusal::NoRule,
-                left: s.left,
-            }),
-            Naming::Unclear => Answer::Refused(Stop {
-                refusal: Refusal::Ambiguous,
-                left: s.left,
-            }),
+            Naming::Unnamed => s.refuse(Refusal::NoRule),
+            Naming::Unclear => s.refuse(Refusal::Ambiguous),
             Naming::Named(n) => function(table, store, s, n, body, phase, entries),
         },
     }
@@ -182,10 +157,7 @@ fn quote(table: &mut [u32], s: State, c: u32) -> Answer
     ensures { λ r. ⌜ ParsedQuote (now (table .entry)) (now (table .exit)) s c r ⌝ }
 {
     match forms::one_part(table, c) {
-        One::Not => Answer::Refused(Stop {
-            refusal: Refusal::NoRule,
-            left: s.left,
-        }),
+        One::Not => s.refuse(Refusal::NoRule),
         One::Is(i) => data(table, s, i),
     }
 }
@@ -212,10 +184,7 @@ fn syntax_value(table: &[u32], s: State, c: u32) -> Answer
     ensures { λ r. ⌜ ParsedSyntax (now (table .entry)) s c r ⌝ }
 {
     match forms::one_part(table, c) {
-        One::Not => Answer::Refused(Stop {
-            refusal: Refusal::NoRule,
-            left: s.left,
-        }),
+        One::Not => s.refuse(Refusal::NoRule),
         One::Is(i) => Answer::Done(Out { at: i, state: s }),
     }
 }

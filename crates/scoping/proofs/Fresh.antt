@@ -84,14 +84,14 @@ after-name : State → Store → ms.State
 after-name s b = record { left = s .left; names = s .names + 1; scopes = s .scopes; binds = b .bindings (s .bindings) }
 
 module _ (s : State) where
-  pub take-no-name : 1024 ≤ s .names → Takes s (charged.Refused (record { refusal = NoNameLeft; left = s .left }))
+  pub take-no-name : {f : Stop} → 1024 ≤ s .names → f ≡ stopOf NoNameLeft s → Takes s (charged.Refused f)
   unfolding takeRule
-  take-no-name h = record { means = λ l b. stops _ (then-no _ (name-no (stateOf s b) h)) }
+  take-no-name h same = rw same (record { means = λ l b. stops _ (then-no _ (name-no (stateOf s b) h)) })
 
   module _ (h : s .names < 1024) where
-    pub take-no-scope : 256 ≤ s .scopes → Takes s (charged.Refused (record { refusal = NoScopeLeft; left = s .left }))
+    pub take-no-scope : {f : Stop} → 256 ≤ s .scopes → f ≡ stopOf NoScopeLeft s → Takes s (charged.Refused f)
     unfolding takeRule after-name
-    take-no-scope k = record { means = λ l b. stops _ (then-ok _ (name-ok (stateOf s b) h) ∙ then-no _ (scope-no (after-name s b) k)) }
+    take-no-scope k same = rw same (record { means = λ l b. stops _ (then-ok _ (name-ok (stateOf s b) h) ∙ then-no _ (scope-no (after-name s b) k)) })
 
     pub take-by : s .scopes < 256 → s .bindings ≤ 512 → (y : Charged) → y ≡ chargeOf 1 (takes s) → Takes s y
     unfolding takeRule after-name
@@ -136,9 +136,9 @@ module _ {l : List ℕ} {i ph : ℕ} {o : Node} (e : o ≡ getNode l i) {c : tb.
           λ j. record { symb = symb j; target = n .0; set = same j }
 
 module _ (st : List ℕ) (s : State) (b : Binding) where
-  pub put-full : 512 ≤ s .bindings → Puts st st s b (charged.Refused (record { refusal = NoBindingLeft; left = s .left }))
+  pub put-full : {f : Stop} → 512 ≤ s .bindings → f ≡ stopOf NoBindingLeft s → Puts st st s b (charged.Refused f)
   unfolding bind mostBindings
-  put-full h = record { means = λ l. stops (record { refusal = NoBindingLeft; left = s .left }) (rw (le-ltb (length (bindsOf st (s .bindings))) 512 (omega (arith, binds-length st (s .bindings)))) refl) }
+  put-full h same = rw same (record { means = λ l. stops (stopOf NoBindingLeft s) (rw (le-ltb (length (bindsOf st (s .bindings))) 512 (omega (arith, binds-length st (s .bindings)))) refl) })
 
   module _ (h : s .bindings < 512) where
     room-yet : ltb (length (bindsOf st (s .bindings))) 512 ≡ true
@@ -322,9 +322,9 @@ scope-failed s {x} {f} h e =
     (λ b h′. let z : _≡_ {A = ℕ} 0 1 = cc in absurd (omega arith))
     (sym h ∙ e)
 
-pub scope-none : (s : State) → 256 ≤ s .scopes → charged.Refused (record { refusal = NoScopeLeft; left = s .left }) ≡ freshScopeOf s
+pub scope-none : (s : State) {f : Stop} → 256 ≤ s .scopes → f ≡ stopOf NoScopeLeft s → charged.Refused f ≡ freshScopeOf s
 unfolding freshScopeOf
-scope-none s h = rw (le-leb 256 (s .scopes) h) refl
+scope-none s h same = rw (same, le-leb 256 (s .scopes) h) refl
 
 pub scope-some : (s : State) → s .scopes < 256 → charged.Paid (record { top = s .top; left = s .left; names = s .names; scopes = s .scopes + 1; bindings = s .bindings }) ≡ freshScopeOf s
 unfolding freshScopeOf

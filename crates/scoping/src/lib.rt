@@ -96,16 +96,10 @@ fn take(s: State) -> Charged
     let n = s.names;
     let k = s.scopes;
     if Name::MOST <= n {
-        return Charged::Refused(Stop {
-            refusal: Refusal::NoNameLeft,
-            left: s.left,
-        });
+        return Charged::Refused(s.stop(Refusal::NoNameLeft));
     }
     if Scope::MOST <= k {
-        return Charged::Refused(Stop {
-            refusal: Refusal::NoScopeLeft,
-            left: s.left,
-        });
+        return Charged::Refused(s.stop(Refusal::NoScopeLeft));
     }
     let mut t = s;
     t.names = n + 1;
@@ -135,10 +129,7 @@ fn put(store: &mut [u64], s: State, b: Binding) -> Charged
 {
     let n = s.bindings;
     if Resolving::MOST as u32 <= n {
-        return Charged::Refused(Stop {
-            refusal: Refusal::NoBindingLeft,
-            left: s.left,
-        });
+        return Charged::Refused(s.stop(Refusal::NoBindingLeft));
     }
     let count = n as usize;
     bindings::insert(store, count, b);
@@ -221,10 +212,7 @@ fn fresh_scope(s: State) -> Charged
 {
     let k = s.scopes;
     if Scope::MOST <= k {
-        return Charged::Refused(Stop {
-            refusal: Refusal::NoScopeLeft,
-            left: s.left,
-        });
+        return Charged::Refused(s.stop(Refusal::NoScopeLeft));
     }
     let mut t = s;
     t.scopes = k + 1;

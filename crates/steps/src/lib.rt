@@ -57,13 +57,19 @@ impl State {
     }
 
     // Refused here: what is left is not charged.
+    pub fn stop(self, refusal: Refusal) -> Stop
+        ensures { λ r. ⌜ r ≡ stopOf refusal self ⌝ }
+    {
+        Stop {
+            refusal,
+            left: self.left,
+        }
+    }
+
     pub fn refuse(self, refusal: Refusal) -> Answer
         ensures { λ r. ⌜ r ≡ Answer.Refused (stopOf refusal self) ⌝ }
     {
-        Answer::Refused(Stop {
-            refusal,
-            left: self.left,
-        })
+        Answer::Refused(self.stop(refusal))
     }
 
     pub fn charge(self, n: u32) -> Charged
@@ -71,10 +77,7 @@ impl State {
     {
         let left = self.left;
         if left < n {
-            return Charged::Refused(Stop {
-                refusal: Refusal::OverBudget,
-                left,
-            });
+            return Charged::Refused(self.stop(Refusal::OverBudget));
         }
         let mut s = self;
         s.left = left - n;
@@ -86,10 +89,7 @@ impl State {
         ensures { λ r. ⌜ r ≡ enterOf entries self ⌝ }
     {
         if entries == 0 {
-            return Charged::Refused(Stop {
-                refusal: Refusal::TooManyEntries,
-                left: self.left,
-            });
+            return Charged::Refused(self.stop(Refusal::TooManyEntries));
         }
         self.charge(1)
     }

@@ -18,11 +18,17 @@ primitive-requires c κs = search (working, needs)
 enum-told : tie.Need-enum-told
 enum-told c = search (working, needs)
 
+refuse-requires : tie.Need-refuse-requires
+refuse-requires c κs = search (working, needs)
+
 enum-known-m : tie.Need-enum-known-m
 enum-known-m c = search (working, needs)
 
 measure-requires : tie.Need-measure-requires
 measure-requires c κs = search (working, needs)
+
+refuse-requires-2 : tie.Need-refuse-requires-2
+refuse-requires-2 c κs = search (working, needs)
 
 same-length : tie.Need-same-length
 same-length c = search (working, needs)
@@ -54,8 +60,10 @@ apply-primitive-spec =
     enum-known-u
     primitive-requires
     enum-told
+    refuse-requires
     enum-known-m
     measure-requires
+    refuse-requires-2
     same-length
     returns
     returns-2

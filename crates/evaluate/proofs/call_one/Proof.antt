@@ -18,6 +18,9 @@ enum-known-o c = search (uses, needs)
 apply-requires : tie.Need-apply-requires
 apply-requires c κs = search (uses, needs)
 
+refuse-requires : tie.Need-refuse-requires
+refuse-requires c κs = search (uses, needs)
+
 same-length : tie.Need-same-length
 same-length c = search (uses, needs)
 
@@ -45,6 +48,7 @@ call-one-spec =
     enum-known-e
     enum-known-o
     apply-requires
+    refuse-requires
     same-length
     returns
     same-length-2

@@ -9,6 +9,9 @@ one-part-requires c κs = search (laws, needs)
 enum-told : tie.Need-enum-told
 enum-told c = search (laws, needs)
 
+refuse-requires : tie.Need-refuse-requires
+refuse-requires c κs = search (laws, needs)
+
 enum-known-i : tie.Need-enum-known-i
 enum-known-i c = search (laws, needs)
 
@@ -33,6 +36,7 @@ quote-spec =
     (tie.spec
     one-part-requires
     enum-told
+    refuse-requires
     enum-known-i
     data-requires
     same-length

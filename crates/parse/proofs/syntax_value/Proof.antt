@@ -9,6 +9,9 @@ one-part-requires c κs = search (laws, needs)
 enum-told : tie.Need-enum-told
 enum-told c = search (laws, needs)
 
+refuse-requires : tie.Need-refuse-requires
+refuse-requires c κs = search (laws, needs)
+
 enum-known-i : tie.Need-enum-known-i
 enum-known-i c = search (laws, needs)
 
@@ -19,4 +22,4 @@ returns-2 : tie.Need-returns-2
 returns-2 c = search (laws, needs)
 
 pub syntax-value-spec : {M : Type 1} → statement M
-syntax-value-spec = tie.close (tie.spec one-part-requires enum-told enum-known-i returns returns-2)
+syntax-value-spec = tie.close (tie.spec one-part-requires enum-told refuse-requires enum-known-i returns returns-2)

@@ -9,8 +9,14 @@ name-of-requires c κs = search (laws, needs)
 enum-told : tie.Need-enum-told
 enum-told c = search (laws, needs)
 
+refuse-requires : tie.Need-refuse-requires
+refuse-requires c κs = search (laws, needs)
+
 enum-told-2 : tie.Need-enum-told-2
 enum-told-2 c = search (laws, needs)
+
+refuse-requires-2 : tie.Need-refuse-requires-2
+refuse-requires-2 c κs = search (laws, needs)
 
 enum-known-n : tie.Need-enum-known-n
 enum-known-n c = search (laws, needs)
@@ -45,7 +51,9 @@ variable-spec =
     (tie.spec
     name-of-requires
     enum-told
+    refuse-requires
     enum-told-2
+    refuse-requires-2
     enum-known-n
     make-requires
     raised-requires

@@ -3,6 +3,9 @@ use borrow.Author.Needs.{needs}
 use Rattle.scoping.proofs.fresh_scope.Statement.{statement}
 use Rattle.scoping.proofs.fresh_scope.Tie as tie
 
+stop-requires : tie.Need-stop-requires
+stop-requires c κs = search (laws, needs)
+
 returns : tie.Need-returns
 returns c = search (laws, needs)
 
@@ -13,4 +16,4 @@ returns-2 : tie.Need-returns-2
 returns-2 c = search (laws, needs)
 
 pub fresh-scope-spec : {M : Type 1} → statement M
-fresh-scope-spec = tie.close (tie.spec returns add-t returns-2)
+fresh-scope-spec = tie.close (tie.spec stop-requires returns add-t returns-2)

@@ -6,6 +6,9 @@ use Rattle.scoping.proofs.put.Tie as tie
 cast-if1 : tie.Need-cast-if1
 cast-if1 c = search (laws, needs)
 
+stop-requires : tie.Need-stop-requires
+stop-requires c κs = search (laws, needs)
+
 returns : tie.Need-returns
 returns c = search (laws, needs)
 
@@ -29,6 +32,7 @@ put-spec =
     tie.close
     (tie.spec
     cast-if1
+    stop-requires
     returns
     cast-count
     insert-requires

@@ -5,12 +5,13 @@ use Rattle.evaluate.proofs.applicable_to.Reads as applicable-to-reads
 use Rattle.evaluate.proofs.apply.Reads as apply
 use Rattle.evaluate.proofs.arguments.Reads as arguments
 use Rattle.evaluate.proofs.call.Reads as call
+use Rattle.steps.proofs.State.refuse.Reads as refuse-reads
 use Rattle.evaluate.proofs.+application+apply+apply_function+arguments+call+evaluate+form.Lts-call as lts
 use Rattle.evaluate.proofs.+application+apply+apply_function+arguments+call+evaluate+form.Proof.Measures.{call-at, apply-below, arguments-below}
 
 module _ (t : ℕ) where
   abbrev env : lts.Claims
-  env = (applicable-to-reads.Asked, applicable-to-reads.Learnt, arguments-below t, arguments.Post, apply-below t, apply.Post)
+  env = (applicable-to-reads.Asked, applicable-to-reads.Learnt, arguments-below t, arguments.Post, apply-below t, apply.Post, refuse-reads.Asked, refuse-reads.Learnt)
 
   applicable-to-requires : lts.Need-applicable-to-requires env (call-at t) call.Post
   applicable-to-requires c κs = search (laws, needs)
@@ -26,6 +27,9 @@ module _ (t : ℕ) where
 
   apply-requires : lts.Need-apply-requires env (call-at t) call.Post
   apply-requires c κs = search (laws, needs)
+
+  refuse-requires : lts.Need-refuse-requires env (call-at t) call.Post
+  refuse-requires c κs = search (laws, needs)
 
   same-length : lts.Need-same-length env (call-at t) call.Post
   same-length c = search (laws, needs)
@@ -52,6 +56,7 @@ module _ (t : ℕ) where
       enum-known-e
       enum-known-v
       apply-requires
+      refuse-requires
       same-length
       returns
       same-length-2

@@ -4,15 +4,19 @@ use Rattle.evaluate.proofs.Laws.{laws}
 use Rattle.evaluate.proofs.application.Reads as application
 use Rattle.evaluate.proofs.form.Reads as form
 use Rattle.table.proofs.get_node.Reads as get-node-reads
+use Rattle.steps.proofs.State.refuse.Reads as refuse-reads
 use Rattle.evaluate.proofs.+application+apply+apply_function+arguments+call+evaluate+form.Lts-form as lts
 use Rattle.evaluate.proofs.+application+apply+apply_function+arguments+call+evaluate+form.Proof.Measures.{form-at, application-below}
 
 module _ (t : ℕ) where
   abbrev env : lts.Claims
-  env = (get-node-reads.Asked, get-node-reads.Learnt, application-below t, application.Post)
+  env = (get-node-reads.Asked, get-node-reads.Learnt, refuse-reads.Asked, refuse-reads.Learnt, application-below t, application.Post)
 
   get-node-requires : lts.Need-get-node-requires env (form-at t) form.Post
   get-node-requires c κs = search (laws, needs)
+
+  refuse-requires : lts.Need-refuse-requires env (form-at t) form.Post
+  refuse-requires c κs = search (laws, needs)
 
   same-length : lts.Need-same-length env (form-at t) form.Post
   same-length c = search (laws, needs)
@@ -38,6 +42,7 @@ module _ (t : ℕ) where
   pub closed : {M : Type 1} → lts.Closed env (form-at t) form.Post M
   closed = lts.spec env (form-at t) form.Post
       get-node-requires
+      refuse-requires
       same-length
       returns
       application-requires

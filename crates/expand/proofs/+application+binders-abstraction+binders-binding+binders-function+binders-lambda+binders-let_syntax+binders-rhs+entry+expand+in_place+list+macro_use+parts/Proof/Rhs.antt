@@ -5,12 +5,16 @@ use Rattle.expand.proofs.rewriting.defined.Reads as defined-reads
 use Rattle.scopes.proofs.ScopeSet.empty.Reads as empty-reads
 use Rattle.expand.proofs.expand.Reads as expand
 use Rattle.expand.proofs.binders.rhs.Reads as rhs
+use Rattle.steps.proofs.State.stop.Reads as stop-reads
 use Rattle.expand.proofs.+application+binders-abstraction+binders-binding+binders-function+binders-lambda+binders-let_syntax+binders-rhs+entry+expand+in_place+list+macro_use+parts.Lts-binders-rhs as lts
 use Rattle.expand.proofs.+application+binders-abstraction+binders-binding+binders-function+binders-lambda+binders-let_syntax+binders-rhs+entry+expand+in_place+list+macro_use+parts.Proof.Measures.{rhs-at, expand-below}
 
 module _ (t : ℕ) where
   abbrev env : lts.Claims
-  env = (empty-reads.Asked, empty-reads.Learnt, expand-below t, expand.Post, defined-reads.Asked, defined-reads.Learnt)
+  env = (stop-reads.Asked, stop-reads.Learnt, empty-reads.Asked, empty-reads.Learnt, expand-below t, expand.Post, defined-reads.Asked, defined-reads.Learnt)
+
+  stop-requires : lts.Need-stop-requires env (rhs-at t) rhs.Post
+  stop-requires c κs = search (laws, needs)
 
   returns : lts.Need-returns env (rhs-at t) rhs.Post
   returns c = search (laws, needs)
@@ -53,6 +57,7 @@ module _ (t : ℕ) where
 
   pub closed : {M : Type 1} → lts.Closed env (rhs-at t) rhs.Post M
   closed = lts.spec env (rhs-at t) rhs.Post
+      stop-requires
       returns
       empty-requires
       add-t17

@@ -7,12 +7,13 @@ use Rattle.forms.proofs.form_of.Reads as form-of-reads
 use Rattle.parse.proofs.lambda.Reads as lambda
 use Rattle.parse.proofs.quote.Reads as quote-reads
 use Rattle.parse.proofs.syntax_value.Reads as syntax-value-reads
+use Rattle.steps.proofs.State.refuse.Reads as refuse-reads
 use Rattle.parse.proofs.+application+entry+form+function+lambda+list+parse+parts.Lts-form as lts
 use Rattle.parse.proofs.+application+entry+form+function+lambda+list+parse+parts.Proof.Measures.{form-at, application-below, lambda-below}
 
 module _ (t : ℕ) where
   abbrev env : lts.Claims
-  env = (form-of-reads.Asked, form-of-reads.Learnt, lambda-below t, lambda.Post, quote-reads.Asked, quote-reads.Learnt, syntax-value-reads.Asked, syntax-value-reads.Learnt, application-below t, application.Post)
+  env = (form-of-reads.Asked, form-of-reads.Learnt, lambda-below t, lambda.Post, refuse-reads.Asked, refuse-reads.Learnt, quote-reads.Asked, quote-reads.Learnt, syntax-value-reads.Asked, syntax-value-reads.Learnt, application-below t, application.Post)
 
   form-of-requires : lts.Need-form-of-requires env (form-at t) form.Post
   form-of-requires c κs = search (laws, needs)
@@ -25,6 +26,9 @@ module _ (t : ℕ) where
 
   enum-told-2 : lts.Need-enum-told-2 env (form-at t) form.Post
   enum-told-2 c = search (laws, needs)
+
+  refuse-requires : lts.Need-refuse-requires env (form-at t) form.Post
+  refuse-requires c κs = search (laws, needs)
 
   enum-told-3 : lts.Need-enum-told-3 env (form-at t) form.Post
   enum-told-3 c = search (laws, needs)
@@ -77,6 +81,7 @@ module _ (t : ℕ) where
       enum-told
       lambda-requires
       enum-told-2
+      refuse-requires
       enum-told-3
       quote-requires
       enum-told-4

@@ -5,18 +5,22 @@ use Rattle.parse.proofs.function.Reads as function
 use Rattle.parse.proofs.lambda.Reads as lambda
 use Rattle.forms.proofs.name_of.Reads as name-of-reads
 use Rattle.forms.proofs.two_parts.Reads as two-parts-reads
+use Rattle.steps.proofs.State.refuse.Reads as refuse-reads
 use Rattle.parse.proofs.+application+entry+form+function+lambda+list+parse+parts.Lts-lambda as lts
 use Rattle.parse.proofs.+application+entry+form+function+lambda+list+parse+parts.Proof.Measures.{lambda-at, function-below}
 
 module _ (t : ℕ) where
   abbrev env : lts.Claims
-  env = (two-parts-reads.Asked, two-parts-reads.Learnt, name-of-reads.Asked, name-of-reads.Learnt, function-below t, function.Post)
+  env = (two-parts-reads.Asked, two-parts-reads.Learnt, refuse-reads.Asked, refuse-reads.Learnt, name-of-reads.Asked, name-of-reads.Learnt, function-below t, function.Post)
 
   two-parts-requires : lts.Need-two-parts-requires env (lambda-at t) lambda.Post
   two-parts-requires c κs = search (laws, needs)
 
   enum-told : lts.Need-enum-told env (lambda-at t) lambda.Post
   enum-told c = search (laws, needs)
+
+  refuse-requires : lts.Need-refuse-requires env (lambda-at t) lambda.Post
+  refuse-requires c κs = search (laws, needs)
 
   enum-known-id : lts.Need-enum-known-id env (lambda-at t) lambda.Post
   enum-known-id c = search (laws, needs)
@@ -27,8 +31,14 @@ module _ (t : ℕ) where
   enum-told-2 : lts.Need-enum-told-2 env (lambda-at t) lambda.Post
   enum-told-2 c = search (laws, needs)
 
+  refuse-requires-2 : lts.Need-refuse-requires-2 env (lambda-at t) lambda.Post
+  refuse-requires-2 c κs = search (laws, needs)
+
   enum-told-3 : lts.Need-enum-told-3 env (lambda-at t) lambda.Post
   enum-told-3 c = search (laws, needs)
+
+  refuse-requires-3 : lts.Need-refuse-requires-3 env (lambda-at t) lambda.Post
+  refuse-requires-3 c κs = search (laws, needs)
 
   enum-known-n : lts.Need-enum-known-n env (lambda-at t) lambda.Post
   enum-known-n c = search (laws, needs)
@@ -64,10 +74,13 @@ module _ (t : ℕ) where
   closed = lts.spec env (lambda-at t) lambda.Post
       two-parts-requires
       enum-told
+      refuse-requires
       enum-known-id
       name-of-requires
       enum-told-2
+      refuse-requires-2
       enum-told-3
+      refuse-requires-3
       enum-known-n
       function-requires
       same-length

@@ -6,12 +6,16 @@ use Rattle.parse.proofs.form.Reads as form
 use Rattle.table.proofs.get_cell.Reads as get-cell-reads
 use Rattle.parse.proofs.list.Reads as list
 use Rattle.forms.proofs.name_of.Reads as name-of-reads
+use Rattle.steps.proofs.State.refuse.Reads as refuse-reads
 use Rattle.parse.proofs.+application+entry+form+function+lambda+list+parse+parts.Lts-list as lts
 use Rattle.parse.proofs.+application+entry+form+function+lambda+list+parse+parts.Proof.Measures.{list-at, application-below, form-below}
 
 module _ (t : ℕ) where
   abbrev env : lts.Claims
-  env = (get-cell-reads.Asked, get-cell-reads.Learnt, name-of-reads.Asked, name-of-reads.Learnt, application-below t, application.Post, form-below t, form.Post)
+  env = (refuse-reads.Asked, refuse-reads.Learnt, get-cell-reads.Asked, get-cell-reads.Learnt, name-of-reads.Asked, name-of-reads.Learnt, application-below t, application.Post, form-below t, form.Post)
+
+  refuse-requires : lts.Need-refuse-requires env (list-at t) list.Post
+  refuse-requires c κs = search (laws, needs)
 
   returns : lts.Need-returns env (list-at t) list.Post
   returns c = search (laws, needs)
@@ -24,6 +28,9 @@ module _ (t : ℕ) where
 
   enum-told : lts.Need-enum-told env (list-at t) list.Post
   enum-told c = search (laws, needs)
+
+  refuse-requires-2 : lts.Need-refuse-requires-2 env (list-at t) list.Post
+  refuse-requires-2 c κs = search (laws, needs)
 
   enum-told-2 : lts.Need-enum-told-2 env (list-at t) list.Post
   enum-told-2 c = search (laws, needs)
@@ -57,10 +64,12 @@ module _ (t : ℕ) where
 
   pub closed : {M : Type 1} → lts.Closed env (list-at t) list.Post M
   closed = lts.spec env (list-at t) list.Post
+      refuse-requires
       returns
       get-cell-requires
       name-of-requires
       enum-told
+      refuse-requires-2
       enum-told-2
       application-requires
       enum-known-n
