@@ -28,8 +28,9 @@ use Rattle.steps.specs.declared.Answer.{Answer}
 use Rattle.steps.specs.declared.Answer.the-variants.{Done, Refused}
 use Rattle.steps.specs.declared.Charged.{Charged}
 use Rattle.steps.specs.declared.Charged.the-variants as charged
-use Rattle.steps.proofs.Laws.{Went, enter-spare, enter-went, entry-refused, entry-goes, later-refl}
+use Rattle.steps.proofs.Laws.{enter-spare, enter-went, entry-refused, entry-goes, later-refl}
 use Rattle.parse.specs.Parsing.{unpaid}
+use Rattle.parse.proofs.Laws.{unpaid-is, top-is}
 use Rattle.forms.proofs.Shapes.{nil-at, first-at}
 use Rattle.environment.specs.Meanings.{Known, MeansAt}
 use Rattle.environment.specs.declared.Meaning.{Meaning}
@@ -46,15 +47,6 @@ use Rattle.expand.proofs.Rules.{expand-entry, entry-atom, entry-symbol,
 use Rattle.table.specs.Sizes.{cellSize, twoCells, nodeSize}
 use Rattle.store.specs.Sizes.{bindingSize}
 use Rattle.expand.proofs.Within.{within-paid}
-
-unpaid-is : {s u : State} → Went 1 s u → unpaid u ≡ s
-unfolding unpaid
-unpaid-is {s} {u} w =
-    let n : s .left - 1 + 1 ≡ s .left = omega (arith, w .enough) in
-    rw (w .is) (λ j. record { top = s .top; left = n j; names = s .names; scopes = s .scopes; bindings = s .bindings })
-
-top-is : {s u : State} → Went 1 s u → u .top ≡ s .top
-top-is w = ap (λ (y : State). y .top) (w .is)
 
 -- ---- expand
 

@@ -5,11 +5,11 @@ use mathlib.Core.Bool.{Bool, true, false}
 use Prim.Native.Nat.{ℕ, _+_, _-_, _*_, _<_}
 use native.Mathlib.Omega.{arith}
 use lib.ListN.{length}
-use Rattle.model.specs.Objects.{symbol, Sets, Stx, atom, cons}
+use Rattle.model.specs.Objects.{symbol, Stx, atom, cons}
 use Rattle.model.specs.Trees.{stx, fromStxs}
 use Rattle.model.specs.Steps.{after, parts2, identifier}
 use Rattle.model.specs.Expanding as m
-use Rattle.model.specs.Expanding.{variable, Env, expandLambda, bindFresh}
+use Rattle.model.specs.Expanding.{variable, Env, expandLambda}
 use Rattle.refusals.specs.declared.Refusal.the-variants.{NoRule}
 use Rattle.things.specs.Rep.{Rep}
 use Rattle.things.specs.Measuring.{Seen, SeenP}
@@ -30,7 +30,8 @@ use Rattle.forms.proofs.Shapes.{on-two, on-not-two, not-parts2, not-identifier,
 use Rattle.environment.specs.Meanings.{meant-variable, RepE}
 use Rattle.environment.proofs.Frame.{carryE}
 use Rattle.scoping.specs.Changing.{objects}
-use Rattle.scoping.specs.Fresh.{ShownBinder, ReadyBinder, binders, boundOf, BindsFresh}
+use Rattle.scoping.specs.Fresh.{ShownBinder, ReadyBinder, boundOf, BindsFresh}
+use Rattle.scoping.proofs.Fresh.{bound-to}
 use Rattle.scoping.specs.declared.Binder.{Binder}
 use Rattle.scoping.specs.declared.Bound.{Bound}
 use Rattle.scoping.specs.declared.Bound.the-variants as bounds
@@ -119,17 +120,14 @@ module _ {st l : List ℕ} (s : State) {i head id body : ℕ} {at : Surroundings
         record { means = λ k qs h c x y g u w a b t. stops _ (function-split (expansion (at .entries)) (at .entries) (around g at) (stateOf s (storeOf st)) k h c x y ∙ then-no _ (on-refused (v .means c x a) (ap boundOf e))) }
 
     module _ {o : Binder} (e : z ≡ bounds.Done o) where
-      bound-to : (c : Sets) (x : ℕ) → Rep l (s .top) id (stx (atom c (symbol x))) → Gave (binders x) 1 nodeSpare l l1 s (storeOf st1) (bindFresh (at .phase) c x (stateOf s (storeOf st))) o
-      bound-to c x a = on-done (v .means c x a) (ap boundOf e)
-
       pub function-less : {T : ℕ} → s .left * 32 + 17 ≡ T → o .state .left * 32 + 16 < T
       unfolding unpaid
-      function-less t = omega (arith, bound-to (r .binder) (r .symb) (r .shown-id) .later .spent)
+      function-less t = omega (arith, bound-to v e (r .binder) (r .symb) (r .shown-id) .later .spent)
 
       pub function-abstraction-ready : length l1 ≡ length l → length st1 ≡ length st → ReadyAbstraction l1 st1 o i head body at
       unfolding unpaid
       function-abstraction-ready len len2 =
-          let g = bound-to (r .binder) (r .symb) (r .shown-id) in
+          let g = bound-to v e (r .binder) (r .symb) (r .shown-id) in
           record {
             sets = r .sets;
             old = r .old;
@@ -149,7 +147,7 @@ module _ {st l : List ℕ} (s : State) {i head id body : ℕ} {at : Surroundings
       function-abstraction f =
           record {
             means = λ k qs h c x y g u w a b t.
-                let j = bound-to c x a in
+                let j = bound-to v e c x a in
                 beyond 1 twoCells 2 1 (j .later) (owes-two (o .state)) (owes-one s) (omega arith) (omega arith)
                 (function-split (expansion (at .entries)) (at .entries) (around g at) (stateOf s (storeOf st)) k h c x y ∙ then-ok _ (j .is))
                 (f .means k qs h (j .value) x y g (carry u (j .later .kept) (j .later .grows)) (carry w (j .later .kept) (j .later .grows)) (j .shown) (carry b (j .later .kept) (j .later .grows)) (carryE t (j .later .kept) (j .later .grows)));

@@ -9,6 +9,7 @@ use Rattle.model.specs.Trees.{stx, fromStxs}
 use Rattle.model.specs.Steps as m
 use Rattle.model.specs.Steps.{ok, after}
 use Rattle.model.specs.Expanding.{Env, expandAll, expand}
+use Rattle.store.specs.Sizes.{mostBindings}
 use Rattle.steps.specs.States.{storeOf, stateOf, raisedTo, end}
 use Rattle.steps.specs.Agreement.{Later, ended, Gave, gives, stops}
 use Rattle.steps.specs.declared.State.{State}
@@ -28,6 +29,7 @@ use Rattle.things.specs.declared.Made.{Made}
 use Rattle.things.proofs.Frame.{carry, carryP}
 use Rattle.things.proofs.Turning.{count-more}
 use Rattle.forms.proofs.Shapes.{nil-at, first-at}
+use Rattle.parse.proofs.InTurn.{linkable, turnable}
 use Rattle.environment.specs.Meanings.{RepE}
 use Rattle.environment.proofs.Frame.{carryE}
 use Rattle.scoping.specs.Changing.{objects}
@@ -68,7 +70,7 @@ pub record Going (at : Surroundings) (st l : List ℕ) (s : State) (c : ℕ) (st
   pub grows : s .top ≤ t .top
   pub long : length l′ ≡ length l
   pub wide : length st′ ≡ length st
-  pub few : t .bindings ≤ 512
+  pub few : t .bindings ≤ mostBindings
   pub spent : t .left ≤ s .left
   pub means : (ps : Stxs) (e : Env) → RepP l (s .top) c (fromStxs ps) → RepE l (s .top) (at .meanings) e → Half at st st′ l′ s t from turned ps e
 
@@ -131,29 +133,18 @@ module _ {at : Surroundings} {st l : List ℕ} {s : State} {c : ℕ} (r : ReadyP
               → Gave objects 1 twoCells l1 l2 t (storeOf st2) (expand (at .entries) (around d at) z (stateOf t (storeOf st1))) o
           gave z d w y = on-done (v .means z d w y) (ap ended k)
 
-          linkable : {i : ℕ} {z : Stx} → length l2 ≡ length l1 → Rep l2 (o .state .top) i (stx z) → Linkable l2 (o .state .top) i turned
-          linkable {z = z} len w =
-              let q = first-at (half .rest) (half .shown) n e in
-              let j = gave (q .first) (within .meant) (q .cell .shown) (within .known) in
-              record {
-                thing = stx z;
-                others = fromStxs (half .done);
-                shown = w;
-                shown-others = carryP (half .made) (j .later .kept) (j .later .grows);
-                room = record { fits = omega (arith, j .later .fits, within .room .fits, len); small = omega (arith, within .room .small, len); low = omega (arith, within .room .low, j .later .grows) };
-              }
-
           pub part-linkable : length l2 ≡ length l1 → Linkable l2 (o .state .top) (o .at) turned
           part-linkable len =
               let q = first-at (half .rest) (half .shown) n e in
-              linkable len (gave (q .first) (within .meant) (q .cell .shown) (within .known) .shown .rep)
+              let j = gave (q .first) (within .meant) (q .cell .shown) (within .known) in
+              linkable (within .room) (j .later) (omega arith) len (half .made) (j .shown .rep)
 
           -- The part as it was could be put there as well: code that copies it is refused for what it gives.
           pub part-copy-linkable : length l2 ≡ length l1 → Linkable l2 (o .state .top) (x .head) turned
           part-copy-linkable len =
               let q = first-at (half .rest) (half .shown) n e in
               let j = gave (q .first) (within .meant) (q .cell .shown) (within .known) in
-              linkable len (carry (q .cell .shown) (j .later .kept) (j .later .grows))
+              linkable (within .room) (j .later) (omega arith) len (half .made) (carry (q .cell .shown) (j .later .kept) (j .later .grows))
 
           pub part-more : {l3 : List ℕ} {d : Made} {u : State} → length l2 ≡ length l1 → length st2 ≡ length st1 → Linked l2 l3 (o .state .top) (o .at) turned (d .at) (d .top) → length l3 ≡ length l2
               → u ≡ raisedTo (d .top) (o .state) → Going at st l s c st2 l3 u (x .tail) (d .at)
@@ -187,7 +178,7 @@ module _ {at : Surroundings} {st l : List ℕ} {s : State} {c : ℕ} (r : ReadyP
               })
 
   pub parts-turnable : from ≡ 0 → Turnable l1 (t .top) turned
-  parts-turnable z = record { thing = fromStxs (half .done); shown = half .made; room = omega (arith, half .fits, r .within .room .fits, g .long); small = within .room .small; low = within .room .low }
+  parts-turnable z = turnable (within .room) (half .fits) (omega (arith, r .within .room .fits, g .long)) (half .made)
 
 pub parts-turned : {at : Surroundings} {st l : List ℕ} {s : State} {c : ℕ} {st1 l1 : List ℕ} {t : State} {from turned : ℕ} → Going at st l s c st1 l1 t from turned → from ≡ 0
     → {l2 : List ℕ} {d : Made} {u : State} → Turned l1 l2 (t .top) turned (d .at) (d .top) → u ≡ raisedTo (d .top) t → ExpandedParts at st st1 l l2 s c (Done (record { at = d .at; state = u }))

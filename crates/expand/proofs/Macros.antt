@@ -8,11 +8,11 @@ use borrow.Author.Tests.{le-leb, lt-leb}
 use lib.ListN.{length}
 use Rattle.model.specs.Limits.{lastPhase}
 use Rattle.model.specs.Refusals as ref
-use Rattle.model.specs.Objects.{symbol, Sets, Stx, atom}
+use Rattle.model.specs.Objects.{Stx}
 use Rattle.model.specs.Trees.{stx, fromStxs}
 use Rattle.model.specs.Steps.{after, parts3, identifier}
 use Rattle.model.specs.Expanding as m
-use Rattle.model.specs.Expanding.{ofRightHandSide, Env, coreOnly, expandLetSyntax, expand, bindFresh}
+use Rattle.model.specs.Expanding.{ofRightHandSide, Env, coreOnly, expandLetSyntax, expand}
 use Rattle.refusals.specs.declared.Refusal.the-variants.{NoRule, NoPhase}
 use Rattle.scopes.specs.Sets.{scopesOf}
 use Rattle.scopes.specs.declared.ScopeSet.{ScopeSet}
@@ -35,7 +35,8 @@ use Rattle.forms.proofs.Shapes.{on-three, on-not-three, not-parts3, not-identif
 use Rattle.environment.specs.Meanings.{is-core}
 use Rattle.environment.proofs.Frame.{carryE}
 use Rattle.scoping.specs.Changing.{objects}
-use Rattle.scoping.specs.Fresh.{ReadyBinder, binders, boundOf, BindsFresh}
+use Rattle.scoping.specs.Fresh.{ReadyBinder, boundOf, BindsFresh}
+use Rattle.scoping.proofs.Fresh.{bound-to}
 use Rattle.scoping.specs.declared.Binder.{Binder}
 use Rattle.scoping.specs.declared.Bound.{Bound}
 use Rattle.scoping.specs.declared.Bound.the-variants as bounds
@@ -49,7 +50,7 @@ use Rattle.expand.proofs.Agreeing.{beyond}
 use Rattle.expand.proofs.Leaves.{owes-none, owes-one}
 use Rattle.expand.proofs.InPlace.{leftOf, onward-less, onward-ready, onward-goes}
 use Rattle.expand.proofs.Rules.{binding-split}
-use Rattle.table.specs.Sizes.{cellSize, twoCells, nodeSpare}
+use Rattle.table.specs.Sizes.{cellSize, twoCells}
 use Rattle.expand.proofs.Within.{within-later, within-paid}
 use Rattle.expand.proofs.InPlace.{by-name}
 
@@ -123,15 +124,12 @@ module _ {st l : List ℕ} {s : State} {id right body : ℕ} {at : Surroundings}
     binding-refused e = record { means = λ c x u y g a b w k. stops _ (then-no _ (on-refused (v .means c x a) (ap boundOf e))) }
 
     module _ {o : Binder} (e : z ≡ bounds.Done o) where
-      let-bound : (c : Sets) (x : ℕ) → Rep l (s .top) id (stx (atom c (symbol x))) → Gave (binders x) 1 nodeSpare l l1 s (storeOf st1) (bindFresh (at .phase) c x (stateOf s (storeOf st))) o
-      let-bound c x a = on-done (v .means c x a) (ap boundOf e)
-
       pub binding-less : {T : ℕ} → s .left * 32 + 17 ≡ T → o .state .left * 32 + 18 < T
-      binding-less t = omega (arith, let-bound (r .binder) (r .symb) (r .shown) .later .spent)
+      binding-less t = omega (arith, bound-to v e (r .binder) (r .symb) (r .shown) .later .spent)
 
       pub binding-rhs-ready : length l1 ≡ length l → length st1 ≡ length st → ReadyRhs l1 st1 o right body at
       binding-rhs-ready len len2 =
-          let g = let-bound (r .binder) (r .symb) (r .shown) in
+          let g = bound-to v e (r .binder) (r .symb) (r .shown) in
           record {
             binder = g .value;
             thing = r .thing;
@@ -147,7 +145,7 @@ module _ {st l : List ℕ} {s : State} {id right body : ℕ} {at : Surroundings}
       binding-rhs f =
           record {
             means = λ c x u y g a b w k.
-                let j = let-bound c x a in
+                let j = bound-to v e c x a in
                 since 1 cellSize (j .later) (omega arith) (omega arith) (then-ok _ (j .is))
                 (f .means (j .value) u y g (by-name (j .shown)) (carry b (j .later .kept) (j .later .grows)) (carry w (j .later .kept) (j .later .grows)) (carryE k (j .later .kept) (j .later .grows)));
           }

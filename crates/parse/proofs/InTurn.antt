@@ -6,12 +6,12 @@ use native.Mathlib.Omega.{arith}
 use lib.ListN.{length}
 use Rattle.store.specs.Sizes.{mostBindings}
 use Rattle.model.specs.Objects.{Stx, Stxs, nil, cons}
-use Rattle.model.specs.Trees.{Trees, tnil, tcons, stx, fromStxs}
+use Rattle.model.specs.Trees.{Tree, Trees, tnil, tcons, stx, fromStxs}
 use Rattle.model.specs.Steps as m
 use Rattle.model.specs.Steps.{ok, after}
 use Rattle.model.specs.Parsing.{parseAll, parse}
 use Rattle.steps.specs.States.{storeOf, stateOf, raisedTo, end, Room}
-use Rattle.steps.specs.Agreement.{ended, Gave, gives, stops}
+use Rattle.steps.specs.Agreement.{Later, ended, Gave, gives, stops}
 use Rattle.steps.specs.declared.State.{State}
 use Rattle.steps.specs.declared.Stop.{Stop}
 use Rattle.steps.specs.declared.Out.{Out}
@@ -31,6 +31,26 @@ use Rattle.things.proofs.Turning.{count-more}
 use Rattle.forms.proofs.Shapes.{nil-at, first-at}
 use Rattle.parse.specs.Shown.{trees}
 use Rattle.parse.specs.Parsing.{ReadyToParse, ReadyParts, Parsed, ParsedParts}
+
+-- ---- what work on parts in turn needs, whatever the parts become
+
+-- what a part became can be linked before what was made until then
+pub linkable : {n v : ℕ} {l l1 : List ℕ} {s t : State} {i c : ℕ} {x : Tree} {made : Trees} → Room l s → Later n v l l1 s t → cellSize ≤ v → length l1 ≡ length l → RepP l (s .top) c made
+    → Rep l1 (t .top) i x → Linkable l1 (t .top) i c
+linkable {x = x} {made = made} r p h len w y =
+    record {
+      thing = x;
+      others = made;
+      shown = y;
+      shown-others = carryP w (p .kept) (p .grows);
+      room = record { fits = omega (arith, p .fits, r .fits, len, h); small = omega (arith, r .small, len); low = omega (arith, r .low, p .grows) };
+    }
+
+-- what was made can be turned where the words for it are left
+pub turnable : {n : ℕ} {l : List ℕ} {s : State} {c : ℕ} {made : Trees} → Room l s → end s + cellSize * counts made ≤ n → n ≤ length l → RepP l (s .top) c made → Turnable l (s .top) c
+turnable {made = made} r h k w = record { thing = made; shown = w; room = omega (arith, h, k); small = r .small; low = r .low }
+
+-- ---- the parts of a list
 
 -- the chain `turned` put before what the rest gives
 abbrev handedOn : Trees → Trees → m.Step Trees
@@ -113,13 +133,7 @@ module _ {entries ph : ℕ} {st l : List ℕ} {s : State} {c : ℕ} (r : ReadyPa
           part-linkable len =
               let q = first-at (half .rest) (half .shown) n e in
               let j = gave (q .first) (q .cell .shown) in
-              record {
-                thing = j .value;
-                others = half .done;
-                shown = j .shown .rep;
-                shown-others = carryP (half .made) (j .later .kept) (j .later .grows);
-                room = record { fits = omega (arith, j .later .fits, room .fits, len); small = omega (arith, room .small, len); low = omega (arith, room .low, j .later .grows) };
-              }
+              linkable room (j .later) (omega arith) len (half .made) (j .shown .rep)
 
           pub part-more : {l3 : List ℕ} {d : Made} {u : State} → length l2 ≡ length l1 → Linked l2 l3 (o .state .top) (o .at) turned (d .at) (d .top) → length l3 ≡ length l2
               → u ≡ raisedTo (d .top) (o .state) → Going entries ph st l s c l3 u (x .tail) (d .at)
@@ -152,7 +166,7 @@ module _ {entries ph : ℕ} {st l : List ℕ} {s : State} {c : ℕ} (r : ReadyPa
               })
 
   pub parts-turnable : from ≡ 0 → Turnable l1 (t .top) turned
-  parts-turnable z = record { thing = half .done; shown = half .made; room = omega (arith, half .fits, r .room .fits, g .long); small = room .small; low = room .low }
+  parts-turnable z = turnable room (half .fits) (omega (arith, r .room .fits, g .long)) (half .made)
 
 pub parts-turned : {entries ph : ℕ} {st l : List ℕ} {s : State} {c : ℕ} {l1 : List ℕ} {t : State} {from turned : ℕ} → Going entries ph st l s c l1 t from turned → from ≡ 0
     → {l2 : List ℕ} {d : Made} {u : State} → Turned l1 l2 (t .top) turned (d .at) (d .top) → u ≡ raisedTo (d .top) t → ParsedParts entries ph st l l2 s c (Done (record { at = d .at; state = u }))

@@ -59,13 +59,13 @@ use Rattle.store.specs.Sizes.{bindingSize}
 
 -- ---- the state before the entry was charged
 
-unpaid-is : {s u : State} → Went 1 s u → unpaid u ≡ s
+pub unpaid-is : {s u : State} → Went 1 s u → unpaid u ≡ s
 unfolding unpaid
 unpaid-is {s} {u} w =
     let n : s .left - 1 + 1 ≡ s .left = omega (arith, w .enough) in
     rw (w .is) (λ j. record { top = s .top; left = n j; names = s .names; scopes = s .scopes; bindings = s .bindings })
 
-top-is : {s u : State} → Went 1 s u → u .top ≡ s .top
+pub top-is : {s u : State} → Went 1 s u → u .top ≡ s .top
 top-is w = ap (λ (y : State). y .top) (w .is)
 
 -- what an entry makes of one node

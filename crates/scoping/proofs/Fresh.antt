@@ -294,6 +294,10 @@ module _ {s : State} {y : Charged} (p : Takes s y) where
               (a .means c x (up w (g .later .grows)));
         }
 
+pub bound-to : {ph : ℕ} {st st1 l l1 : List ℕ} {s : State} {i : ℕ} {z : Bound} {b : Binder} → BindsFresh ph st st1 l l1 s i z → z ≡ bounds.Done b
+    → (c : Sets) (x : ℕ) → Rep l (s .top) i (stx (atom c (symbol x))) → Gave (binders x) 1 nodeSpare l l1 s (storeOf st1) (bindFresh ph c x (stateOf s (storeOf st))) b
+bound-to v e c x w = on-done (v .means c x w) (ap boundOf e)
+
 -- ---- marks
 
 record ScopeWent (s t : State) : Type 0 where
