@@ -257,7 +257,7 @@ module _ (image : List ℕ) (is-bytes : Bytes image) (budget : ℕ) (b : List �
   start-names = refl
 
   holds : OneNameOneAddress image b
-  unfolding k tree
+  unfolding k tree tree-read
   holds = record {
     given = given;
     given-is = given-is;
@@ -267,6 +267,7 @@ module _ (image : List ℕ) (is-bytes : Bytes image) (budget : ℕ) (b : List �
     tree-is = tree-is;
     parses = parses;
     parses-no-less = parses-no-less;
+    readable = tree-reads;
     no-longer = no-longer;
     owned = owned;
     different = rise-different ((start budget (run .i)) .names) (run .s .names) (functionNames tree) (x .rises);

@@ -160,7 +160,7 @@ module _ (P : Ending → Type 0) (by-refusal : (r : Refusal) (u : ℕ) → P (re
 -- ---- code 0
 
 -- no refusal has code 0
-code-some : (r : Refusal) → codeOf r ≡ 0 → ⊥
+pub code-some : (r : Refusal) → codeOf r ≡ 0 → ⊥
 code-some layout e = omega arith
 code-some overLimit e = omega arith
 code-some unowned e = omega arith

@@ -8,7 +8,7 @@ use lib.ListN.{length, take}
 use Rattle.model.specs.Limits.{mostEntries}
 use Rattle.model.specs.Objects.{Stx}
 use Rattle.model.specs.Trees.{Tree, var, app, fun, datum, lst, stx, Trees, tnil, tcons}
-use Rattle.model.specs.Reading.{got, Image, readSyntax, readImage}
+use Rattle.model.specs.Reading.{got, Image, readSyntax, readTreeImage, readImage}
 use Rattle.model.specs.Writing.{treeImageBytes}
 use Rattle.model.specs.Steps.{ok}
 use Rattle.model.specs.Parsing.{parse}
@@ -60,6 +60,8 @@ pub record OneNameOneAddress (image expanded : List ℕ) : Type 0 where
       ≡ lent budget table output (written (treeImageBytes (result .head) tree) (parseCharge (result .binds) (result .root)))
   pub parses-no-less : (budget : ℕ) (table output : List ℕ) → budgetFits budget (length table) ≡ true
       → budget < parseCharge (result .binds) (result .root) → (parseJob expanded budget table output) .answer .code ≡ 19
+  -- and its image is read back as this tree
+  pub readable : readImage readTreeImage (treeImageBytes (result .head) tree) ≡ got (record { head = result .head; binds = []; root = tree }) []
   pub no-longer : length (treeImageBytes (result .head) tree) ≤ length expanded
   -- every variable outside syntax values stands inside a function of its name
   pub owned : closed [] tree ≡ true

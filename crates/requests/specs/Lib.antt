@@ -1,0 +1,3 @@
+-- Document 02 as definitions that compute: the requests that are no rule of document 01.
+pub mod Panel
+pub mod OneToOne
