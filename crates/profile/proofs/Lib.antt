@@ -1,0 +1,4 @@
+pub mod RuleLaws
+pub mod Tails
+pub mod Taking
+pub mod Meaning

@@ -1,0 +1,205 @@
+// The panel profile (document 02, T-01): whether a tree of a judged image is a program. Nothing is stored, and the first place outside the
+// profile ends the reading.
+pub mod rules;
+
+use crate::rules::Rule;
+use crate::rules::Wanted;
+use numbers::Cursor;
+use numbers::Number;
+use numbers::Place;
+use refusals::Refusal;
+ghost use mathlib.Core.Path.{_≡_};
+ghost use Prim.Native.Nat.{_+_, _-_, _≤_};
+ghost use lib.ListN.{length};
+ghost use Rattle.numbers.specs.Limits.{mostImage};
+ghost use Rattle.profile.specs.Taking.{takenAt, ruleAt, takeVariable, takeAtom, takeWord, takeAll, takeArguments, takeBit, takeHead, takeApplication, takeBody, takeTree, Tells};
+
+pub enum RuleRead {
+    Read(Rule, Cursor),
+    Fault(Refusal),
+}
+
+fn take_variable(c: Cursor, s: &[u8], wanted: Wanted) -> Place
+    requires { ⌜ c .at + length (now s) ≤ mostImage ⌝ }
+    ensures { λ r. ⌜ r ≡ takenAt (c .at + length (now (s .entry))) (takeVariable wanted (now (s .entry))) ⌝ }
+{
+    match c.number(s) {
+        Number::Read(_, past) => {
+            if rules::takes_variable(wanted) {
+                return Place::At(past);
+            }
+            Place::Fault(Refusal::Layout)
+        }
+        Number::Fault(f) => Place::Fault(f),
+    }
+}
+
+fn take_atom(c: Cursor, s: &[u8], wanted: Wanted) -> Place
+    requires { ⌜ c .at + length (now s) ≤ mostImage ⌝ }
+    ensures { λ r. ⌜ r ≡ takenAt (c .at + length (now (s .entry))) (takeAtom wanted (now (s .entry))) ⌝ }
+{
+    match c.number(s) {
+        Number::Read(kind, past) => match past.number(c.after(s, past)) {
+            Number::Read(content, end) => {
+                if rules::takes_atom(wanted, kind, content) {
+                    return Place::At(end);
+                }
+                Place::Fault(Refusal::Layout)
+            }
+            Number::Fault(f) => Place::Fault(f),
+        },
+        Number::Fault(f) => Place::Fault(f),
+    }
+}
+
+// A rung word at the head of an application, where `wanted` is what the application is to be.
+fn take_word(c: Cursor, s: &[u8], wanted: Wanted) -> RuleRead
+    requires { ⌜ c .at + length (now s) ≤ mostImage ⌝ }
+    ensures { λ r. ⌜ r ≡ ruleAt (c .at + length (now (s .entry))) (takeWord wanted (now (s .entry))) ⌝ }
+{
+    match c.number(s) {
+        Number::Read(kind, past) => match past.number(c.after(s, past)) {
+            Number::Read(word, end) => {
+                if kind == rules::RUNG {
+                    return RuleRead::Read(rules::of_word(wanted, word), end);
+                }
+                RuleRead::Fault(Refusal::Layout)
+            }
+            Number::Fault(f) => RuleRead::Fault(f),
+        },
+        Number::Fault(f) => RuleRead::Fault(f),
+    }
+}
+
+// The tree at a cursor is what is wanted there, where `s` is the image from there on and `levels` levels are left.
+fn take_tree(c: Cursor, s: &[u8], levels: u32, wanted: Wanted) -> Place
+    requires { ⌜ c .at + length (now s) ≤ mostImage ⌝ }
+    ensures { λ r. ⌜ r ≡ takenAt (c .at + length (now (s .entry))) (takeTree levels wanted (now (s .entry))) ⌝ }
+{
+    if levels == 0 {
+        return Place::Fault(Refusal::Layout);
+    }
+    match c.number(s) {
+        Number::Read(tag, past) => take_body(past, c.after(s, past), levels - 1, wanted, tag),
+        Number::Fault(f) => Place::Fault(f),
+    }
+}
+
+// What follows the tag, where `levels` levels are left for the parts.
+fn take_body(c: Cursor, s: &[u8], levels: u32, wanted: Wanted, tag: u32) -> Place
+    requires { ⌜ c .at + length (now s) ≤ mostImage ⌝ }
+    ensures { λ r. ⌜ r ≡ takenAt (c .at + length (now (s .entry))) (takeBody (takeTree levels) wanted tag (now (s .entry))) ⌝ }
+{
+    if tag == 0 {
+        return take_variable(c, s, wanted);
+    }
+    if tag == 1 {
+        return take_application(c, s, levels, wanted);
+    }
+    if tag == 3 {
+        return take_atom(c, s, wanted);
+    }
+    Place::Fault(Refusal::Layout)
+}
+
+fn take_application(c: Cursor, s: &[u8], levels: u32, wanted: Wanted) -> Place
+    requires { ⌜ c .at + length (now s) ≤ mostImage ⌝ }
+    ensures { λ r. ⌜ r ≡ takenAt (c .at + length (now (s .entry))) (takeApplication (takeTree levels) wanted (now (s .entry))) ⌝ }
+{
+    match c.number(s) {
+        Number::Read(count, past) => {
+            if count == 0 {
+                return Place::Fault(Refusal::Layout);
+            }
+            let rest = c.after(s, past);
+            match take_head(past, rest, levels, wanted) {
+                RuleRead::Read(rule, behind) => {
+                    take_arguments(behind, past.after(rest, behind), levels, rule, count - 1)
+                }
+                RuleRead::Fault(f) => Place::Fault(f),
+            }
+        }
+        Number::Fault(f) => Place::Fault(f),
+    }
+}
+
+// The head of an application: a rung word, or the function that makes a bit.
+fn take_head(c: Cursor, s: &[u8], levels: u32, wanted: Wanted) -> RuleRead
+    requires { ⌜ c .at + length (now s) ≤ mostImage ⌝ }
+    ensures { λ r. ⌜ r ≡ ruleAt (c .at + length (now (s .entry))) (takeHead (takeTree levels) wanted (now (s .entry))) ⌝ }
+{
+    match c.number(s) {
+        Number::Read(tag, past) => {
+            if tag == 2 {
+                return take_bit(past, c.after(s, past), levels, wanted);
+            }
+            if tag == 3 {
+                return take_word(past, c.after(s, past), wanted);
+            }
+            RuleRead::Fault(Refusal::Layout)
+        }
+        Number::Fault(f) => RuleRead::Fault(f),
+    }
+}
+
+// A function's name, and its body, which is a program.
+fn take_bit(c: Cursor, s: &[u8], levels: u32, wanted: Wanted) -> RuleRead
+    requires { ⌜ c .at + length (now s) ≤ mostImage ⌝ }
+    ensures { λ r. ⌜ r ≡ ruleAt (c .at + length (now (s .entry))) (takeBit (takeTree levels) wanted (now (s .entry))) ⌝ }
+{
+    match c.number(s) {
+        Number::Read(_, past) => {
+            match take_tree(past, c.after(s, past), levels, Wanted::Program) {
+                Place::At(end) => RuleRead::Read(rules::of_bit(wanted), end),
+                Place::Fault(f) => RuleRead::Fault(f),
+            }
+        }
+        Number::Fault(f) => RuleRead::Fault(f),
+    }
+}
+
+// So many arguments, as the rule asks for them.
+fn take_arguments(c: Cursor, s: &[u8], levels: u32, rule: Rule, count: u32) -> Place
+    requires { ⌜ c .at + length (now s) ≤ mostImage ⌝ }
+    ensures { λ r. ⌜ r ≡ takenAt (c .at + length (now (s .entry))) (takeArguments (takeTree levels) rule count (now (s .entry))) ⌝ }
+{
+    let first = rule.first;
+    let others = rule.others;
+    if rules::takes_count(rule, count) {
+        return match take_tree(c, s, levels, first) {
+            Place::At(past) => take_all(past, c.after(s, past), levels, others, count - 1),
+            Place::Fault(f) => Place::Fault(f),
+        };
+    }
+    Place::Fault(Refusal::Layout)
+}
+
+// So many trees, each of which is what is wanted.
+fn take_all(c: Cursor, s: &[u8], levels: u32, wanted: Wanted, count: u32) -> Place
+    requires { ⌜ c .at + length (now s) ≤ mostImage ⌝ }
+    ensures { λ r. ⌜ r ≡ takenAt (c .at + length (now (s .entry))) (takeAll count (takeTree levels wanted) (now (s .entry))) ⌝ }
+{
+    let mut here = c;
+    let mut left = count;
+    while 0 < left {
+        match take_tree(here, c.after(s, here), levels, wanted) {
+            Place::At(past) => {
+                here = past;
+                left -= 1;
+            }
+            Place::Fault(f) => return Place::Fault(f),
+        }
+    }
+    Place::At(here)
+}
+
+// Whether the root of a judged tree image is a program, where `s` is the image from there on.
+pub fn is_program(c: Cursor, s: &[u8]) -> bool
+    requires { ⌜ c .at + length (now s) ≤ mostImage ⌝ }
+    ensures { λ r. ⌜ Tells (now (s .entry)) r ⌝ }
+{
+    match take_tree(c, s, Cursor::MOST_NESTING, Wanted::Program) {
+        Place::At(_) => true,
+        Place::Fault(_) => false,
+    }
+}
