@@ -4,7 +4,7 @@ use mathlib.Core.Path.{_≡_, refl, sym, ap, _∙_}
 use mathlib.Core.Bool.{Bool, true, false}
 use mathlib.Core.List.{List, []}
 use native.Mathlib.Omega.{arith}
-use lib.ListN.{length, drop, length-drop}
+use lib.ListN.{length, drop, replicate, length-drop, length-replicate, getD-replicate}
 use lib.Seq.{drop-drop}
 use Rattle.model.specs.Jobs.{isAmong}
 use Rattle.model.specs.Reading as m
@@ -43,6 +43,10 @@ pub record Midway (at : ℕ) (s marks₀ names₀ : List ℕ) (place left : ℕ)
   pub met : Met
   pub holds : Holds met marks names g
   pub is : along (length s) none s ≡ along left met (drop (place - at) s)
+
+-- what a new array has
+pub no-marks : NoMarks (replicate points 0)
+no-marks = record { long = (let e : length (replicate {A = ℕ} points 0) ≡ points = length-replicate {A = ℕ} points 0 in omega arith); clear = λ x l. getD-replicate points x 0 0 l }
 
 nothing-held : {marks names : List ℕ} → NoMarks marks → Holds none marks names (record { bits = 0; twice = false; driving = false })
 unfolding allDiffer isAmong

@@ -13,7 +13,7 @@ use Rattle.model.specs.Choice.{if_then_else_}
 use Rattle.model.specs.Jobs.{isAmong}
 use Rattle.laws.proofs.Tests.{and-both}
 use Rattle.requests.specs.Panel.{allDiffer}
-use Rattle.bits.specs.Meeting.{points, room, Met, isOut, meet, markedAt, drivenBefore, countedAt, namedAt, Holds, Noted}
+use Rattle.bits.specs.Meeting.{lastMark, points, room, Met, isOut, meet, markedAt, drivenBefore, countedAt, namedAt, Holds, Noted}
 use Rattle.bits.specs.declared.Token.{Token}
 use Rattle.bits.specs.declared.Gathered.{Gathered}
 
@@ -45,21 +45,21 @@ module _ (marks : List ℕ) (x : ℕ) (d : Bool) where
   idle-marks e = rw (not-true d e)
 
   module _ (e : not d ≡ false) where
-    pub past-before : points ≤ x → false ≡ drivenBefore marks d x
+    pub past-before : lastMark < x → false ≡ drivenBefore marks d x
     unfolding drivenBefore
-    past-before l = rw (not-false d e, le-ltb x points l)
+    past-before l = rw (not-false d e, le-ltb x points (omega arith))
 
-    pub past-marks : points ≤ x → marks ≡ markedAt marks d x
+    pub past-marks : lastMark < x → marks ≡ markedAt marks d x
     unfolding markedAt
-    past-marks l = rw (not-false d e, le-ltb x points l)
+    past-marks l = rw (not-false d e, le-ltb x points (omega arith))
 
-    pub drives-before : x < points → not (eqb (getD marks x 0) 0) ≡ drivenBefore marks d x
+    pub drives-before : x ≤ lastMark → not (eqb (getD marks x 0) 0) ≡ drivenBefore marks d x
     unfolding drivenBefore
-    drives-before l = rw (not-false d e, lt-ltb x points l)
+    drives-before l = rw (not-false d e, lt-ltb x points (omega arith))
 
-    pub drives-marks : x < points → set marks x 1 ≡ markedAt marks d x
+    pub drives-marks : x ≤ lastMark → set marks x 1 ≡ markedAt marks d x
     unfolding markedAt
-    drives-marks l = rw (not-false d e, lt-ltb x points l)
+    drives-marks l = rw (not-false d e, lt-ltb x points (omega arith))
 
 -- ---- a name
 
@@ -81,9 +81,9 @@ module _ (names : List ℕ) (bits : ℕ) (t : Token) where
     unfolding namedAt
     name-over l = rw (eq-eqb (t .tag) 2 e, le-ltb bits room l)
 
-    pub name-kept : bits < room → set names bits (t .content) ≡ namedAt names bits t
+    pub name-kept : {i : ℕ} → i ≡ bits → bits < room → set names i (t .content) ≡ namedAt names bits t
     unfolding namedAt
-    name-kept l = rw (eq-eqb (t .tag) 2 e, lt-ltb bits room l)
+    name-kept i l = rw (eq-eqb (t .tag) 2 e, lt-ltb bits room l, i)
 
 pub ruleset leaf-laws = (out-no-atom, out-no-rung, out-rung, idle-before, idle-marks, past-before, past-marks, drives-before, drives-marks, no-name-count, no-name-kept, name-count, name-over, name-kept)
 

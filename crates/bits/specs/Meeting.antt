@@ -8,17 +8,22 @@ use lib.ListN.{length, getD, set, take}
 use Rattle.model.specs.Choice.{if_then_else_}
 use Rattle.model.specs.Reading.{Read, got, fault}
 use Rattle.model.specs.Jobs.{isAmong}
-use Rattle.requests.specs.Panel.{allDiffer}
+use Rattle.model.specs.Trees.{Tree}
+use Rattle.requests.specs.Panel.{allDiffer, bitsOf, driven}
 use Rattle.bits.specs.Tokens.{readToken}
 use Rattle.bits.specs.declared.Token.{Token}
 use Rattle.bits.specs.declared.Gathered.{Gathered}
 
--- names that are kept, and points
+-- names that are kept
 abbrev pub room : ℕ
 room = 256
 
+-- a mark for each point, the last one's
+abbrev pub lastMark : ℕ
+lastMark = 1023
+
 abbrev pub points : ℕ
-points = 1024
+points = lastMark + 1
 
 -- ---- as lists
 
@@ -53,6 +58,10 @@ unfoldable pub along : ℕ → Met → List ℕ → Met
 unfolding readToken meet
 along zero m s = m
 along (suc n) m s = goOn m (readToken s) (λ t rest. along n (meet m t) rest)
+
+-- along the bytes of a program
+abbrev pub metIn : Tree → Met
+metIn t = record { names = bitsOf t; seen = driven t; driving = false }
 
 -- ---- as the code keeps it
 

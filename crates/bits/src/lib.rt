@@ -4,6 +4,7 @@
 use numbers::Cursor;
 use numbers::Number;
 use refusals::Refusal;
+use scopes::Point;
 ghost use mathlib.Core.Path.{_≡_};
 ghost use mathlib.Core.Bool.{_||_};
 ghost use Prim.Native.Nat.{ℕ, _+_, _≤_, _<_};
@@ -56,10 +57,10 @@ impl Token {
 
 impl Gathered {
     // Names that are kept: more are only counted.
-    pub const ROOM: usize = 256;
+    pub const ROOM: u32 = 256;
 
     // A mark for each.
-    pub const POINTS: usize = 1024;
+    pub const POINTS: usize = Point::LAST as usize + 1;
 }
 
 fn read_content(c: Cursor, s: &[u8], tag: u32, kind: u32) -> TokenRead
@@ -104,31 +105,39 @@ fn drive(marks: &mut [u8], driving: bool, point: u32) -> bool
     ensures again { λ r. ⌜ r ≡ drivenBefore (now (marks .entry)) driving point ⌝ }
     ensures marks { λ _. ⌜ now (marks .exit) ≡ markedAt (now (marks .entry)) driving point ⌝ }
 {
-    let i = point as usize;
     if !driving {
         return false;
     }
-    if Gathered::POINTS <= i {
+    if Point::LAST < point {
         return false;
     }
+    let i = point as usize;
     let before = marks[i];
     marks[i] = 1;
     before != 0
 }
 
-// Keeps a function's name where there is room: how many functions there are now.
+// Of a function that is met behind `bits` others.
+fn address(bits: u32) -> usize
+    requires { ⌜ bits < room ⌝ }
+    ensures { λ r. ⌜ r ≡ bits ⌝ }
+{
+    bits as usize
+}
+
+// Keeps a function's name at its address, where there is room: how many functions there are now.
 fn count(names: &mut [u32], bits: u32, t: Token) -> u32
     requires { ⌜ (room ≤ length (now names)) × (bits < 4294967295) ⌝ }
     ensures bits { λ r. ⌜ r ≡ countedAt bits t ⌝ }
     ensures names { λ _. ⌜ now (names .exit) ≡ namedAt (now (names .entry)) bits t ⌝ }
 {
-    let i = bits as usize;
     if t.tag != Token::FUNCTION {
         return bits;
     }
-    if Gathered::ROOM <= i {
+    if Gathered::ROOM <= bits {
         return bits + 1;
     }
+    let i = address(bits);
     names[i] = t.content;
     bits + 1
 }

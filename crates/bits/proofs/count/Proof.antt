@@ -12,6 +12,9 @@ add-result c = search (leaf-laws, needs)
 returns-2 : tie.Need-returns-2
 returns-2 c = search (leaf-laws, needs)
 
+address-requires : tie.Need-address-requires
+address-requires c κs = search (leaf-laws, needs)
+
 mul-names : tie.Need-mul-names
 mul-names c = search (leaf-laws, needs)
 
@@ -34,6 +37,7 @@ count-spec =
     returns
     add-result
     returns-2
+    address-requires
     mul-names
     slice-write-names
     add-result-2
