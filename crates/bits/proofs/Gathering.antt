@@ -1,14 +1,12 @@
 -- The loop along the tokens: one law for each way on and out.
 use Prim.Native.Nat.{ℕ, zero, suc, _+_, _-_, _≤_, _<_}
-use mathlib.Core.Path.{_≡_, refl, sym, ap, _∙_}
-use mathlib.Core.Bool.{Bool, true, false}
-use mathlib.Core.List.{List, []}
+use mathlib.Core.Path.{_≡_, refl, ap, _∙_}
+use mathlib.Core.Bool.{false}
+use mathlib.Core.List.{List}
 use native.Mathlib.Omega.{arith}
 use lib.ListN.{length, drop, replicate, length-drop, length-replicate, getD-replicate}
 use lib.Seq.{drop-drop}
 use Rattle.model.specs.Jobs.{isAmong}
-use Rattle.model.specs.Reading as m
-use Rattle.model.specs.Reading.{got, fault}
 use Rattle.requests.specs.Panel.{allDiffer}
 use Rattle.refusals.specs.declared.Refusal.{Refusal}
 use Rattle.numbers.specs.declared.Cursor.{Cursor}

@@ -1,6 +1,6 @@
 -- What the code keeps of the tokens met, by the tests that it makes; and what it keeps of one token more.
-use Prim.Native.Nat.{ℕ, zero, suc, _+_, _≤_, _<_}
-use mathlib.Core.Path.{_≡_, refl, sym, ap, _∙_}
+use Prim.Native.Nat.{ℕ, _+_, _≤_, _<_}
+use mathlib.Core.Path.{_≡_, refl, sym, _∙_}
 use mathlib.Core.Bool.{Bool, true, false, not, _&&_, _||_}
 use mathlib.Core.List.{List, [], _∷_, _++_}
 use native.Mathlib.Omega.{arith}
@@ -13,7 +13,7 @@ use Rattle.model.specs.Choice.{if_then_else_}
 use Rattle.model.specs.Jobs.{isAmong}
 use Rattle.laws.proofs.Tests.{and-both}
 use Rattle.requests.specs.Panel.{allDiffer}
-use Rattle.bits.specs.Meeting.{lastMark, points, room, Met, isOut, meet, markedAt, drivenBefore, countedAt, namedAt, Holds, Noted}
+use Rattle.bits.specs.Meeting.{lastMark, points, room, isOut, meet, markedAt, drivenBefore, countedAt, namedAt, Noted}
 use Rattle.bits.specs.declared.Token.{Token}
 use Rattle.bits.specs.declared.Gathered.{Gathered}
 

@@ -1,7 +1,7 @@
 -- Along the bytes of a program its bits are met, in order of address, and the points that it drives.
 use Prim.Native.Nat.{ℕ, zero, suc, _≤_}
 use mathlib.Core.Path.{_≡_, refl, sym, ap, ap₂, _∙_}
-use mathlib.Core.Bool.{Bool, true, false, _&&_, false≢true}
+use mathlib.Core.Bool.{Bool, true, false, false≢true}
 use mathlib.Core.List.{List, [], _∷_, _++_, append-assoc}
 use native.Mathlib.Omega.{arith}
 use lib.Dec.{eqb, leb, eqb·suc-zero}
@@ -18,8 +18,8 @@ use Rattle.codec_laws.proofs.Sequence.{nil-right}
 use Rattle.codec_laws.proofs.TreeTrip.{Counts, tree-w}
 use Rattle.numbers.specs.Limits.{mostImage}
 use Rattle.addresses.specs.OneNameOneAddress.{functionNames, functionNamesAll}
-use Rattle.requests.specs.Panel.{Word, bit, and, or, not, out, set, all, free, wordNumbered, wordOf, headWord, isPoint, isPointTree, isVariable, isBinary, isStart, isExpressionOf, isExpression, areExpressions, isRung, isProgramOf, isProgram, isProgramInside, arePrograms, bitsOf, pointOf, firstPoint, drivenOf, driven, drivenInside, drivenAll}
-use Rattle.bits.specs.Meeting.{points, Met, none, isOut, meet, along, metIn, Holds}
+use Rattle.requests.specs.Panel.{wordNumbered, wordOf, headWord, isPoint, isPointTree, isVariable, isBinary, isStart, isExpressionOf, isExpression, areExpressions, isRung, isProgramOf, isProgram, isProgramInside, arePrograms, mostBits, bitsOf, pointOf, firstPoint, drivenOf, driven, drivenInside, drivenAll}
+use Rattle.bits.specs.Meeting.{room, lastMark, points, Met, none, isOut, meet, along, metIn, Holds}
 use Rattle.bits.specs.declared.Gathered.{Gathered}
 use Rattle.bits.proofs.Walked.{Plain, PlainAll, walked, walkedAll, tree-walked}
 
@@ -281,6 +281,16 @@ module _ (k n m : ℕ) where
     programs-tell (tcons t l) f e =
         let r = and-both (isProgram t) (arePrograms l) e in
         tells-more t l (driven t) (drivenAll l) (program-tells t (f .0) (r .0)) (programs-tell l (f .1) (r .1))
+
+-- ---- the limits are the definitions'
+
+pub room-is : room ≡ mostBits
+unfolding mostBits
+room-is = refl
+
+pub last-is : lastMark ≡ lastPoint
+unfolding lastPoint
+last-is = refl
 
 -- ---- along the bytes
 

@@ -15,7 +15,6 @@ use Rattle.numbers.specs.Answers.{numberAt}
 use Rattle.numbers.proofs.Tails.{Tail, tail-give, tail-next, tail-if, num-tail}
 use Rattle.numbers.proofs.Answering.{Shape, number-shape, goes, gives, stops}
 use Rattle.bits.specs.Tokens.{tokenAt, readContent, readKind, readBehind, readToken}
-use Rattle.bits.specs.declared.Token.{Token}
 use Rattle.bits.specs.declared.TokenRead.{TokenRead}
 use Rattle.bits.specs.declared.TokenRead.the-variants.{Read, Fault}
 

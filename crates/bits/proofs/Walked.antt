@@ -1,8 +1,8 @@
 -- The bytes of a tree that has neither list nor syntax values, outside or inside, are its tokens, a whole before its parts.
 use Prim.Native.Nat.{ℕ, zero, suc, _+_, _-_, _≤_, _<_}
-use mathlib.Core.Path.{_≡_, refl, sym, ap, _∙_}
+use mathlib.Core.Path.{_≡_, refl, ap, _∙_}
 use mathlib.Core.Bool.{false}
-use mathlib.Core.List.{List, [], _∷_, _++_, append-assoc}
+use mathlib.Core.List.{List, [], _++_, append-assoc}
 use native.Mathlib.Omega.{arith}
 use lib.Dec.{eqb}
 use lib.ListN.{length, length-append}
@@ -14,10 +14,11 @@ use Rattle.model.specs.Writing.{numBytes, stxBytes, treeBytes, treesBytes}
 use Rattle.codec_laws.specs.WellFormed.{AtomFits, TreeFits, TreesFit}
 use Rattle.codec_laws.proofs.NumberTrip.{num-back}
 use Rattle.codec_laws.proofs.Lengths.{left-le, right-le, num-some, tcount-le}
+use Rattle.codec_laws.proofs.ObjectTrip.{tag-le}
 use Rattle.codec_laws.proofs.TreeTrip.{Counts}
 use Rattle.numbers.specs.Limits.{mostImage}
 use Rattle.bits.specs.Tokens.{readContent, readKind, readBehind, readToken}
-use Rattle.bits.specs.Meeting.{Met, meet, goOn, along}
+use Rattle.bits.specs.Meeting.{Met, meet, along}
 use Rattle.bits.specs.declared.Token.{Token}
 
 abbrev mutual
@@ -107,14 +108,6 @@ atom-token-back kind x rest h k =
       num-back x rest k,
     )
 
-tag-small : (a : Atom) → tagOf a < 4294967296
-unfolding tagOf
-tag-small (symbol x) = omega arith
-tag-small (number x) = omega arith
-tag-small (point x) = omega arith
-tag-small (prim x) = omega arith
-tag-small (rung x) = omega arith
-
 content-small : (k : ℕ) (a : Atom) → k < 4294967296 → AtomFits k a → contentOf a < 4294967296
 unfolding contentOf lastPoint lastPrimitive lastRungWord
 content-small k (symbol x) h f = omega arith
@@ -152,7 +145,7 @@ mutual
       ∙ tree-along h k b (f .1) p (right-le mostImage (numBytes 2 ++ numBytes n) (treeBytes b) s) (tokens b + left) left refl (meet m (token 2 n)) rest
   tree-along h k (datum a) f p s fuel left e m rest =
       along-step fuel left m ((numBytes 3 ++ numBytes (tagOf a) ++ numBytes (contentOf a)) ++ rest) rest (atomToken (tagOf a) (contentOf a)) (omega arith)
-      (atom-token-back (tagOf a) (contentOf a) rest (tag-small a) (content-small (symbols h) a (k .symbols-few) f))
+      (atom-token-back (tagOf a) (contentOf a) rest (omega (arith, tag-le a)) (content-small (symbols h) a (k .symbols-few) f))
   tree-along h k (lst l) f p s fuel left e m rest = absurd p
   tree-along h k (stx x) f p s fuel left e m rest = absurd p
 

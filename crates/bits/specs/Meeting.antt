@@ -1,7 +1,7 @@
 -- What is met along the tokens, as lists, and what the code keeps of it.
 use Prim.Native.Nat.{ℕ, zero, suc, _+_, _≤_, _<_}
 use mathlib.Core.Path.{_≡_}
-use mathlib.Core.Bool.{Bool, true, false, not, _&&_, _||_}
+use mathlib.Core.Bool.{Bool, false, not, _&&_}
 use mathlib.Core.List.{List, [], _∷_, _++_}
 use lib.Dec.{eqb, ltb}
 use lib.ListN.{length, getD, set, take}
@@ -18,7 +18,7 @@ use Rattle.bits.specs.declared.Gathered.{Gathered}
 abbrev pub room : ℕ
 room = 256
 
--- a mark for each point, the last one's
+-- the last point's mark, and how many marks there are
 abbrev pub lastMark : ℕ
 lastMark = 1023
 

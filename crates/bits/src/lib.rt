@@ -7,7 +7,7 @@ use refusals::Refusal;
 use scopes::Point;
 ghost use mathlib.Core.Path.{_≡_};
 ghost use mathlib.Core.Bool.{_||_};
-ghost use Prim.Native.Nat.{ℕ, _+_, _≤_, _<_};
+ghost use Prim.Native.Nat.{_+_, _≤_, _<_};
 ghost use lib.ListN.{length};
 ghost use Rattle.numbers.specs.Limits.{mostImage};
 ghost use Rattle.bits.specs.Tokens.{tokenAt, readContent, readKind, readToken};
@@ -33,12 +33,15 @@ pub struct Gathered {
 }
 
 impl Token {
+    // Tags.
     const FUNCTION: u32 = 2;
 
     const ATOM: u32 = 3;
-    // Of an atom's kinds, and of the rung words.
+
+    // An atom's kind.
     const RUNG: u32 = 4;
 
+    // A rung word.
     const OUT: u32 = 3;
 
     // The word `out`.
@@ -117,7 +120,7 @@ fn drive(marks: &mut [u8], driving: bool, point: u32) -> bool
     before != 0
 }
 
-// Of a function that is met behind `bits` others.
+// The address of a function that is met behind `bits` others.
 fn address(bits: u32) -> usize
     requires { ⌜ bits < room ⌝ }
     ensures { λ r. ⌜ r ≡ bits ⌝ }
@@ -164,7 +167,8 @@ fn note(marks: &mut [u8], names: &mut [u32], g: Gathered, t: Token) -> Gathered
     }
 }
 
-// What is gathered along the bytes of a root, where `s` begins with it; `marks` has no mark yet.
+// What is gathered along the root, which `s` is, at a cursor; `marks` has no mark yet. Each token has a byte at least, so there are no
+// more turns than bytes.
 pub fn gather(c: Cursor, s: &[u8], marks: &mut [u8], names: &mut [u32]) -> Gathered
     requires image { ⌜ c .at + length (now s) ≤ mostImage ⌝ }
     requires held { ⌜ NoMarks (now marks) × (room ≤ length (now names)) ⌝ }
