@@ -37,9 +37,10 @@ def check(program):
             if writes and result is None:
                 faults.append("the case settles no result")
             if writes and isinstance(result, bytes):
-                if fields[5] != result.hex() or got_length != len(result):
-                    got = image.show(bytes.fromhex(fields[5].rstrip("!-")))[-1]
-                    faults.append(f"wrote {got[:300]}, expected {image.show(result)[-1][:300]}")
+                if fields[5] != (result.hex() or "-") or got_length != len(result):
+                    got = image.show_written(job, bytes.fromhex(fields[5].rstrip("!-")))[-1]
+                    wanted = image.show_written(job, result)[-1]
+                    faults.append(f"wrote {got[:300]}, expected {wanted[:300]}")
         if faults:
             failed.append(f"case {index} ({reason}): " + "; ".join(faults))
         else:

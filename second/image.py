@@ -22,7 +22,7 @@ Notation for trees:
 CORE = ["lambda", "let-syntax", "quote", "syntax"]
 PRIMITIVES = ["stx-e", "mk-stx", "first", "rest", "link", "same", "pick"]
 RUNG_WORDS = ["and", "or", "not", "out", "set", "all"]
-JOBS = ["resolve", "expand", "parse", "evaluate"]
+JOBS = ["resolve", "expand", "parse", "evaluate", "panel"]
 SYMBOL, NUMBER, POINT, PRIMITIVE, RUNG_WORD, LIST = range(6)
 VARIABLE, APPLICATION, FUNCTION, ATOM, LIST_VALUE, SYNTAX_VALUE = range(6)
 TABLE_WORDS_PER_UNIT = 40
@@ -193,6 +193,11 @@ def tree_image(text, words=(), made=0, scopes=0):
     return head(2, known.words, made, scopes) + root
 
 
+def bits(names):
+    """What the panel check writes: the names of the bits, four bytes each, low byte first."""
+    return b"".join(name.to_bytes(4, "little") for name in names)
+
+
 def call(job, image, phase=0, budget=1024, table=None, output=65536):
     """A call of the stream. The table is just large enough unless given."""
     if table is None:
@@ -331,6 +336,17 @@ class Shower:
                 yield f"left over: {self.image[self.place:].hex()}"
         except Damage as damage:
             yield f"at byte {self.place}: {damage}"
+
+
+def show_bits(written):
+    """What the panel check wrote, as a line."""
+    names = (int.from_bytes(written[i:i + 4], "little") for i in range(0, len(written), 4))
+    return "bits " + " ".join(map(str, names))
+
+
+def show_written(job, written):
+    """What a job, given by its name, wrote, as lines."""
+    return [show_bits(written)] if job == "panel" else show(written)
 
 
 def show(image):

@@ -1,5 +1,6 @@
 #include "jobs.h"
 
+#include "panel.h"
 #include "work.h"
 
 /* Code 3: a variable, outside syntax values, without a function of its name
@@ -71,6 +72,8 @@ static void do_job(Work *work, const Call *call, Answer *answer)
     case JOB_EVALUATE:
         do_evaluate(work);
         break;
+    case JOB_PANEL:
+        return; /* takes no budget and does not come here */
     }
     if (work->code != SUCCESS)
         return;
@@ -82,12 +85,44 @@ static void do_job(Work *work, const Call *call, Answer *answer)
         refuse(work, TOO_LONG);
 }
 
+/* The names of the bits by address, four bytes each, low byte first. */
+static void write_bits(const Panel *panel, Answer *answer)
+{
+    for (uint32_t i = 0; i < panel->bit_count; i++)
+        for (int byte = 0; byte < BYTES_PER_BIT; byte++)
+            answer->output[answer->length++] = (uint8_t)(panel->names[i] >> (8 * byte));
+}
+
+static void answer_panel(Memory *memory, const Call *call, Image *image, Answer *answer)
+{
+    static Panel panel;
+    answer->code = read_image(memory, call->image, call->image_length, TREE_IMAGE, image);
+    if (answer->code != SUCCESS)
+        return;
+    if (!is_closed(image->tree, NULL)) {
+        answer->code = FREE_VARIABLE;
+        return;
+    }
+    answer->code = check_panel(image->tree, &panel);
+    if (answer->code != SUCCESS)
+        return;
+    uint32_t room = call->output_length / BYTES_PER_BIT; /* whole words */
+    if (panel.bit_count > room)
+        answer->code = TOO_LONG;
+    else
+        write_bits(&panel, answer);
+}
+
 void answer_call(Memory *memory, const Call *call, Answer *answer)
 {
     static Image image;
     clear_memory(memory);
     answer->units = answer->name = answer->length = 0;
 
+    if (call->job == JOB_PANEL) {
+        answer_panel(memory, call, &image, answer);
+        return;
+    }
     if (call->budget > MOST_BUDGET ||
         call->table_words < TABLE_WORDS_PER_UNIT * call->budget) {
         answer->code = BAD_BUDGET;

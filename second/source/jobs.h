@@ -1,4 +1,4 @@
-/* The four jobs, each from a call's numbers and image to its answer. */
+/* The jobs, each from a call's numbers and image to its answer. */
 #ifndef JOBS_H
 #define JOBS_H
 
@@ -7,12 +7,12 @@
 
 #include "image.h"
 
-typedef enum { JOB_RESOLVE, JOB_EXPAND, JOB_PARSE, JOB_EVALUATE } Job;
+typedef enum { JOB_RESOLVE, JOB_EXPAND, JOB_PARSE, JOB_EVALUATE, JOB_PANEL } Job;
 
 typedef struct {
     Job job;
-    uint32_t phase; /* not used by parse and evaluate */
-    uint32_t budget;
+    uint32_t phase; /* not used by parse, evaluate and panel */
+    uint32_t budget; /* not used by panel, nor is the table */
     uint32_t table_words;
     uint32_t output_length; /* not used by resolve */
     const uint8_t *image;

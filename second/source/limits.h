@@ -1,5 +1,5 @@
-/* The limits and codes of document 01 as requests T-07 and T-09 amend it, each
-   with its number. */
+/* The limits and codes of document 01 as requests T-01, T-07 and T-09 amend it,
+   each with its number. */
 #ifndef LIMITS_H
 #define LIMITS_H
 
@@ -17,6 +17,7 @@ enum {
     LARGEST_RUNG_WORD = 15,
     LAST_PHASE = 2,
     PHASES = 3,
+    MOST_BITS = 256, /* of a panel program */
     TABLE_WORDS_PER_UNIT = 40,
     /* Sizes are kept up to here: a larger charge is refused whatever it is. */
     SIZE_CAP = MOST_BUDGET + 1
@@ -24,6 +25,9 @@ enum {
 
 /* The names of the four core forms. Words are numbered from CORE_NAMES. */
 enum { LAMBDA = 0, LET_SYNTAX = 1, QUOTE = 2, SYNTAX = 3, CORE_NAMES = 4 };
+
+/* The rung words that have a meaning. */
+enum { RUNG_AND = 0, RUNG_OR = 1, RUNG_NOT = 2, RUNG_OUT = 3, RUNG_SET = 4, RUNG_ALL = 5 };
 
 typedef enum {
     SUCCESS = 0,
@@ -47,7 +51,10 @@ typedef enum {
     TOO_NESTED = 17,
     TOO_MANY_ENTRIES = 18,
     CHARGE_TOO_LARGE = 19,
-    TOO_LONG = 20
+    TOO_LONG = 20,
+    OUTSIDE_PROFILE = 21,
+    DRIVEN_TWICE = 22,
+    TOO_MANY_BITS = 23
 } Code;
 
 #endif

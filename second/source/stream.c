@@ -26,7 +26,7 @@ Met read_call(FILE *stream, Call *call, uint8_t *image)
     Met met = read_stream_number(stream, &job);
     if (met != A_CALL)
         return met;
-    if (job > JOB_EVALUATE)
+    if (job > JOB_PANEL)
         return CUT;
     call->job = (Job)job;
     if (read_stream_number(stream, &call->phase) != A_CALL ||
@@ -64,10 +64,13 @@ void write_call(FILE *stream, const Call *call)
     fwrite(call->image, 1, call->image_length, stream);
 }
 
-/* What a right implementation does to the table: nothing after code 5, and
-   nothing to see with a budget of 0; else its first words are cleared. */
+/* What a right implementation does to the table: nothing after code 5 or in a
+   job that takes none, and nothing to see with a budget of 0; else its first
+   words are cleared. */
 static const char *table_column(const Call *call, const Answer *answer)
 {
+    if (call->job == JOB_PANEL)
+        return "kept";
     return answer->code == BAD_BUDGET || call->budget == 0 ? "kept" : "clear";
 }
 
