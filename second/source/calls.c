@@ -10,6 +10,7 @@
 
 #include "chance.h"
 #include "drafts.h"
+#include "panel.h"
 #include "stream.h"
 
 static uint32_t small; /* images are shorter than this; 0 where they need not be */
@@ -78,6 +79,25 @@ static uint32_t choose_output(uint32_t need)
     return LONGEST_IMAGE + below(3) - 1;
 }
 
+/* The panel check takes neither phase, budget nor table; its output is words. */
+static void choose_panel_sizes(Call *call, uint32_t need)
+{
+    call->phase = percent(95) ? below(5) : (uint32_t)next_chance();
+    call->budget = percent(95) ? below(4) : (uint32_t)next_chance();
+    call->table_words = percent(95) ? below(90) : below(LARGEST_STREAM_TABLE + 1);
+    uint32_t choice = below(100);
+    if (choice < 30)
+        call->output_length = need;
+    else if (choice < 50)
+        call->output_length = need + between(1, 9);
+    else if (choice < 60 && need > 0)
+        call->output_length = need - between(1, 4);
+    else if (choice < 68)
+        call->output_length = below(need + 1);
+    else
+        call->output_length = choice < 98 ? MOST_BITS * BYTES_PER_BIT : LONGEST_IMAGE;
+}
+
 /* Emits a call of the job on the image, with sizes around its need. */
 static void emit(Job job, const Draft *draft, Answer *answer)
 {
@@ -91,9 +111,13 @@ static void emit(Job job, const Draft *draft, Answer *answer)
     answer_call(memory, &call, answer);
     if (wanted == 0)
         return;
-    call.budget = choose_budget(answer->units);
-    call.table_words = choose_table(call.budget);
-    call.output_length = choose_output(answer->length);
+    if (job == JOB_PANEL) {
+        choose_panel_sizes(&call, answer->length);
+    } else {
+        call.budget = choose_budget(answer->units);
+        call.table_words = choose_table(call.budget);
+        call.output_length = choose_output(answer->length);
+    }
     if (small > 0 && (draft->length >= small || answer->length > 200 ||
                       (call.budget > 200 && percent(95)) || call.budget > 5000))
         return;
@@ -104,9 +128,9 @@ static void emit(Job job, const Draft *draft, Answer *answer)
 static Job choose_job(uint32_t kind)
 {
     if (percent(2))
-        return (Job)below(4);
+        return (Job)below(JOB_PANEL + 1);
     if (kind == TREE_IMAGE)
-        return JOB_EVALUATE;
+        return percent(95) ? JOB_EVALUATE : JOB_PANEL;
     uint32_t choice = below(10);
     return choice < 6 ? JOB_EXPAND : choice < 9 ? JOB_PARSE : JOB_RESOLVE;
 }
@@ -114,18 +138,21 @@ static Job choose_job(uint32_t kind)
 static void make_draft(Draft *draft, Job *job)
 {
     uint32_t choice = below(100);
-    if (choice < 45) {
+    if (choice < 40) {
         draft_program(memory, draft);
         *job = percent(95) ? JOB_EXPAND : choose_job(draft->kind);
-    } else if (choice < 57) {
+    } else if (choice < 50) {
         draft_identifier(memory, draft);
         *job = percent(95) ? JOB_RESOLVE : choose_job(draft->kind);
-    } else if (choice < 69) {
+    } else if (choice < 60) {
         draft_object(memory, draft);
         *job = percent(90) ? JOB_PARSE : choose_job(draft->kind);
-    } else {
+    } else if (choice < 85) {
         draft_tree(memory, draft);
         *job = choose_job(draft->kind);
+    } else {
+        draft_panel(memory, draft);
+        *job = percent(95) ? JOB_PANEL : choose_job(draft->kind);
     }
 }
 
@@ -138,6 +165,24 @@ static bool take_result(Draft *draft, const Answer *answer, uint32_t kind)
     draft->length = answer->length;
     memcpy(draft->bytes, answer->output, answer->length);
     return true;
+}
+
+/* Calls on what the last answer wrote: a program is expanded, parsed and
+   checked or evaluated in turn. */
+static void go_on(Job job, Draft *draft, Answer *answer)
+{
+    if (job == JOB_EXPAND && percent(35) && take_result(draft, answer, SYNTAX_IMAGE)) {
+        if (percent(10)) /* expanded again */
+            emit(JOB_EXPAND, draft, answer);
+        if (take_result(draft, answer, SYNTAX_IMAGE))
+            emit(JOB_PARSE, draft, answer);
+        if (percent(40) && take_result(draft, answer, TREE_IMAGE))
+            emit(JOB_PANEL, draft, answer);
+    } else if (job == JOB_PARSE && percent(50) && take_result(draft, answer, TREE_IMAGE)) {
+        emit(percent(75) ? JOB_EVALUATE : JOB_PANEL, draft, answer);
+    } else if (job == JOB_EVALUATE && percent(5) && take_result(draft, answer, TREE_IMAGE)) {
+        emit(JOB_EVALUATE, draft, answer);
+    }
 }
 
 int main(int count, char **arguments)
@@ -171,18 +216,7 @@ int main(int count, char **arguments)
             emit(job, &draft, &answer);
             if (percent(15)) /* the same image with other sizes */
                 emit(job, &draft, &answer);
-            if (job == JOB_EXPAND && percent(35) && take_result(&draft, &answer, SYNTAX_IMAGE)) {
-                if (percent(10)) /* expanded again */
-                    emit(JOB_EXPAND, &draft, &answer);
-                if (take_result(&draft, &answer, SYNTAX_IMAGE))
-                    emit(JOB_PARSE, &draft, &answer);
-            } else if (job == JOB_PARSE && percent(50) &&
-                       take_result(&draft, &answer, TREE_IMAGE)) {
-                emit(JOB_EVALUATE, &draft, &answer);
-            } else if (job == JOB_EVALUATE && percent(5) &&
-                       take_result(&draft, &answer, TREE_IMAGE)) {
-                emit(JOB_EVALUATE, &draft, &answer);
-            }
+            go_on(job, &draft, &answer);
         }
         if (percent(30))
             other = draft;

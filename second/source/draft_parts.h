@@ -1,4 +1,4 @@
-/* What drafts of syntax and drafts of trees have in common. */
+/* What drafts of syntax, of trees and of panel programs have in common. */
 #ifndef DRAFT_PARTS_H
 #define DRAFT_PARTS_H
 
@@ -22,5 +22,12 @@ const Object *any_object(int depth);
 
 /* The object with scopes of the image in some of its sets. */
 const Object *sprinkle(const Object *object, uint32_t of_hundred);
+
+/* Parts of trees; a list value is made where is_value is set, else an application. */
+const Tree *tree_atom(ObjectTag tag, uint32_t content);
+const Tree *tree_list(uint32_t count, const Tree *const *given, bool is_value);
+const Tree *apply1(const Tree *head, const Tree *a);
+const Tree *apply2(const Tree *head, const Tree *a, const Tree *b);
+const Tree *any_syntax(void);
 
 #endif

@@ -13,12 +13,12 @@ typedef enum { ANY_VALUE, A_NUMBER, AN_ATOM, A_LIST, SYNTAXES, A_SYNTAX, A_FUNCT
 
 static const Tree *tree(int depth, const Bound *bound, Wanted wanted);
 
-static const Tree *tree_atom(ObjectTag tag, uint32_t content)
+const Tree *tree_atom(ObjectTag tag, uint32_t content)
 {
     return make_atom(draft_memory, (Atom){tag, content});
 }
 
-static const Tree *tree_list(uint32_t count, const Tree *const *given, bool is_value)
+const Tree *tree_list(uint32_t count, const Tree *const *given, bool is_value)
 {
     const Tree **parts = take_tree_parts(draft_memory, count);
     for (uint32_t i = 0; i < count; i++)
@@ -27,12 +27,12 @@ static const Tree *tree_list(uint32_t count, const Tree *const *given, bool is_v
                     : make_application(draft_memory, count, parts);
 }
 
-static const Tree *apply1(const Tree *head, const Tree *a)
+const Tree *apply1(const Tree *head, const Tree *a)
 {
     return tree_list(2, (const Tree *[]){head, a}, false);
 }
 
-static const Tree *apply2(const Tree *head, const Tree *a, const Tree *b)
+const Tree *apply2(const Tree *head, const Tree *a, const Tree *b)
 {
     return tree_list(3, (const Tree *[]){head, a, b}, false);
 }
@@ -47,7 +47,7 @@ static const Tree *tree_primitive(uint32_t number)
     return tree_atom(PRIMITIVE, number);
 }
 
-static const Tree *any_syntax(void)
+const Tree *any_syntax(void)
 {
     return make_syntax_value(draft_memory, sprinkle(any_object(2), 30));
 }

@@ -483,6 +483,15 @@ static const PanelProgram panel[] = {
     {"(_1 (lambda x _2))", "(m (syntax x) (syntax (x y)))"},
     {"(lambda x (_1 _2))", "(lambda x (m (syntax x) (m x (syntax x))))"},
     {"(let-syntax n (lambda g (syntax _1)) (_1 (n)))", "(lambda x (m (syntax x)))"},
+    /* bits with their start values, as the panel's compiler takes them */
+    {"((lambda run ('5 ('4 run ('1 run _1)) ('3 _2 run))) 0)", "(m @4 @5)"},
+    {"((lambda run ('5 ('4 run ('1 run _1)) ('3 _2 run))) 0)",
+     "((lambda run ('5 ('4 run @9) (m run @5))) 1)"},
+    {"((lambda run ('5 ('4 run ('1 run _1)) ('3 _2 run))) 0)", "('5 (m @4 @5) (m @5 @6))"},
+    {"((lambda run ('5 ('4 run ('1 run _1)) ('3 _2 run))) 0)", "('5 (m @4 @5) (m @5 @5))"},
+    {"('5 ('4 _1 _2) ((lambda t ('5 ('4 t _1) ('3 _3 t))) 1))", "((lambda t (m t @2 @3)) 0)"},
+    {"((lambda _1 _2) 0)", "(m x ((lambda x ('3 @1 x)) 1))"},
+    {"((lambda _1 _2) 1)", "(m x ('5 ('4 x @1) (m y ('4 x y))))"},
 };
 
 static const char *const whole_programs[] = {

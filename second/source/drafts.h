@@ -17,6 +17,7 @@ void draft_program(Memory *memory, Draft *draft); /* for expand, most of them ac
 void draft_identifier(Memory *memory, Draft *draft);
 void draft_object(Memory *memory, Draft *draft); /* any syntax, for parse */
 void draft_tree(Memory *memory, Draft *draft);
+void draft_panel(Memory *memory, Draft *draft); /* for the panel check */
 
 /* Breaks a draft; other is another image to take pieces from. */
 void damage_draft(Draft *draft, const Draft *other);

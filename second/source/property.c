@@ -10,7 +10,8 @@
    - the names of all functions in the tree differ, and none is below the count
      of names of the image before expansion;
    - every variable outside syntax values is inside the function of its name;
-   - evaluate of the written tree never gives 3;
+   - evaluate of the written tree never gives 3, nor does the panel check;
+   - where the panel check takes the tree, each name has one address;
    - reading an image and writing it again gives the same bytes, so no symbol
      and set is bound twice in it;
    - a program that is refused is never refused with 3.
@@ -24,6 +25,7 @@
 #include "chance.h"
 #include "drafts.h"
 #include "jobs.h"
+#include "panel.h"
 
 static Memory *memory;
 static uint64_t violations;
@@ -93,6 +95,31 @@ static const char *wrong_tree(const uint8_t *bytes, size_t length, uint32_t name
     return wrong_name(image.tree, names_before);
 }
 
+/* Where the panel check takes a tree: whether two of its bits have one name. */
+static bool shares_names(const Answer *panel)
+{
+    for (uint32_t i = 0; i < panel->length; i += BYTES_PER_BIT)
+        for (uint32_t j = 0; j < i; j += BYTES_PER_BIT)
+            if (memcmp(panel->output + i, panel->output + j, BYTES_PER_BIT) == 0)
+                return true;
+    return false;
+}
+
+/* Counts the trees with bits that the panel check takes. */
+static uint64_t with_bits;
+
+static void check_addresses(const Draft *draft, const Answer *parsed)
+{
+    static Answer panel;
+    answer_largest(JOB_PANEL, parsed->output, parsed->length, &panel);
+    if (panel.code == FREE_VARIABLE)
+        violation(draft, "the panel check gives 3");
+    if (panel.code == SUCCESS && shares_names(&panel))
+        violation(draft, "two addresses for one name");
+    if (panel.code == SUCCESS && panel.length > 0)
+        with_bits++;
+}
+
 static uint32_t names_of(const Draft *draft)
 {
     static Image image;
@@ -151,10 +178,13 @@ int main(int count, char **arguments)
         answer_largest(JOB_EVALUATE, parsed.output, parsed.length, &evaluated);
         if (evaluated.code == FREE_VARIABLE)
             violation(&draft, "evaluate gives 3");
+        check_addresses(&draft, &parsed);
     }
-    printf("%llu programs, %llu accepted, %llu parsed, %llu violations\n",
+    printf("%llu programs, %llu accepted, %llu parsed, %llu of them panel programs with bits, "
+           "%llu violations\n",
            (unsigned long long)made, (unsigned long long)accepted,
-           (unsigned long long)parsed_count, (unsigned long long)violations);
+           (unsigned long long)parsed_count, (unsigned long long)with_bits,
+           (unsigned long long)violations);
     free_memory(memory);
     return violations == 0 ? 0 : 1;
 }
