@@ -1,11 +1,11 @@
 -- How the jobs end, taken apart: each as its work's parts say.
 use mathlib.Core.Path.{_≡_, refl, sym, ap, subst}
-use Prim.Native.Nat.{ℕ, _-_, _≤_}
+use Prim.Native.Nat.{ℕ, _-_, _≤_, zero-le}
 use native.Mathlib.Omega.{arith}
 use mathlib.Core.Bool.{Bool, true, false, _&&_}
 use mathlib.Core.List.{List, [], _∷_, _++_}
 use lib.Dec.{leb}
-use lib.ListN.{length, take, drop}
+use lib.ListN.{length, take, drop, length-append}
 use Rattle.model.specs.Choice.{if_then_else_}
 use Rattle.model.specs.Limits.{mostImage, mostEntries, lastPhase}
 use Rattle.model.specs.Refusals.{Refusal, layout, overLimit, unowned, wrongKind, smallTable, ambiguous, noMeaning, noRule, noSyntax, notApplicable, wrongArgument, noPhase, noNameLeft, noScopeLeft, noBindingLeft, tooDeep, tooManyEntries, overBudget, tooLong, codeOf}
@@ -122,6 +122,17 @@ lent-cases P budget table output e p q = go (budgetFits budget (length table))
     go : (b : Bool) → P (if b then after-ending budget table output e else untouched table output)
     go true = p
     go false = q
+
+-- what is written lies within the output
+length-within : (output : List ℕ) (e : Ending) → (answerOf e) .len ≤ length (outputAfter e output)
+unfolding answerOf outputAfter
+length-within output (refused r u) = zero-le
+length-within output (named n u) = zero-le
+length-within output (written b u) = simp length-append (omega arith)
+
+pub lent-within : (budget : ℕ) (table output : List ℕ) (e : Ending) → (lent budget table output e) .answer .len ≤ length ((lent budget table output e) .output)
+unfolding answerOf
+lent-within budget table output e = lent-cases (λ (z : Result). z .answer .len ≤ length (z .output)) budget table output e (length-within output e) zero-le
 
 pub lent-code : (budget : ℕ) (table output : List ℕ) (r : Refusal) (u : ℕ) → budgetFits budget (length table) ≡ true
     → (lent budget table output (refused r u)) .answer .code ≡ codeOf r

@@ -4,3 +4,4 @@ pub mod Samples
 pub mod InNotation
 pub mod Cases
 pub mod UseScope
+pub mod Panel

@@ -1,18 +1,18 @@
 -- What the answers of the two jobs say of the line.
 use mathlib.Core.Path.{_≡_, refl, sym, ap, _∙_, subst}
-use Prim.Native.Nat.{ℕ, _+_, _≤_, zero-le}
+use Prim.Native.Nat.{ℕ, _+_, _≤_}
 use native.Mathlib.Nat.{zero-add}
 use native.Mathlib.Omega.{arith}
 use mathlib.Core.List.{List}
 use mir.Syntax.{w32}
 use mir.Val.{Fits}
-use lib.ListN.{length, take, drop, length-append}
+use lib.ListN.{length, take, drop}
 use lib.Seq.{length-take-le}
 use Rattle.model.specs.Limits.{mostBudget, wordsPerUnit, programBudget, mostImage}
 use Rattle.model.specs.Reading.{readSyntax, readImage}
 use Rattle.model.specs.Jobs.{Ending, refused, named, written, Answer, answerOf, outputAfter, Result, budgetFits, lent, withImage, expandEnding, parseEnding, expandJob, parseJob, Line, lineOf, thenParsed, program}
 use borrow.Author.Tests.{le-leb}
-use Rattle.addresses.proofs.Endings.{after-ending, expandWork, expandEnding-is, expandJob-is, parseJob-is, lent-cases, lent-ended, fitted-case, worked-case, image-case, phase-case, Ended, take-whole, Wrote, nothing-wrote}
+use Rattle.addresses.proofs.Endings.{after-ending, expandWork, expandEnding-is, expandJob-is, parseJob-is, lent-within, lent-ended, fitted-case, worked-case, image-case, phase-case, Ended, take-whole, Wrote, nothing-wrote}
 use Rattle.proof_bench.proofs.Answers.{expand-units-are-within-the-budget, parse-units-are-within-the-budget}
 
 -- the table that the program lends is enough for its budget
@@ -42,13 +42,6 @@ expand-unnamed image ph budget room =
     (phase-case Unnamed none ph (withImage (readImage readSyntax image) (expandWork ph budget room))
     (image-case Unnamed none (readImage readSyntax image) (expandWork ph budget room) (λ i rest e.
     worked-case Unnamed none budget _ _ (λ r s q. fitted-case Unnamed none room _ _ (λ h. tt)))))
-
--- what is written lies within the output
-length-within : (out : List ℕ) (e : Ending) → (answerOf e) .len ≤ length (outputAfter e out)
-unfolding answerOf outputAfter
-length-within out (refused r u) = zero-le
-length-within out (named n u) = zero-le
-length-within out (written b u) = simp length-append (omega arith)
 
 refused-line : {a : Answer} (e : Ending) → Unnamed e → a ≡ answerOf e → (a .code ≡ 0 → ⊥) → record { code = a .code; units = a .units } ≡ thenParsed e
 unfolding answerOf lineOf thenParsed
@@ -88,10 +81,7 @@ module _ (image table out : List ℕ) {out′ table′ : List ℕ} {code units n
   expanded-units = subst (λ (z : Result). z .answer .units ≤ 400) (sym e) (expand-units-are-within-the-budget image 0 400 table out)
 
   pub expanded-length : len ≤ length out′
-  unfolding answerOf
-  expanded-length =
-      subst (λ (z : Result). z .answer .len ≤ length (z .output)) (sym is)
-      (lent-cases (λ (z : Result). z .answer .len ≤ length (z .output)) 400 table out ending (length-within out ending) zero-le)
+  expanded-length = subst (λ (z : Result). z .answer .len ≤ length (z .output)) (sym is) (lent-within 400 table out ending)
 
   pub part-long : len ≡ length (take len out′)
   part-long = sym (length-take-le len out′ expanded-length)

@@ -5,11 +5,11 @@ use mathlib.Core.Bool.{true}
 use mathlib.Core.List.{List, [], _∷_}
 use lib.ListN.{length, getD, take, drop}
 use Rattle.model.specs.Writing.{treeImageBytes}
-use Rattle.model.specs.Jobs.{Ending, written, answerOf, outputAfter, Answer, Result, lent, budgetFits, expandJob, parseJob, evaluateJob}
+use Rattle.model.specs.Jobs.{Ending, written, answerOf, outputAfter, Answer, Result, lent, budgetFits, expandEnding, expandJob, parseJob, evaluateJob}
 use Rattle.codec_laws.specs.WellFormed.{Bytes}
 use Rattle.addresses.specs.Charge.{parseCharge}
 use Rattle.addresses.specs.OneNameOneAddress.{imageWritten, OneNameOneAddress}
-use Rattle.addresses.proofs.Endings.{after-ending, take-whole}
+use Rattle.addresses.proofs.Endings.{after-ending, lent-within, expandJob-is, take-whole}
 use Rattle.addresses.proofs.Condition3.{one-name-one-address}
 use Rattle.one_address.specs.Keeping.{Keeps, Parses, NeverUnowned}
 
@@ -29,6 +29,7 @@ module _ {a : Answer} {output′ table′ : List ℕ} (budget : ℕ) (table outp
       record {
         kept = λ q. subst (λ (z : Result). OneNameOneAddress image (imageWritten z)) (sym e)
             (one-name-one-address image (bytes image h) budget table output (ap (λ (z : Result). z .answer .code) (sym e) ∙ q));
+        within = subst (λ (z : Result). z .answer .len ≤ length (z .output)) (sym (e ∙ expandJob-is image 0 budget table output)) (lent-within budget table output (expandEnding image 0 budget (length output)));
       }
 
   pub parses : (expanded : List ℕ) → record { answer = a; output = output′; table = table′ } ≡ parseJob expanded budget table output → Parses expanded budget table output output′ a

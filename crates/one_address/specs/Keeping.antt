@@ -12,6 +12,7 @@ use Rattle.addresses.specs.OneNameOneAddress.{OneNameOneAddress}
 -- a program that is accepted, and the image written for it
 pub record Keeps (image output : List ℕ) (a : Answer) : Type 0 where
   pub kept : a .code ≡ 0 → OneNameOneAddress image (take (a .len) output)
+  pub within : a .len ≤ length output
 
 -- the image written for such a program, parsed: with enough of everything it is accepted, and its tree is written for exactly its charge
 pub record Parses (expanded : List ℕ) (budget : ℕ) (table output output′ : List ℕ) (a : Answer) : Type 0 where

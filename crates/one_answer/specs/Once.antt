@@ -3,10 +3,17 @@ use mathlib.Core.Path.{_≡_}
 use mathlib.Core.List.{List}
 use Prim.Native.Nat.{ℕ}
 use Rattle.model.specs.Jobs.{Result}
+use Rattle.requests.specs.Panel.{PanelResult}
 use Rattle.meirhuppa.specs.Endings.{Answered}
+use Rattle.meirhuppa.specs.Panels.{PanelAnswered}
 use Rattle.meirhuppa.specs.declared.answers.Answer.{Answer}
 
 -- they are the job's, and whatever else is the job's is the same
 pub record Once (job : Result) (a : Answer) (output table : List ℕ) : Type 0 where
   pub is : Answered job a output table
   pub only : (b : Answer) (p u : List ℕ) → Answered job b p u → (a ≡ b) × (output ≡ p) × (table ≡ u)
+
+-- of the panel check, which has words in place of output and table
+pub record PanelOnce (job : PanelResult) (a : Answer) (bits : List ℕ) : Type 0 where
+  pub is : PanelAnswered job a bits
+  pub only : (b : Answer) (p : List ℕ) → PanelAnswered job b p → (a ≡ b) × (bits ≡ p)

@@ -3,11 +3,13 @@
 use meirhuppa::answers::Answer;
 use meirhuppa::evaluate;
 use meirhuppa::expand;
+use meirhuppa::panel;
 use meirhuppa::parse;
 use meirhuppa::resolve;
 ghost use mathlib.Core.List.{[]};
 ghost use Rattle.model.specs.Jobs.{resolveJob, expandJob, parseJob, evaluateJob};
-ghost use Rattle.one_answer.specs.Once.{Once};
+ghost use Rattle.requests.specs.Panel.{panelJob};
+ghost use Rattle.one_answer.specs.Once.{Once, PanelOnce};
 
 pub fn resolve_once(image: &[u8], phase: u32, budget: u32, table: &mut [u32]) -> Answer
     ensures { λ r. ⌜ Once (resolveJob (now (image .entry)) phase budget (now (table .entry))) r [] (now (table .exit)) ⌝ }
@@ -37,4 +39,10 @@ pub fn evaluate_once(image: &[u8], budget: u32, table: &mut [u32], out: &mut [u8
     ensures { λ r. ⌜ Once (evaluateJob (now (image .entry)) budget (now (table .entry)) (now (out .entry))) r (now (out .exit)) (now (table .exit)) ⌝ }
 {
     evaluate::meirhuppa_evaluate(image, budget, table, out)
+}
+
+pub fn panel_once(image: &[u8], bits: &mut [u32]) -> Answer
+    ensures { λ r. ⌜ PanelOnce (panelJob (now (image .entry)) (now (bits .entry))) r (now (bits .exit)) ⌝ }
+{
+    panel::meirhuppa_panel(image, bits)
 }
