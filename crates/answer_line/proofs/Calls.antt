@@ -1,13 +1,16 @@
 -- The job that a call asks for, by the tests of its number, and its line.
-use Prim.Native.Nat.{ℕ}
+use Prim.Native.Nat.{ℕ, _/_, _%_, _≤_, _<_}
 use mathlib.Core.Path.{_≡_, ap, _∙_, subst}
-use mathlib.Core.List.{List, []}
-use lib.ListN.{replicate}
-use borrow.Author.Tests.{eq-eqb, ne-eqb}
+use mathlib.Core.List.{List, [], _++_}
+use lib.ListN.{length, replicate, length-replicate}
+use borrow.Author.Tests.{eq-eqb, ne-eqb, le-leb, lt-leb}
 use Rattle.model.specs.Jobs.{Answer, Result, resolveJob, expandJob, parseJob, evaluateJob}
+use Rattle.requests.specs.Panel.{PanelRefusal, PanelEnding, refused, panelOf, roomFor, bitsAfter, PanelResult, panelJob}
 use Rattle.text.specs.Placing.{Placed}
 use Rattle.answer_line.specs.Format.{wordFill, byteFill, answerLine}
-use Rattle.answer_line.specs.Calls.{keeping, jobOf, freshJob, callLine}
+use Rattle.answer_line.specs.Words.{bytesFill, bytesOfWords}
+use Rattle.answer_line.specs.Calls.{keeping, jobOf, panelBytes, leaving, freshJob, callLine}
+use Rattle.answer_line.proofs.Laying.{laid-over-fill, filled-output}
 
 module _ (job : ℕ) (image : List ℕ) (ph budget : ℕ) (table output : List ℕ) where
   pub job-resolve : {a : Answer} {t : List ℕ} → job ≡ 0 → record { answer = a; output = []; table = t } ≡ resolveJob image ph budget table
@@ -28,15 +31,40 @@ module _ (job : ℕ) (image : List ℕ) (ph budget : ℕ) (table output : List �
   unfolding jobOf
   job-evaluate n m k e = e ∙ simp (ne-eqb job 0 n, ne-eqb job 1 m, ne-eqb job 2 k)
 
+-- the words were lent filled, and came back as the output's bytes
+pub panel-laid : (image : List ℕ) (bytes many : ℕ) {words bits out out′ : List ℕ} {a : Answer} {past : ℕ} → many ≡ bytes / 4 → words ≡ replicate many bytesFill
+    → out ≡ replicate bytes byteFill → record { answer = a; bits = bits } ≡ panelJob image words → length bits ≡ many → Placed out 0 (bytesOfWords bits) out′ past
+    → record { answer = a; output = out′; table = [] } ≡ panelBytes image bytes
+unfolding panelBytes
+panel-laid image bytes many {bits = bits} {out′ = out′} {a = a} {past = past} n p q e s w =
+    let job : record { answer = a; bits = bits } ≡ panelJob image (replicate (bytes / 4) bytesFill) = e ∙ ap (panelJob image) (p ∙ ap (λ (k : ℕ). replicate k bytesFill) n) in
+    let laid = laid-over-fill bytes byteFill bits (s ∙ n) (subst (λ (o : List ℕ). Placed o 0 (bytesOfWords bits) out′ past) q w) in
+    ap {B = Result} (λ (o : List ℕ). record { answer = a; output = o; table = [] }) laid
+    ∙ ap {B = Result} (λ (r : PanelResult). record { answer = r .answer; output = bytesOfWords (r .bits) ++ replicate (bytes % 4) byteFill; table = [] }) job
+
+-- a refusal leaves every byte of the output as it was filled
+pub panel-refused : (image : List ℕ) (bytes : ℕ) {r : PanelRefusal} → roomFor (bytes / 4) (panelOf image) ≡ refused r → (panelBytes image bytes) .output ≡ replicate bytes byteFill
+unfolding panelBytes panelJob bitsAfter
+panel-refused image bytes h =
+    ap (λ (e : PanelEnding). bytesOfWords (bitsAfter e (replicate (bytes / 4) bytesFill)) ++ replicate (bytes % 4) byteFill)
+    (ap (λ (k : ℕ). roomFor k (panelOf image)) (length-replicate (bytes / 4) bytesFill) ∙ h)
+    ∙ filled-output bytes
+
+module _ (job : ℕ) (image : List ℕ) (ph budget words bytes : ℕ) where
+  pub panel-fresh : {a : Answer} {table output : List ℕ} → 3 < job → table ≡ replicate words wordFill → record { answer = a; output = output; table = [] } ≡ panelBytes image bytes
+      → record { answer = a; output = output; table = table } ≡ freshJob job image ph budget words bytes
+  unfolding freshJob leaving
+  panel-fresh h p e = (λ i. leaving (p i) (e i)) ∙ simp (lt-leb job 3 h)
+
 module _ (job : ℕ) (image : List ℕ) (ph budget words bytes : ℕ) {r : Result} where
-  pub job-fresh : {table output : List ℕ} → table ≡ replicate words wordFill → output ≡ replicate bytes byteFill → r ≡ jobOf job image ph budget table output
+  pub job-fresh : {table output : List ℕ} → job ≤ 3 → table ≡ replicate words wordFill → output ≡ replicate bytes byteFill → r ≡ jobOf job image ph budget table output
       → r ≡ freshJob job image ph budget words bytes
   unfolding freshJob
-  job-fresh p q e = e ∙ (λ i. jobOf job image ph budget (p i) (q i))
+  job-fresh h p q e = e ∙ (λ i. jobOf job image ph budget (p i) (q i)) ∙ simp (le-leb job 3 h)
 
   pub line-of-call : {out out′ : List ℕ} {at past : ℕ} → r ≡ freshJob job image ph budget words bytes → Placed out at (answerLine budget r) out′ past
       → Placed out at (callLine job image ph budget words bytes) out′ past
   unfolding callLine
   line-of-call {out} {out′} {at} {past} e w = subst (λ (z : Result). Placed out at (answerLine budget z) out′ past) e w
 
-pub ruleset answer-laws = (job-resolve, job-expand, job-parse, job-evaluate, job-fresh, line-of-call)
+pub ruleset answer-laws = (job-resolve, job-expand, job-parse, job-evaluate, panel-laid, panel-fresh, job-fresh, line-of-call)

@@ -1,17 +1,19 @@
 -- What a call of the replay stream asks for, and the line that answers it.
-use Prim.Native.Nat.{ℕ}
-use mathlib.Core.List.{List}
-use lib.Dec.{eqb}
+use Prim.Native.Nat.{ℕ, _/_, _%_}
+use mathlib.Core.List.{List, [], _++_}
+use lib.Dec.{eqb, leb}
 use lib.ListN.{replicate}
 use Rattle.model.specs.Choice.{if_then_else_}
 use Rattle.model.specs.Jobs.{Result, resolveJob, expandJob, parseJob, evaluateJob}
+use Rattle.requests.specs.Panel.{panelJob}
 use Rattle.answer_line.specs.Format.{wordFill, byteFill, answerLine}
+use Rattle.answer_line.specs.Words.{bytesFill, bytesOfWords}
 
 -- resolve is not lent the output, which stays
 unfoldable pub keeping : List ℕ → Result → Result
 keeping output r = record { answer = r .answer; output = output; table = r .table }
 
--- the job with that number: resolve 0, expand 1, parse 2, evaluate 3, of image, phase, budget, table and output
+-- the job of document 01 with that number: resolve 0, expand 1, parse 2, evaluate 3, of image, phase, budget, table and output
 unfoldable pub jobOf : ℕ → List ℕ → ℕ → ℕ → List ℕ → List ℕ → Result
 jobOf job image ph budget table output =
     if eqb job 0 then keeping output (resolveJob image ph budget table)
@@ -19,9 +21,21 @@ jobOf job image ph budget table output =
     else if eqb job 2 then parseJob image budget table output
     else evaluateJob image budget table output
 
+-- the panel check (job 4) with an output of so many bytes, filled before the call: it is lent as words, and what is over is no whole word, and stays
+unfoldable pub panelBytes : List ℕ → ℕ → Result
+panelBytes image bytes =
+    let r = panelJob image (replicate (bytes / 4) bytesFill) in
+    record { answer = r .answer; output = bytesOfWords (r .bits) ++ replicate (bytes % 4) byteFill; table = [] }
+
+-- it is not lent the table, which stays
+unfoldable pub leaving : List ℕ → Result → Result
+leaving table r = record { answer = r .answer; output = r .output; table = table }
+
 -- with a table of so many words and an output of so many bytes, filled before the call
 unfoldable pub freshJob : ℕ → List ℕ → ℕ → ℕ → ℕ → ℕ → Result
-freshJob job image ph budget words bytes = jobOf job image ph budget (replicate words wordFill) (replicate bytes byteFill)
+freshJob job image ph budget words bytes =
+    if leb job 3 then jobOf job image ph budget (replicate words wordFill) (replicate bytes byteFill)
+    else leaving (replicate words wordFill) (panelBytes image bytes)
 
 unfoldable pub callLine : ℕ → List ℕ → ℕ → ℕ → ℕ → ℕ → List ℕ
 callLine job image ph budget words bytes = answerLine budget (freshJob job image ph budget words bytes)

@@ -1,3 +1,4 @@
 pub mod Calls
 pub mod Format
 pub mod Numbers
+pub mod Words

@@ -1,18 +1,21 @@
 // The buffers that a call is lent: filled with one value before it, and looked through after it.
 ghost use mathlib.Core.Path.{_≡_};
 ghost use lib.ListN.{length, replicate};
-ghost use Rattle.answer_line.specs.Format.{wordFill, byteFill, allAre, isClear};
+ghost use Rattle.answer_line.specs.Format.{byteFill, allAre, isClear};
 
 pub const WORD: u32 = 0xa5a5a5a5;
 
 pub const BYTE: u8 = 0x5a;
 
-pub fn fill_words(words: &mut [u32])
-    ensures { λ _. ⌜ now (words .exit) ≡ replicate (length (now (words .entry))) wordFill ⌝ }
+// The word whose four bytes are those.
+pub const BYTES: u32 = 0x5a5a5a5a;
+
+pub fn fill_words(words: &mut [u32], w: u32)
+    ensures { λ _. ⌜ now (words .exit) ≡ replicate (length (now (words .entry))) w ⌝ }
 {
     let mut i = 0;
     while i < words.len() {
-        words[i] = WORD;
+        words[i] = w;
         i += 1;
     }
 }

@@ -1,6 +1,7 @@
 // The line that answers a call of the replay stream: what the job gave back, and what it did to the buffers that it was lent.
 pub mod buffers;
 mod columns;
+pub mod words;
 
 ghost use Prim.Native.Nat.{_+_, _*_, _≤_};
 ghost use lib.ListN.{length};

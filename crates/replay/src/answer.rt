@@ -1,4 +1,5 @@
 // One call and the line that answers it.
+use crate::as_words;
 use answer_line::Numbers;
 use answer_line::buffers;
 use meirhuppa::answers::Answer;
@@ -30,10 +31,14 @@ impl Call {
 
     pub const PARSE: u32 = 2;
 
-    pub const LAST_JOB: u32 = 3;
+    pub const EVALUATE: u32 = 3;
+
+    pub const PANEL: u32 = 4;
+
+    pub const LAST_JOB: u32 = Call::PANEL;
 }
 
-// Every number above those of the others is evaluate's: no call has one over `LAST_JOB`.
+// The jobs of document 01. Every number above those of the others is evaluate's: no call that comes here has one over `EVALUATE`.
 fn do_job(call: Call, image: &[u8], table: &mut [u32], output: &mut [u8]) -> Answer
     ensures { λ r. ⌜ record { answer = answerIs r; output = now (output .exit); table = now (table .exit) } ≡ jobOf (call .job) (now (image .entry)) (call .phase) (call .budget) (now (table .entry)) (now (output .entry)) ⌝ }
 {
@@ -49,11 +54,15 @@ fn do_job(call: Call, image: &[u8], table: &mut [u32], output: &mut [u8]) -> Ans
     evaluate::meirhuppa_evaluate(image, call.budget, table, output)
 }
 
-// The same with buffers that are filled first.
+// Any job, with buffers that are filled first. Every number above `EVALUATE` is the panel check's: no call has one over `LAST_JOB`.
 fn do_fresh(call: Call, image: &[u8], table: &mut [u32], output: &mut [u8]) -> Answer
+    requires { ⌜ length (now output) ≤ 70000 ⌝ }
     ensures { λ r. ⌜ record { answer = answerIs r; output = now (output .exit); table = now (table .exit) } ≡ freshJob (call .job) (now (image .entry)) (call .phase) (call .budget) (length (now (table .entry))) (length (now (output .entry))) ⌝ }
 {
-    buffers::fill_words(table);
+    buffers::fill_words(table, buffers::WORD);
+    if Call::EVALUATE < call.job {
+        return as_words::panel(image, output);
+    }
     buffers::fill_bytes(output);
     do_job(call, image, table, output)
 }
@@ -67,7 +76,7 @@ pub fn answer(
     page: &mut [u8],
     at: usize,
 ) -> usize
-    requires { ⌜ at + length (now output) * 2 + 53 ≤ length (now page) ⌝ }
+    requires { ⌜ (at + length (now output) * 2 + 53 ≤ length (now page)) × (length (now output) ≤ 70000) ⌝ }
     ensures { λ r. ⌜ Placed (now (page .entry)) at (callLine (call .job) (now (image .entry)) (call .phase) (call .budget) (length (now (table .entry))) (length (now (output .entry)))) (now (page .exit)) r ⌝ }
 {
     let a = do_fresh(call, image, table, output);

@@ -1,6 +1,7 @@
 // Reads a stream of job calls on standard input, and prints a line for each: what the job gave back, and what it did to the
 // table and the output that it was lent.
 mod answer;
+mod as_words;
 mod page;
 mod stream;
 
@@ -47,19 +48,20 @@ fn cut(input: Input, count: usize, page: &mut [u8; PAGE]) -> Run
     ended(input, past)
 }
 
-// A call whose head is read, with buffers exactly as long as it says.
+// A call whose head is read, with buffers exactly as long as it says; its line starts where the run is.
 fn exact(
     call: Call,
-    input: Input,
+    run: Run,
     room: &mut [u8; Input::ROOM],
     image: &mut [u8],
     table: &mut [u32],
     output: &mut [u8],
-    count: usize,
     page: &mut [u8; PAGE],
 ) -> Run
-    requires { ⌜ (count ≤ lastStart) × (length (now output) ≤ 70000) ⌝ }
+    requires { ⌜ (run .count ≤ lastStart) × (length (now output) ≤ 70000) ⌝ }
 {
+    let input = run.input;
+    let count = run.count;
     match input.fill(room, image) {
         Place::At(past) => {
             let end = answer::answer(call, image, table, output, page, count);
@@ -76,15 +78,14 @@ fn exact(
 // The same with buffers as long as any call may ask for.
 fn sized(
     call: Call,
-    input: Input,
+    run: Run,
     room: &mut [u8; Input::ROOM],
     image: &mut [u8],
     table: &mut [u32],
     output: &mut [u8],
-    count: usize,
     page: &mut [u8; PAGE],
 ) -> Run
-    requires { ⌜ (count ≤ lastStart) × (length (now output) ≤ 70000) ⌝ }
+    requires { ⌜ (run .count ≤ lastStart) × (length (now output) ≤ 70000) ⌝ }
 {
     let words = call.words as usize;
     let bytes = call.output as usize;
@@ -94,16 +95,16 @@ fn sized(
         || output.len() < bytes
         || image.len() < length
     {
-        return cut(input, count, page);
+        let input = run.input;
+        return cut(input, run.count, page);
     }
     exact(
         call,
-        input,
+        run,
         room,
         &mut image[0..length],
         &mut table[0..words],
         &mut output[0..bytes],
-        count,
         page,
     )
 }
@@ -131,7 +132,12 @@ fn next(
                     output: head[3],
                     image: head[4],
                 };
-                sized(call, behind, room, image, table, output, count, page)
+                let here = Run {
+                    input: behind,
+                    count,
+                    ongoing: true,
+                };
+                sized(call, here, room, image, table, output, page)
             }
             Place::Cut => cut(input, count, page),
         },

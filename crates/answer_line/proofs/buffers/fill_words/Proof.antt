@@ -1,16 +1,15 @@
 use Rattle.answer_line.proofs.Lent.{Filled, buffer-laws}
 use Prim.Native.Nat.{_-_}
 use lib.ListN.{length}
-use Rattle.answer_line.specs.Format.{wordFill}
 use borrow.Author.Needs.{needs}
 use Rattle.answer_line.proofs.buffers.fill_words.Statement.{statement}
 use Rattle.answer_line.proofs.buffers.fill_words.Tie as tie
 
 abbrev Inv-loop : tie.InvT-loop
-Inv-loop words₀ i₀ words i = Filled wordFill words₀ words i
+Inv-loop words₀ w i₀ words i = Filled w words₀ words i
 
 abbrev μ-loop : tie.MeasureT-loop
-μ-loop words₀ i₀ words i = length words₀ - i
+μ-loop words₀ w i₀ words i = length words₀ - i
 
 loop-holds : tie.Need-loop-holds Inv-loop μ-loop
 loop-holds c = search (buffer-laws, needs)

@@ -6,11 +6,8 @@ use Rattle.replay.proofs.answer.do_fresh.Tie as tie
 fill-words-requires : tie.Need-fill-words-requires
 fill-words-requires c κs = search (answer-laws, needs)
 
-fill-bytes-requires : tie.Need-fill-bytes-requires
-fill-bytes-requires c κs = search (answer-laws, needs)
-
-do-job-requires : tie.Need-do-job-requires
-do-job-requires c κs = search (answer-laws, needs)
+panel-requires : tie.Need-panel-requires
+panel-requires c κs = search (answer-laws, needs)
 
 same-length : tie.Need-same-length
 same-length c = search (answer-laws, needs)
@@ -21,13 +18,32 @@ same-length-2 c = search (answer-laws, needs)
 returns : tie.Need-returns
 returns c = search (answer-laws, needs)
 
+fill-bytes-requires : tie.Need-fill-bytes-requires
+fill-bytes-requires c κs = search (answer-laws, needs)
+
+do-job-requires : tie.Need-do-job-requires
+do-job-requires c κs = search (answer-laws, needs)
+
+same-length-3 : tie.Need-same-length-3
+same-length-3 c = search (answer-laws, needs)
+
+same-length-4 : tie.Need-same-length-4
+same-length-4 c = search (answer-laws, needs)
+
+returns-2 : tie.Need-returns-2
+returns-2 c = search (answer-laws, needs)
+
 pub do-fresh-spec : {M : Type 1} → statement M
 do-fresh-spec =
     tie.close
     (tie.spec
     fill-words-requires
-    fill-bytes-requires
-    do-job-requires
+    panel-requires
     same-length
     same-length-2
-    returns)
+    returns
+    fill-bytes-requires
+    do-job-requires
+    same-length-3
+    same-length-4
+    returns-2)
