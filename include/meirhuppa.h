@@ -1,18 +1,21 @@
-/* Meirhuppa: the macro expander of document 01, as a library.
+/* Meirhuppa: the macro expander of document 01, and the panel check of request T-01, as a library.
  *
- * Four jobs on lent byte images. Each answers with a code (0 is success), the units charged, a name (resolve only) and the length of the
- * image that it wrote. No job keeps anything, allocates anything or fails in any other way: every image, phase, budget and buffer gets an
+ * Five jobs on lent byte images. Each answers with a code (0 is success), the units charged, a name (resolve only) and the length in bytes
+ * of what it wrote. No job keeps anything, allocates anything or fails in any other way: every image, phase, budget and buffer gets an
  * answer, and the work ends.
  *
  * The caller's duties, which nothing here can check:
  *  - every pointer is good for as many elements as its length says (a length of 0 still wants a pointer that is not null);
- *  - image, table and output do not overlap;
+ *  - image, table, output and bits do not overlap;
  *  - no other thread touches them during the call;
  *  - the calling thread has 160 KiB of stack to spare (MEIRHUPPA_STACK). That is measured, on x86-64, and not proved.
  *
  * The table is working memory, at least MEIRHUPPA_WORDS_PER_UNIT (40) words per unit of budget. After
  * MEIRHUPPA_SMALL_TABLE it is untouched; after every other answer its first 40 * budget words are 0 and the rest untouched. A refusal leaves the
  * output untouched; success writes the image from its start and touches no byte after it.
+ *
+ * The panel check takes no phase, budget or table. Its units and name are always 0. Every refusal leaves `bits` untouched, with length 0;
+ * success writes a word for each bit from its start and touches no word after them.
  *
  * An image may have up to 256 scopes, 1,024 names (core names and words counted) and 512 bindings.
  */
@@ -30,15 +33,15 @@ typedef struct meirhuppa_answer {
     uint32_t code;   /* 0, or one of the refusals below */
     uint32_t units;  /* charged; before a refusal, those charged before it */
     uint32_t name;   /* of a successful resolve, else 0 */
-    uint32_t length; /* of the image written, else 0 */
+    uint32_t length; /* of the image written, in bytes; of the panel check, four for each bit; else 0 */
 } meirhuppa_answer;
 
 enum meirhuppa_code {
     MEIRHUPPA_SUCCESS = 0,
     MEIRHUPPA_LAYOUT = 1,            /* the image breaks the layout */
     MEIRHUPPA_OVER_LIMIT = 2,        /* a count, value or nesting is over its limit */
-    MEIRHUPPA_UNOWNED = 3,           /* evaluate: a variable of the tree, outside syntax values, has no enclosing function of its name */
-    MEIRHUPPA_WRONG_KIND = 4,        /* the kind is 1 or 2 but not the job's (2 for evaluate, 1 for the others) */
+    MEIRHUPPA_UNOWNED = 3,           /* evaluate, panel: a variable of the tree, outside syntax values, has no enclosing function of its name */
+    MEIRHUPPA_WRONG_KIND = 4,        /* the kind is 1 or 2 but not the job's (2 for evaluate and panel, 1 for the others) */
     MEIRHUPPA_SMALL_TABLE = 5,       /* budget over 4,096, or fewer than 40 table words per unit of budget */
     MEIRHUPPA_AMBIGUOUS = 6,         /* several bindings fit and none contains the others */
     MEIRHUPPA_NO_MEANING = 7,        /* expand: an identifier in expression place whose name has no meaning */
@@ -54,13 +57,17 @@ enum meirhuppa_code {
     MEIRHUPPA_TOO_DEEP = 17,         /* something made has nesting over 64 */
     MEIRHUPPA_TOO_MANY_ENTRIES = 18, /* a 129th entry in progress */
     MEIRHUPPA_OVER_BUDGET = 19,      /* a charge is larger than what remains */
-    MEIRHUPPA_TOO_LONG = 20          /* the result is longer than the output or 65,536 bytes */
+    MEIRHUPPA_TOO_LONG = 20,         /* the result is longer than the output or 65,536 bytes; panel: more bits than words lent */
+    MEIRHUPPA_OUTSIDE_PROFILE = 21,  /* panel: the tree is no program of the panel profile */
+    MEIRHUPPA_DRIVEN_TWICE = 22,     /* panel: two `out` drive one point, wherever they stand */
+    MEIRHUPPA_TOO_MANY_BITS = 23     /* panel: more than 256 bits */
 };
 
 enum {
     MEIRHUPPA_MOST_BUDGET = 4096,
     MEIRHUPPA_WORDS_PER_UNIT = 40,
     MEIRHUPPA_MOST_IMAGE = 65536,
+    MEIRHUPPA_MOST_BITS = 256, /* so many words lent to the panel check are always enough */
     MEIRHUPPA_STACK = 163840 /* bytes of stack that a call takes at most */
 };
 
@@ -88,6 +95,9 @@ static inline const char *meirhuppa_meaning(uint32_t code)
     case MEIRHUPPA_TOO_MANY_ENTRIES: return "more than 128 entries are in progress";
     case MEIRHUPPA_OVER_BUDGET: return "the budget is used up";
     case MEIRHUPPA_TOO_LONG: return "the result is longer than the output, or than 65,536 bytes";
+    case MEIRHUPPA_OUTSIDE_PROFILE: return "the tree is outside the panel profile";
+    case MEIRHUPPA_DRIVEN_TWICE: return "a point is driven twice";
+    case MEIRHUPPA_TOO_MANY_BITS: return "the program has more than 256 bits";
     default: return "unknown code";
     }
 }
@@ -107,6 +117,11 @@ meirhuppa_answer meirhuppa_parse(const uint8_t *image, size_t image_length, uint
 /* The image of the value of a tree image. */
 meirhuppa_answer meirhuppa_evaluate(const uint8_t *image, size_t image_length, uint32_t budget,
                                     uint32_t *table, size_t table_words, uint8_t *output, size_t output_length);
+
+/* Whether the panel's compiler takes a tree image, and where it does, the names of its bits in order of address: the bit with address 0
+ * is named bits[0], and there are length / 4 bits. Of several refusals the order is 2 for an image over 65,536 bytes, then 1, 2 and 4 as the
+ * image is read from the front, then 3, 21, 22 and 23, each over the whole tree, and 20 where fewer words are lent than there are bits. */
+meirhuppa_answer meirhuppa_panel(const uint8_t *image, size_t image_length, uint32_t *bits, size_t bits_words);
 
 #ifdef __cplusplus
 }

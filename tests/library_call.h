@@ -1,11 +1,12 @@
-/* A call of the stream, made of the library as any C program would, with the sizes that the call has. */
+/* A call of the stream, made of the library as any C program would, with the sizes that the call has. The output begins where a word may: the
+ * panel check is lent as many whole words as go into it, and what is left over is not lent. */
 #ifndef LIBRARY_CALL_H
 #define LIBRARY_CALL_H
 
 #include "../include/meirhuppa.h"
 #include "../second/source/stream.h"
 
-static inline meirhuppa_answer ask_library(const Call *call, uint32_t *table, uint8_t *output)
+static inline meirhuppa_answer ask_library(const Call *call, uint32_t *table, void *output)
 {
     switch (call->job) {
     case JOB_RESOLVE:
@@ -16,9 +17,11 @@ static inline meirhuppa_answer ask_library(const Call *call, uint32_t *table, ui
     case JOB_PARSE:
         return meirhuppa_parse(call->image, call->image_length, call->budget, table, call->table_words,
                                output, call->output_length);
-    default:
+    case JOB_EVALUATE:
         return meirhuppa_evaluate(call->image, call->image_length, call->budget, table, call->table_words,
                                   output, call->output_length);
+    default:
+        return meirhuppa_panel(call->image, call->image_length, output, call->output_length / sizeof(uint32_t));
     }
 }
 

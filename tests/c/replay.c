@@ -2,7 +2,8 @@
  * and prints the line that the program `replay` prints. The second program's reader reads the stream; the library's answer is what is tried.
  *
  * The buffers are exactly as long as the call says: behind each begins a page that may not be touched, so that reading or writing one element
- * too many ends this program, and a buffer of no elements is an address and nothing else. */
+ * too many ends this program, and a buffer of no elements is an address and nothing else. Words are lent to the panel check: that page begins
+ * behind the last whole one. */
 #define _DEFAULT_SOURCE /* MAP_ANONYMOUS */
 
 #include <stdlib.h>
@@ -73,20 +74,27 @@ static void print_output(const uint8_t *output, size_t length, size_t output_len
         putchar('!');
 }
 
+/* How much of the output is lent. The library's words have their low byte first, as the line wants them. */
+static size_t lent_output(const Call *call)
+{
+    return call->job == JOB_PANEL ? call->output_length / sizeof(uint32_t) * sizeof(uint32_t) : call->output_length;
+}
+
 static void answer(Call *call)
 {
+    size_t output_length = lent_output(call);
     uint8_t *image = image_end - call->image_length;
     uint32_t *table = table_end - call->table_words;
-    uint8_t *output = output_end - call->output_length;
+    uint8_t *output = output_end - output_length;
     memcpy(image, call->image, call->image_length);
     call->image = image;
     for (size_t i = 0; i < call->table_words; i++)
         table[i] = TABLE_FILL;
-    memset(output, OUTPUT_FILL, call->output_length);
+    memset(output, OUTPUT_FILL, output_length);
     meirhuppa_answer given = ask_library(call, table, output);
     printf("%u %u %u %u %s ", (unsigned)given.code, (unsigned)given.units, (unsigned)given.name, (unsigned)given.length,
            table_column(call, table));
-    print_output(output, given.length, call->output_length);
+    print_output(output, given.length, output_length);
     putchar('\n');
 }
 
