@@ -1,5 +1,5 @@
-//! Meirhuppa's four jobs over slices. What the jobs promise is document 01 and is proved of the code behind the boundary; this crate adds
-//! names for the refusals and the lengths of the slices, which are true by their type.
+//! Meirhuppa's four jobs and its panel check over slices. What they promise is document 01, and request T-01 for the panel check, and is proved
+//! of the code behind the boundary; this crate adds names for the refusals and the lengths of the slices, which are true by their type.
 //!
 //! A call takes at most 160 KiB of the calling thread's stack. That is measured, on x86-64, and not proved.
 #![deny(warnings)]
@@ -15,14 +15,14 @@ pub struct Answer {
     pub length: usize,
 }
 
-/// Why a job was refused, and the units charged before it. The output is as it was.
+/// Why a job was refused, and the units charged before it: none of a panel check. The output is as it was.
 #[derive(Clone, Copy, Debug, PartialEq, Eq)]
 pub struct Refusal {
     pub code: Code,
     pub units: u32,
 }
 
-/// The refusals of document 01. Number 16 is none of them and stays unused.
+/// The refusals of document 01, and of request T-01. Number 16 is none of them and stays unused.
 #[derive(Clone, Copy, Debug, PartialEq, Eq)]
 #[non_exhaustive]
 pub enum Code {
@@ -62,13 +62,19 @@ pub enum Code {
     TooManyEntries,
     /// 19: a charge is larger than what remains.
     OverBudget,
-    /// 20: the result is longer than the output or 65,536 bytes.
+    /// 20: the result is longer than the output or 65,536 bytes; of a panel check, more bits than words lent.
     TooLong,
+    /// 21: the tree is no program of the panel profile.
+    OutsideProfile,
+    /// 22: two `out` drive one point.
+    DrivenTwice,
+    /// 23: more than 256 bits.
+    TooManyBits,
     /// A number that this crate has no name for.
     Unknown(u32),
 }
 
-const NUMBERED: [(u32, Code); 19] = [
+const NUMBERED: [(u32, Code); 22] = [
     (1, Code::Layout),
     (2, Code::OverLimit),
     (3, Code::Unowned),
@@ -88,15 +94,18 @@ const NUMBERED: [(u32, Code); 19] = [
     (18, Code::TooManyEntries),
     (19, Code::OverBudget),
     (20, Code::TooLong),
+    (21, Code::OutsideProfile),
+    (22, Code::DrivenTwice),
+    (23, Code::TooManyBits),
 ];
 
 impl Code {
-    /// The refusal with document 01's number.
+    /// The refusal with this number.
     pub fn of(number: u32) -> Code {
         NUMBERED.iter().find(|entry| entry.0 == number).map_or(Code::Unknown(number), |entry| entry.1)
     }
 
-    /// Document 01's number.
+    /// Its number in documents 01 and 02.
     pub fn number(self) -> u32 {
         match self {
             Code::Unknown(number) => number,
@@ -107,6 +116,9 @@ impl Code {
 
 /// Words of the table per unit of budget.
 pub const WORDS_PER_UNIT: usize = 40;
+
+/// So many words lent to a panel check are always enough.
+pub const MOST_BITS: usize = 256;
 
 #[cfg(target_arch = "x86_64")]
 mod library {
@@ -155,6 +167,7 @@ mod library {
             output: *mut u8,
             output_length: usize,
         ) -> Raw;
+        pub fn meirhuppa_panel(image: *const u8, image_length: usize, bits: *mut u32, bits_words: usize) -> Raw;
     }
 
     pub fn answer(raw: Raw) -> Result<super::Answer, super::Refusal> {
@@ -230,4 +243,14 @@ pub fn evaluate(image: &[u8], budget: u32, table: &mut [u32], output: &mut [u8])
         )
     };
     library::answer(raw)
+}
+
+/// The names of a panel program's bits in order of address, at the front of `bits`: the bit with address 0 comes first. A tree image goes in, as
+/// [`parse`] writes it. A refusal leaves all of `bits` as it was, success what is behind the names.
+#[cfg(target_arch = "x86_64")]
+pub fn panel<'a>(image: &[u8], bits: &'a mut [u32]) -> Result<&'a [u32], Refusal> {
+    // SAFETY: as in `resolve`.
+    let raw = unsafe { library::meirhuppa_panel(image.as_ptr(), image.len(), bits.as_mut_ptr(), bits.len()) };
+    // The length counts bytes.
+    library::answer(raw).map(|answer| &bits[..answer.length / std::mem::size_of::<u32>()])
 }

@@ -9,15 +9,19 @@ fn every_number_is_given_back() {
 }
 
 #[test]
-fn numbers_are_those_of_document_01() {
+fn numbers_are_those_of_the_documents() {
     assert_eq!(Code::of(1), Code::Layout);
     assert_eq!(Code::of(15), Code::NoBindingLeft);
     assert_eq!(Code::of(17), Code::TooDeep);
     assert_eq!(Code::of(20), Code::TooLong);
+    assert_eq!(Code::of(21), Code::OutsideProfile);
+    assert_eq!(Code::of(22), Code::DrivenTwice);
+    assert_eq!(Code::of(23), Code::TooManyBits);
 }
 
 #[test]
-fn sixteen_is_unknown() {
-    assert_eq!(Code::of(16), Code::Unknown(16));
-    assert_eq!(Code::of(0), Code::Unknown(0));
+fn other_numbers_are_unknown() {
+    for number in [0, 16, 24, 40] {
+        assert_eq!(Code::of(number), Code::Unknown(number));
+    }
 }

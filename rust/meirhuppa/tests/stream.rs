@@ -1,9 +1,9 @@
-//! A slice of the second program's corpus, all four jobs, each answer held against the line that is kept for it. `tests/slice` makes the slice,
+//! A slice of the second program's corpus, all five jobs, each answer held against the line that is kept for it. `tests/slice` makes the slice,
 //! for C as well. The archive is for x86-64, so elsewhere this says so and tests nothing.
 
 #[cfg(target_arch = "x86_64")]
 mod on_x86_64 {
-    use meirhuppa::{evaluate, expand, parse, resolve, Answer, Refusal, WORDS_PER_UNIT};
+    use meirhuppa::{evaluate, expand, panel, parse, resolve, Answer, Refusal, WORDS_PER_UNIT};
     use std::process::Command;
 
     const TABLE_FILL: u32 = 0xa5a5_a5a5;
@@ -34,12 +34,29 @@ mod on_x86_64 {
         Call { job, phase, budget, table_words: table_words as usize, output_length: output_length as usize, image }
     }
 
+    fn word_of(bytes: &[u8]) -> u32 {
+        u32::from_le_bytes(bytes.try_into().expect("four bytes are a word"))
+    }
+
+    /// The panel check, with the output lent as whole words, low byte first. A remainder is not lent.
+    fn ask_panel(image: &[u8], output: &mut [u8]) -> Result<Answer, Refusal> {
+        let mut bits: Vec<u32> = output.chunks_exact(4).map(word_of).collect();
+        let names = panel(image, &mut bits).map(<[u32]>::to_vec);
+        for (bytes, word) in output.chunks_exact_mut(4).zip(&bits) {
+            bytes.copy_from_slice(&word.to_le_bytes());
+        }
+        let names = names?;
+        assert_eq!(names, bits[..names.len()], "the names are the front of the words lent");
+        Ok(Answer { units: 0, name: 0, length: 4 * names.len() })
+    }
+
     fn ask(call: &Call, table: &mut [u32], output: &mut [u8]) -> Result<Answer, Refusal> {
         match call.job {
             0 => resolve(call.image, call.phase, call.budget, table),
             1 => expand(call.image, call.phase, call.budget, table, output),
             2 => parse(call.image, call.budget, table, output),
             3 => evaluate(call.image, call.budget, table, output),
+            4 => ask_panel(call.image, output),
             job => panic!("there is no job {job}"),
         }
     }
