@@ -8,7 +8,7 @@
 #include "../painted_stack.h"
 
 static uint32_t table[MEIRHUPPA_WORDS_PER_UNIT * MEIRHUPPA_MOST_BUDGET];
-static uint8_t output[MEIRHUPPA_MOST_IMAGE];
+static _Alignas(uint32_t) uint8_t output[MEIRHUPPA_MOST_IMAGE];
 static meirhuppa_answer answer;
 
 static void *ask(void *call)

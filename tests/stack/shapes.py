@@ -6,6 +6,7 @@ SECOND = os.path.join(os.path.dirname(os.path.dirname(os.path.dirname(os.path.ab
 sys.dont_write_bytecode = True
 sys.path.insert(0, SECOND)
 import image
+from large_panel import large_panel
 
 BUDGET = 4096
 NESTING = 64
@@ -61,7 +62,7 @@ def syntax_images():
 
 
 def tree_images():
-    """For evaluate."""
+    """For evaluate and the panel check."""
     yield "one application of 4,000 numbers", tree(wide(4000))
     yield "one list value of 4,000 numbers", tree("<" + "1 " * 4000 + ">")
     yield "13,000 numbers judged", tree("<" + "1 " * JUDGED + ">")
@@ -74,10 +75,25 @@ def tree_images():
     yield "a function applied to itself, with a deep body", tree("([4 ($4 $4 )] [4 (" + "[5 " * 50 + "($4 $4)" + "]" * 50 + " $4)])", made=2)
 
 
+def panel_programs():
+    """For the panel check, all of them accepted."""
+    rung = "('out @1 @2)"
+    yield "as many rungs as go in", large_panel("rungs")
+    yield "as many points as go in", large_panel("points")
+    yield "256 bits", tree("('all " + "([4 ('set $4 $4)] 0) " * 256 + ")")
+    yield "31 bits in each other", tree(nested(31, before="[4", after="] 0", inmost=rung))
+    yield "62 `all` in each other", tree(nested(62, before="'all", inmost=rung))
+    yield "62 `not` in each other", tree("('out @1 " + nested(62, before="'not", inmost="@2") + ")")
+    yield "wide `and` at every level", tree("('out @1 " + nested(62, before="'and @2", after="@3 " * 60, inmost="@4") + ")")
+
+
 def calls():
     """Names with calls of the stream."""
     for name, given in syntax_images():
         for job in ("resolve", "expand", "parse"):
             yield f"{job}: {name}", image.call(job, given, budget=BUDGET)
     for name, given in tree_images():
-        yield f"evaluate: {name}", image.call("evaluate", given, budget=BUDGET)
+        for job in ("evaluate", "panel"):
+            yield f"{job}: {name}", image.call(job, given, budget=BUDGET)
+    for name, given in panel_programs():
+        yield f"panel: {name}", image.call("panel", given)
