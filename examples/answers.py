@@ -1,4 +1,4 @@
-"""What a replay program answers when it expands an image at phase 0 and parses the result.
+"""What a replay program answers when it expands an image at phase 0, parses the result and checks the tree against the panel profile.
 
 A replay program reads calls and prints a line for each: second/replay, and target/bin/replay of the proved library.
 """
@@ -43,6 +43,17 @@ def expand_and_parse(replay, given, budget):
     if expanded.code != 0:
         return [expanded]
     return [expanded, ask(replay, "parse", expanded.written, budget)]
+
+
+def panel_check(replay, tree):
+    """The answer for a tree image. The check has no budget."""
+    return ask(replay, "panel", tree, 0)
+
+
+def bits_of(checked):
+    """The names of the bits that a panel check has written, each with its address."""
+    words = range(0, len(checked.written), 4)
+    return [(int.from_bytes(checked.written[place:place + 4], "little"), address) for address, place in enumerate(words)]
 
 
 def root_of(given):

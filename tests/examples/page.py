@@ -45,6 +45,12 @@ def rows():
             for name, budget, expand, parse, tree in found]
 
 
+def addresses():
+    """The bits of each listing, each with its address."""
+    found = re.findall(r"^\| `(.*)\.rung` \| (none|\d+ at \d+(?:, \d+ at \d+)*) \|$", PAGE, re.MULTILINE)
+    return {name: [tuple(map(int, pair)) for pair in re.findall(r"(\d+) at (\d+)", bits)] for name, bits in found}
+
+
 def commands(page):
     """The images that a page hands to the program, each with the units that it says are printed."""
     found = re.findall(r"^ +(?:\./meirhuppa|second/program <) examples/(\S+)\.image +code 0 units (\d+)$", page, re.MULTILINE)
@@ -79,7 +85,7 @@ def images_are_fresh():
 
 def page_has_every_listing():
     listings = [file[:-len(".rung")] for file in os.listdir(EXAMPLES) if file.endswith(".rung")]
-    return sorted(listings) == sorted(row.name for row in rows())
+    return sorted(listings) == sorted(row.name for row in rows()) == sorted(addresses())
 
 
 def commands_fit(page):
@@ -94,6 +100,12 @@ def answers_as_said(row, replay):
             and (row.tree is None or answers.root_of(given[-1].written) == row.tree))
 
 
+def addresses_as_said(row, replay):
+    """The panel's compiler takes the tree, and the bits are where the page has them."""
+    checked = answers.panel_check(replay, answers.expand_and_parse(replay, image_of(row.name), row.budget)[-1].written)
+    return checked.code == 0 and answers.bits_of(checked) == addresses()[row.name]
+
+
 def prints_as_said(row, program):
     line = printed(program, given=image_of(row.name))
     if row.budget == PROGRAM_BUDGET:
@@ -104,8 +116,9 @@ def prints_as_said(row, program):
 def shows_as_said(row):
     shown = printed(os.path.join(EXAMPLES, "expand"), os.path.join(EXAMPLES, row.name + ".rung"), str(row.budget)).splitlines()
     said = [f"{job}: code 0 units {units}" for job, units in zip(("expand", "parse"), row.units)]
+    bits = ["panel: code 0"] + [f"bit {name}: address {address}" for name, address in addresses()[row.name]]
     return ([" ".join(line.split()[:5]) for line in shown[1:3]] == said
-            and (row.tree is None or shown[3:] == [row.tree]))
+            and (row.tree is None or shown[3] == row.tree) and shown[4:] == bits)
 
 
 def same_lines(row, second, proved):
@@ -153,6 +166,7 @@ def page_checks(second):
 def program_checks(row, programs):
     for check, program in ((answers_as_said, programs.replay), (prints_as_said, programs.line)):
         yield f"{row.name} by {os.path.relpath(program, ROOT)}", check(row, program)
+    yield f"the addresses of {row.name} by {os.path.relpath(programs.replay, ROOT)}", addresses_as_said(row, programs.replay)
 
 
 def checks(second, proved):
