@@ -1,5 +1,5 @@
 #!/usr/bin/env python3
-"""large_panel.py rungs|points: writes a legal panel program, a tree image of 65,536 bytes, on standard output.
+"""large_panel.py rungs|points [BYTES]: writes a legal panel program, a tree image of 65,536 bytes or as many as are named, on standard output.
 
     rungs     a bit, and as many short rungs as go in; the first ones drive all the points
     points    one rung, whose expression reads as many points and bits as go in
@@ -27,8 +27,8 @@ def contact(index):
 SHAPES = {"rungs": (rung, "([4 ('all %s)] 0)"), "points": (contact, "([4 ('out @1023 ('or %s))] 0)")}
 
 
-def parts_that_fit(part):
-    parts, room = [], LARGEST - AROUND
+def parts_that_fit(part, size):
+    parts, room = [], size - AROUND
     while True:
         text = part(len(parts))
         room -= len(Text(text, Words()).tree())
@@ -37,21 +37,21 @@ def parts_that_fit(part):
         parts.append(text)
 
 
-def large_panel(shape):
+def large_panel(shape, size=LARGEST):
     """The image, with a word in it that takes the bytes left over."""
     part, around = SHAPES[shape]
-    text = around % " ".join(parts_that_fit(part))
-    left = LARGEST - len(tree_image(text, made=1))
+    text = around % " ".join(parts_that_fit(part, size))
+    left = size - len(tree_image(text, made=1))
     image = tree_image(text, words=["x" * (left - 1)], made=1)
-    assert len(image) == LARGEST
+    assert len(image) == size
     return image
 
 
 def main(arguments):
-    if len(arguments) != 1 or arguments[0] not in SHAPES:
+    if len(arguments) not in (1, 2) or arguments[0] not in SHAPES:
         print(__doc__, file=sys.stderr)
         return 2
-    sys.stdout.buffer.write(large_panel(arguments[0]))
+    sys.stdout.buffer.write(large_panel(arguments[0], *map(int, arguments[1:])))
     return 0
 
 
