@@ -13,7 +13,7 @@
 enum { ROUNDS = 5, ROUND_NANOSECONDS = 200000 };
 
 static uint32_t table[MEIRHUPPA_WORDS_PER_UNIT * MEIRHUPPA_MOST_BUDGET];
-static uint8_t output[MEIRHUPPA_MOST_IMAGE];
+static _Alignas(uint32_t) uint8_t output[MEIRHUPPA_MOST_IMAGE];
 static meirhuppa_answer of_library;
 static Answer of_second;
 static Memory *memory;
@@ -71,7 +71,7 @@ int main(void)
     Call call;
     memory = new_memory();
     while (read_call(stdin, &call, image) == A_CALL) {
-        if (call.budget > MEIRHUPPA_MOST_BUDGET)
+        if (call.budget > MEIRHUPPA_MOST_BUDGET && call.job != JOB_PANEL)
             continue;
         call.table_words = MEIRHUPPA_WORDS_PER_UNIT * call.budget;
         call.output_length = sizeof output;
