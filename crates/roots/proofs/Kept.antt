@@ -45,7 +45,7 @@ on-test : {P : Type 0} (t : Bool) → (t ≡ true → P) → (t ≡ false → P)
 on-test true f g = f refl
 on-test false f g = g refl
 
-around-more : {n : ℕ} {table l : List ℕ} (j : ℕ) → j < n → Around n table l → Around n (set table j 1) (j ∷ l)
+pub around-more : {n : ℕ} {table l : List ℕ} (j : ℕ) → j < n → Around n table l → Around n (set table j 1) (j ∷ l)
 unfolding isAmong
 around-more {n} {table} {l} j h a =
     record {
@@ -135,7 +135,7 @@ module _ (l : List ℕ) (part : Reader Tree) (measure : Reader Extent) (h : (s :
 
 -- ---- what has no parts, and functions
 
-below : (n : ℕ) (s : List ℕ) (j : ℕ) (t : List ℕ) → numBelow n s ≡ got j t → j < n
+pub below : (n : ℕ) (s : List ℕ) (j : ℕ) (t : List ℕ) → numBelow n s ≡ got j t → j < n
 unfolding numBelow
 below n s j t e = go (num s) e
   where

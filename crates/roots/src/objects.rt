@@ -12,7 +12,7 @@ ghost use Rattle.roots.specs.MeasuredObjects.{readContentOf, readTop, me
 ghost use Rattle.numbers.specs.Limits.{mostImage};
 ghost use Rattle.scopes.specs.Sets.{setScopes};
 
-const LAST_RUNG_WORD: u32 = 15;
+pub const LAST_RUNG_WORD: u32 = 15;
 
 // An atom's content, by its tag: a declared symbol, a number, a point, a primitive or a rung word.
 pub fn read_content(c: Cursor, s: &[u8], symbols: u32, tag: u32) -> Number
