@@ -1,39 +1,39 @@
 -- The panel check: one law for each way out.
 use Prim.Native.Nat.{ℕ, zero, suc, _+_, _-_, _≤_, _<_}
 use mathlib.Core.Path.{_≡_, refl, sym, ap, _∙_, subst}
-use mathlib.Core.Bool.{Bool, true, false, not, false≢true}
+use mathlib.Core.Bool.{Bool, true, false, not}
 use mathlib.Core.List.{List, [], _∷_}
 use native.Mathlib.Omega.{arith}
 use lib.Dec.{leb, ltb}
-use lib.ListN.{length, getD, take, drop, length-drop}
-use borrow.Author.Tests.{le-leb, lt-leb, leb-true, ltb-true, ltb-false, not-true, not-false, lt-ltb, le-ltb}
+use lib.ListN.{length, take, drop, length-drop}
+use borrow.Author.Tests.{le-leb, lt-leb, ltb-true, ltb-false, not-true, not-false, lt-ltb, le-ltb}
 use Rattle.model.specs.Choice.{if_then_else_}
 use Rattle.model.specs.Limits.{mostImage, mostNesting}
 use Rattle.model.specs.Refusals.{Refusal, unowned, overLimit, codeOf}
 use Rattle.model.specs.Trees.{Tree}
 use Rattle.model.specs.Reading.{Read, Image, got, fault, next, need, readTree, readTreeImage, readImage}
 use Rattle.model.specs.Jobs.{closed}
-use Rattle.requests.specs.Panel.{isProgram, driven, bitsOf, allDiffer, mostBits, PanelEnding, refused, listed, base, outside, drivenTwice, tooManyBits, panelCode, profile, ofImage, panelOf}
+use Rattle.requests.specs.Panel.{isProgram, driven, bitsOf, allDiffer, mostBits, refused, listed, base, outside, drivenTwice, tooManyBits, panelCode, profile, ofImage, panelOf}
 use Rattle.codec_laws.specs.WellFormed.{Bytes}
-use Rattle.codec_laws.proofs.NumberTrip.{fault≢got, got-value, got-rest}
-use Rattle.codec_laws.proofs.Sequence.{bytes-rest}
+use Rattle.codec_laws.proofs.NumberTrip.{fault≢got, got-value}
 use Rattle.refusals.specs.declared.Refusal as declared
 use Rattle.refusals.specs.Refusing.{refusalOf}
+use Rattle.numbers.specs.declared.Cursor.{Cursor}
+use Rattle.numbers.specs.declared.Place.{Place}
+use Rattle.numbers.specs.declared.Place.the-variants as place
 use Rattle.image.specs.declared.Judgement.{Judgement}
 use Rattle.image.specs.declared.Judged.{Judged}
 use Rattle.image.specs.declared.Judged.the-variants as judged
 use Rattle.image.specs.Judging.{readOwned, treeKind, Good, Judges}
-use Rattle.profile.specs.Taking.{Tells}
 use Rattle.bits.specs.declared.Gathered.{Gathered}
-use Rattle.bits.specs.Meeting.{Met, none, along, metIn, Holds, room, points}
+use Rattle.bits.specs.Meeting.{Met, none, along, metIn, Holds, room}
 use Rattle.bits.proofs.Programs.{program-met}
-use Rattle.panel_check.specs.declared.Program.{Program}
 use Rattle.panel_check.specs.declared.Checked.{Checked}
 use Rattle.panel_check.specs.declared.Checked.the-variants as checked
 use Rattle.panel_check.specs.declared.refusal.PanelRefusal.{PanelRefusal}
 use Rattle.panel_check.specs.declared.refusal.PanelRefusal.the-variants.{Base, Outside, DrivenTwice, TooManyBits}
 use Rattle.panel_check.specs.Refusing.{panelRefusalOf}
-use Rattle.panel_check.specs.Checking.{RootGood, Passes, endingIn, Checks, withinOf, Within}
+use Rattle.panel_check.specs.Checking.{RootGood, ProgramAt, NoProgram, Finds, Refuses, Passes, Checks, withinOf, Within}
 
 pub base-code : {k : ℕ} {q : PanelRefusal} {f : declared.Refusal} → q ≡ Base f → k ≡ codeOf (refusalOf f) → k ≡ panelCode (panelRefusalOf q)
 base-code e h = rw e h
@@ -82,13 +82,9 @@ panel-fault (got i s) {c} e = go (closed [] (i .root)) refl e
     go false q e = let z : unowned ≡ c = cc in rw (q, z)
 panel-fault (fault d) {c} e = let z : d ≡ c = cc in ap (λ (x : Refusal). refused (base x)) z
 
-pub judged-fault : (image marks names : List ℕ) {r : Judged} {f : declared.Refusal} → Judges treeKind image [] r → r ≡ judged.Fault f → Checks image marks names (checked.Refused (Base f))
+pub judged-fault : {image : List ℕ} {r : Judged} {f : declared.Refusal} → Judges treeKind image [] r → r ≡ judged.Fault f → Refuses image (Base f)
 unfolding panelOf
-judged-fault image marks names {r} {f} h e =
-    record {
-      is = panel-fault (readImage readTreeImage image) (sym (owned-image image) ∙ h .is ∙ rw e refl);
-      passes = λ q d. absurd (let z : _≡_ {A = ℕ} 0 1 = cc in omega arith);
-    }
+judged-fault {image} {r} {f} h e = panel-fault (readImage readTreeImage image) (sym (owned-image image) ∙ h .is ∙ rw e refl)
 
 record Read-owned (g : Read (Image Tree)) (i : Image Tree) : Type 0 where
   reads : g ≡ got i []
@@ -104,28 +100,31 @@ read-owned (got j s) {i} e = go (closed [] (j .root)) refl e
     go false q d = absurd (fault≢got unowned i [] d)
 read-owned (fault c) {i} e = absurd (fault≢got c i [] e)
 
-pub judged-good : {image : List ℕ} {r : Judged} {j : Judgement} → Judges treeKind image [] r → r ≡ judged.Good j → RootGood image (j .root)
-judged-good {image} {r} {j} h e =
+-- an image without fault that is no program
+pub judged-outside : {image : List ℕ} {r : Judged} {j : Judgement} → NoProgram image → Judges treeKind image [] r → r ≡ judged.Good j → Refuses image Outside
+unfolding panelOf ofImage
+judged-outside {image} {r} {j} n h e =
     let g = h .good j e in
     let o = read-owned (readImage readTreeImage image) (sym (owned-image image) ∙ g .reads) in
-    record {
-      read = g .image;
-      reads = o .reads;
-      owned = o .owned;
-      bytes = g .bytes;
-      short = g .short;
-      head-fits = g .head-fits;
-      root-within = g .root-within;
-      root-reads = g .root-reads;
-    }
+    rw (o .reads) (profile-outside (g .image .root) (o .owned) (n (g .image) (o .reads) (o .owned)))
+
+pub refused-so : (marks names : List ℕ) {image : List ℕ} {f : PanelRefusal} → Refuses image f → Checks image marks names (checked.Refused f)
+refused-so marks names h = record { is = h; passes = λ q d. absurd (let z : _≡_ {A = ℕ} 0 1 = cc in omega arith) }
+
+pub place-missed : {image : List ℕ} {r : Place} {f : declared.Refusal} → Finds image r → r ≡ place.Fault f → NoProgram image
+place-missed {f = f} h e = h .missed f e
+
+pub place-found : {image : List ℕ} {r : Place} {c : Cursor} → Finds image r → r ≡ place.At c → ProgramAt image (c .at)
+place-found {c = c} h e = h .found c e
 
 -- ---- the root
 
-pub root-fits : {image : List ℕ} {root : ℕ} (m : ℕ) → RootGood image root → root ≤ m + length image
-root-fits m g = let x = g .root-within in omega arith
+pub root-fits : {image : List ℕ} {root : ℕ} (m : ℕ) → ProgramAt image root → root ≤ m + length image
+root-fits m p = let x = p .good .root-within in omega arith
 
-pub root-short : {image : List ℕ} {root : ℕ} {s : List ℕ} → RootGood image root → s ≡ drop (root - 0) image → root + length s ≤ 65536
-root-short {image} {root} {s} g e =
+pub root-short : {image : List ℕ} {root : ℕ} {s : List ℕ} → ProgramAt image root → s ≡ drop (root - 0) image → root + length s ≤ 65536
+root-short {image} {root} {s} p e =
+    let g = p .good in
     let l = ap length e ∙ length-drop (root - 0) image in
     let x = g .root-within in
     let y = g .short in
@@ -136,35 +135,22 @@ bytes-drop zero s b = b
 bytes-drop (suc n) [] b = b
 bytes-drop (suc n) (x ∷ s) b = bytes-drop n s (b .1)
 
-module _ {image : List ℕ} {root : ℕ} (g : RootGood image root) {s : List ℕ} (i : s ≡ drop (root - 0) image) where
+module _ {image : List ℕ} {root : ℕ} (g : RootGood image root) (program : isProgram (g .read .root) ≡ true) {s : List ℕ} (i : s ≡ drop (root - 0) image) where
   reads-here : readTree mostNesting (g .read .head) 0 s ≡ got (g .read .root) []
   reads-here = let z : root - 0 ≡ root = omega arith in ap (readTree mostNesting (g .read .head) 0) (i ∙ ap (λ (k : ℕ). drop k image) z) ∙ g .root-reads
-
-  program-is : {b : Bool} → Tells s b → b ≡ isProgram (g .read .root)
-  program-is t = t (g .read .head) (g .read .root) reads-here
 
   panel-is : panelOf image ≡ profile (g .read .root)
   unfolding panelOf ofImage
   panel-is = rw (g .reads)
 
-  pub root-outside : (marks names : List ℕ) {b : Bool} → Tells s b → b ≡ false → Checks image marks names (checked.Refused Outside)
-  root-outside marks names {b} t e =
-      record {
-        is = panel-is ∙ profile-outside (g .read .root) (g .owned) (sym (program-is t) ∙ e);
-        passes = λ q d. absurd (let z : _≡_ {A = ℕ} 0 1 = cc in omega arith);
-      }
-
-  met : isProgram (g .read .root) ≡ true → along (length s) none s ≡ metIn (g .read .root)
-  met p =
+  met : along (length s) none s ≡ metIn (g .read .root)
+  met =
       let l = ap length i ∙ length-drop (root - 0) image in
-      program-met mostNesting (g .read .head) s (g .read .root) (g .head-fits) (subst Bytes (sym i) (bytes-drop (root - 0) image (g .bytes))) (omega (arith, l, g .short)) reads-here p
+      program-met mostNesting (g .read .head) s (g .read .root) (g .head-fits) (subst Bytes (sym i) (bytes-drop (root - 0) image (g .bytes))) (omega (arith, l, g .short)) reads-here program
 
-  module _ (marks names : List ℕ) {b : Bool} (t : Tells s b) (e : b ≡ true) {k : Gathered} (h : Holds (along (length s) none s) marks names k) where
-    program : isProgram (g .read .root) ≡ true
-    program = sym (program-is t) ∙ e
-
+  module _ (marks names : List ℕ) {k : Gathered} (h : Holds (along (length s) none s) marks names k) where
     holds : Holds (metIn (g .read .root)) marks names k
-    holds = subst (λ (z : Met). Holds z marks names k) (met program) h
+    holds = subst (λ (z : Met). Holds z marks names k) met h
 
     differ : (b : Bool) → k .twice ≡ b → allDiffer (driven (g .read .root)) ≡ not b
     differ true p = not-true (allDiffer (driven (g .read .root))) (sym (holds .twice-is) ∙ p)
@@ -201,15 +187,19 @@ module _ {image : List ℕ} {root : ℕ} (g : RootGood image root) {s : List ℕ
               (record { good = g; program = program; few = few; counted = counted; named = names-are; marked = holds .marked });
         }
 
-    pub root-in-profile : {r : Checked} → Within root k r → Checks image marks names r
+    in-profile : {r : Checked} → Within root k r → Checks image marks names r
     unfolding withinOf
-    root-in-profile {r} w = subst (Checks image marks names) (sym w) (go (k .twice) (ltb room (k .bits)) refl refl)
+    in-profile {r} w = subst (Checks image marks names) (sym w) (go (k .twice) (ltb room (k .bits)) refl refl)
       where
         go : (a c : Bool) → k .twice ≡ a → ltb room (k .bits) ≡ c
             → Checks image marks names (if a then checked.Refused DrivenTwice else if c then checked.Refused TooManyBits else checked.Passed (record { root = root; bits = k .bits }))
         go true c p q = twice p
         go false true p q = many p q
         go false false p q = passed p q
+
+pub root-in-profile : {image : List ℕ} {root : ℕ} → ProgramAt image root → {s : List ℕ} → s ≡ drop (root - 0) image → (marks names : List ℕ) {k : Gathered} → Holds (along (length s) none s) marks names k
+    → {r : Checked} → Within root k r → Checks image marks names r
+root-in-profile p i marks names h w = in-profile (p .good) (p .program) i marks names h w
 
 -- ---- the tests in turn
 
@@ -225,4 +215,4 @@ pub then-passed : (root : ℕ) (k : Gathered) → k .twice ≡ false → k .bits
 unfolding withinOf
 then-passed root k e h = rw (e, le-ltb room (k .bits) h)
 
-pub ruleset check-laws = (judged-fault, judged-good, root-fits, root-short, root-outside, root-in-profile, twice-first, then-many, then-passed)
+pub ruleset check-laws = (judged-fault, judged-outside, refused-so, place-missed, place-found, root-fits, root-short, root-in-profile, twice-first, then-many, then-passed)

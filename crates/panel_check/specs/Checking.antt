@@ -2,7 +2,7 @@
 use Prim.Native.Nat.{ℕ, _*_, _≤_, _<_}
 use mathlib.Core.Path.{_≡_}
 use mathlib.Core.Bool.{true, false}
-use mathlib.Core.List.{List, [], _++_}
+use mathlib.Core.List.{List, []}
 use lib.Dec.{ltb}
 use lib.ListN.{length, getD, take, drop}
 use Rattle.model.specs.Choice.{if_then_else_}
@@ -12,7 +12,11 @@ use Rattle.model.specs.Reading.{Image, got, readTree, readTreeImage, readImage}
 use Rattle.model.specs.Jobs.{Answer, isAmong, closed}
 use Rattle.requests.specs.Panel as p
 use Rattle.requests.specs.Panel.{isProgram, driven, bitsOf, PanelEnding, refused, listed, panelOf, roomFor, panelAnswer, panelCode, bitsAfter}
+use Rattle.refusals.specs.declared.Refusal.{Refusal}
 use Rattle.numbers.specs.Limits.{mostImage}
+use Rattle.numbers.specs.declared.Cursor.{Cursor}
+use Rattle.numbers.specs.declared.Place.{Place}
+use Rattle.numbers.specs.declared.Place.the-variants as place
 use Rattle.codec_laws.specs.WellFormed.{Bytes, HeadFits}
 use Rattle.bits.specs.declared.Gathered.{Gathered}
 use Rattle.bits.specs.Meeting.{points, room}
@@ -21,6 +25,7 @@ use Rattle.panel_check.specs.declared.Checked.{Checked}
 use Rattle.panel_check.specs.declared.Checked.the-variants as checked
 use Rattle.panel_check.specs.declared.Listing.{Listing}
 use Rattle.panel_check.specs.declared.Listing.the-variants as listing
+use Rattle.panel_check.specs.declared.refusal.PanelRefusal.{PanelRefusal}
 use Rattle.panel_check.specs.declared.refusal.PanelRefusal.the-variants.{DrivenTwice, TooManyBits}
 use Rattle.panel_check.specs.Refusing.{panelRefusalOf}
 
@@ -34,6 +39,22 @@ pub record RootGood (image : List ℕ) (root : ℕ) : Type 0 where
   pub head-fits : HeadFits (read .head)
   pub root-within : root ≤ length image
   pub root-reads : readTree mostNesting (read .head) 0 (drop root image) ≡ got (read .root) []
+
+-- ---- whether it is a program
+
+pub record ProgramAt (image : List ℕ) (root : ℕ) : Type 0 where
+  pub good : RootGood image root
+  pub program : isProgram (good .read .root) ≡ true
+
+abbrev pub NoProgram : List ℕ → Type 0
+NoProgram image = (i : Image Tree) → readImage readTreeImage image ≡ got i [] → closed [] (i .root) ≡ true → isProgram (i .root) ≡ false
+
+pub record Finds (image : List ℕ) (r : Place) : Type 0 where
+  pub found : (c : Cursor) → r ≡ place.At c → ProgramAt image (c .at)
+  pub missed : (f : Refusal) → r ≡ place.Fault f → NoProgram image
+
+abbrev pub Refuses : List ℕ → PanelRefusal → Type 0
+Refuses image f = panelOf image ≡ refused (panelRefusalOf f)
 
 -- ---- the check
 

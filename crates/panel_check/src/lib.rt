@@ -3,13 +3,16 @@ pub mod refusal;
 
 use crate::refusal::PanelRefusal;
 use bits::Gathered;
+use head::Head;
+use head::HeadRead;
 use image::Judged;
 use numbers::Cursor;
+use numbers::Place;
 use refusals::Refusal;
 ghost use Prim.Native.Nat.{_≤_};
 ghost use lib.ListN.{length};
 ghost use Rattle.bits.specs.Meeting.{room, NoMarks};
-ghost use Rattle.panel_check.specs.Checking.{RootGood, Checks, Within, Lists, ListsFrom};
+ghost use Rattle.panel_check.specs.Checking.{ProgramAt, NoProgram, Finds, Refuses, Checks, Within, Lists, ListsFrom};
 
 // What is known of a program that is accepted: where its root begins, and how many bits it has.
 pub struct Program {
@@ -28,6 +31,36 @@ pub enum Listing {
     Refused(PanelRefusal),
 }
 
+// Where the root begins, of an image that is a program, every bit of which is in scope. A fault says only that it is none.
+fn find_program(image: &[u8]) -> Place
+    ensures { λ r. ⌜ Finds (now (image .entry)) r ⌝ }
+{
+    if Cursor::MOST_IMAGE < image.len() {
+        return Place::Fault(Refusal::OverLimit);
+    }
+    match head::read_head(image, Head::TREE) {
+        HeadRead::Read(h, c) => {
+            let front = Cursor { at: 0 };
+            if profile::is_program(c, front.after(image, c), h.names) {
+                return Place::At(c);
+            }
+            Place::Fault(Refusal::Layout)
+        }
+        HeadRead::Fault(f) => Place::Fault(f),
+    }
+}
+
+// Why an image is refused that is no program: its fault, or 21 where it has none.
+fn refusal_of(image: &[u8]) -> PanelRefusal
+    requires { ⌜ NoProgram (now image) ⌝ }
+    ensures { λ r. ⌜ Refuses (now (image .entry)) r ⌝ }
+{
+    match image::judge_tree(image) {
+        Judged::Good(_) => PanelRefusal::Outside,
+        Judged::Fault(f) => PanelRefusal::Base(f),
+    }
+}
+
 // The tests behind 21, in their order.
 fn within(root: usize, g: Gathered) -> Checked
     ensures { λ r. ⌜ Within root g r ⌝ }
@@ -41,31 +74,26 @@ fn within(root: usize, g: Gathered) -> Checked
     Checked::Passed(Program { root, bits: g.bits })
 }
 
-// A root that was judged.
-fn check_root(image: &[u8], root: usize, marks: &mut [u8], names: &mut [u32]) -> Checked
-    requires good { ⌜ RootGood (now image) root ⌝ }
+// A program, whose root begins at a cursor.
+fn check_program(image: &[u8], c: Cursor, marks: &mut [u8], names: &mut [u32]) -> Checked
+    requires good { ⌜ ProgramAt (now image) (c .at) ⌝ }
     requires held { ⌜ NoMarks (now marks) × (room ≤ length (now names)) ⌝ }
     ensures { λ r. ⌜ Checks (now (image .entry)) (now (marks .exit)) (now (names .exit)) r ⌝ }
 {
     let front = Cursor { at: 0 };
-    let c = Cursor { at: root };
-    let s = front.after(image, c);
-    if profile::is_program(c, s) {
-        let g = bits::gather(c, s, marks, names);
-        return within(root, g);
-    }
-    Checked::Refused(PanelRefusal::Outside)
+    let g = bits::gather(c, front.after(image, c), marks, names);
+    within(c.at, g)
 }
 
 // The whole check. `marks` has no mark yet; of a program that is accepted it has the points driven afterwards, and `names` the names of
-// the bits.
+// the bits. The general judgement is asked only where there is no program.
 pub fn check(image: &[u8], marks: &mut [u8], names: &mut [u32]) -> Checked
     requires { ⌜ NoMarks (now marks) × (room ≤ length (now names)) ⌝ }
     ensures { λ r. ⌜ Checks (now (image .entry)) (now (marks .exit)) (now (names .exit)) r ⌝ }
 {
-    match image::judge_tree(image) {
-        Judged::Good(j) => check_root(image, j.root, marks, names),
-        Judged::Fault(f) => Checked::Refused(PanelRefusal::Base(f)),
+    match find_program(image) {
+        Place::At(c) => check_program(image, c, marks, names),
+        Place::Fault(_) => Checked::Refused(refusal_of(image)),
     }
 }
 

@@ -9,7 +9,7 @@ use Rattle.requests.specs.Panel.{wordNumbered}
 use Rattle.profile.specs.declared.rules.Wanted.{Wanted}
 use Rattle.profile.specs.declared.rules.Wanted.the-variants.{Program, Expression, Point, Variable, Start}
 use Rattle.profile.specs.declared.rules.Rule.{Rule}
-use Rattle.profile.specs.Rules.{noRule, rungRule, contactsRule, ruleOf, bitRule, takesCount, takesVariable, takesAtom}
+use Rattle.profile.specs.Rules.{noRule, rungRule, contactsRule, ruleOf, bitRule, takesCount, takesVariable, takesPoint, takesAtom}
 
 -- ---- by the word
 
@@ -125,13 +125,21 @@ pub atom-program : {w : Wanted} (k x : ℕ) → w ≡ Program → false ≡ take
 unfolding takesAtom
 atom-program k x e = rw e
 
-pub atom-expression : {w : Wanted} (k x : ℕ) → w ≡ Expression → eqb k 2 ≡ takesAtom w k x
+pub atom-expression : {w : Wanted} (k x : ℕ) {b : Bool} → w ≡ Expression → b ≡ takesPoint k x → b ≡ takesAtom w k x
 unfolding takesAtom
-atom-expression k x e = rw e
+atom-expression k x e p = rw e p
 
-pub atom-point : {w : Wanted} (k x : ℕ) → w ≡ Point → eqb k 2 ≡ takesAtom w k x
+pub atom-point : {w : Wanted} (k x : ℕ) {b : Bool} → w ≡ Point → b ≡ takesPoint k x → b ≡ takesAtom w k x
 unfolding takesAtom
-atom-point k x e = rw e
+atom-point k x e p = rw e p
+
+pub point-limited : (k x : ℕ) → k ≡ 2 → leb x 1023 ≡ takesPoint k x
+unfolding takesPoint
+point-limited k x e = rw (eq-eqb k 2 e)
+
+pub point-other : (k x : ℕ) → (k ≡ 2 → ⊥) → false ≡ takesPoint k x
+unfolding takesPoint
+point-other k x h = rw (ne-eqb k 2 h)
 
 pub atom-variable : {w : Wanted} (k x : ℕ) → w ≡ Variable → false ≡ takesAtom w k x
 unfolding takesAtom
@@ -161,4 +169,4 @@ count-least r n h e = rw (ne-eqb n 0 h, e)
 
 pub ruleset rule-laws = (rung-out, rung-set, rung-all, rung-none, contacts-and, contacts-or, contacts-not, contacts-none, word-program, word-expression, word-point, word-variable, word-start, bit-program, bit-expression, bit-point, bit-variable, bit-start)
 
-pub ruleset taking-laws = (variable-program, variable-expression, variable-point, variable-variable, variable-start, atom-program, atom-expression, atom-point, atom-variable, start-number, start-other, count-none, count-exactly, count-least)
+pub ruleset taking-laws = (variable-program, variable-expression, variable-point, variable-variable, variable-start, atom-program, atom-expression, atom-point, point-limited, point-other, atom-variable, start-number, start-other, count-none, count-exactly, count-least)

@@ -3,6 +3,7 @@ use Prim.Native.Nat.{ℕ}
 use mathlib.Core.Bool.{Bool, true, false, _&&_}
 use lib.Dec.{eqb, leb}
 use Rattle.model.specs.Choice.{if_then_else_}
+use Rattle.model.specs.Limits.{lastPoint}
 use Rattle.requests.specs.Panel.{Word, bit, and, or, not, out, set, all, free}
 use Rattle.profile.specs.declared.rules.Wanted.{Wanted}
 use Rattle.profile.specs.declared.rules.Wanted.the-variants.{Program, Expression, Point, Variable, Start}
@@ -58,9 +59,15 @@ takesVariable Variable = true
 takesVariable Start = false
 
 -- an atom of this kind, with this content
+
+unfoldable pub takesPoint : ℕ → ℕ → Bool
+unfolding lastPoint
+takesPoint k x = eqb k 2 && leb x lastPoint
+
 unfoldable pub takesAtom : Wanted → ℕ → ℕ → Bool
+unfolding takesPoint
 takesAtom Program k x = false
-takesAtom Expression k x = eqb k 2
-takesAtom Point k x = eqb k 2
+takesAtom Expression k x = takesPoint k x
+takesAtom Point k x = takesPoint k x
 takesAtom Variable k x = false
 takesAtom Start k x = eqb k 1 && leb x 1

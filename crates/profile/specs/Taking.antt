@@ -1,14 +1,18 @@
--- T-01: a tree of an image read as what a place of a program asks for. Any fault here means outside the profile: the image has been judged.
+-- T-01: a tree of an image read as what a place of a program asks for. It is read by the definition's rules, and any fault here means that it
+-- is no program or not owned: the general judgement then says which. `names` is how many names the head declares, and `around` holds for each
+-- whether a function of that name is around the place: not 0.
 use Prim.Native.Nat.{ℕ, zero, suc, _-_}
 use mathlib.Core.Path.{_≡_}
-use mathlib.Core.Bool.{Bool, not}
+use mathlib.Core.Bool.{Bool, true, false, not}
 use mathlib.Core.List.{List, []}
-use lib.Dec.{eqb, leb}
-use Rattle.model.specs.Limits.{mostNesting}
-use Rattle.model.specs.Refusals.{layout}
+use lib.Dec.{eqb}
+use lib.ListN.{getD, set}
+use Rattle.model.specs.Limits.{mostNesting, lastRungWord}
+use Rattle.model.specs.Refusals.{layout, overLimit}
 use Rattle.model.specs.Trees.{Tree}
 use Rattle.model.specs.Reading as m
-use Rattle.model.specs.Reading.{Reader, _>>=_, _>>_, give, fail, need, num, got, readTree}
+use Rattle.model.specs.Reading.{Reader, _>>=_, _>>_, give, fail, need, num, numUpTo, numBelow, got, readTree}
+use Rattle.model.specs.Jobs.{closed}
 use Rattle.requests.specs.Panel.{wordNumbered, isProgram}
 use Rattle.numbers.specs.declared.Place.{Place}
 use Rattle.numbers.specs.declared.Place.the-variants as place
@@ -26,10 +30,11 @@ takenAt end g = answerAt placed place.Fault end g
 abbrev pub ruleAt : ℕ → m.Read Rule → RuleRead
 ruleAt end g = answerAt Read Fault end g
 
-unfoldable pub takeVariable : Wanted → Reader (Unit {0})
-unfolding num
-takeVariable w = do
-  num
+unfoldable pub takeVariable : ℕ → List ℕ → Wanted → Reader (Unit {0})
+unfolding numBelow
+takeVariable names around w = do
+  n ← numBelow names
+  need layout (not (eqb (getD around n 0) 0))
   need layout (takesVariable w)
 
 unfoldable pub takeAtom : Wanted → Reader (Unit {0})
@@ -40,14 +45,15 @@ takeAtom w = do
   need layout (takesAtom w k x)
 
 unfoldable pub takeWord : Wanted → Reader Rule
-unfolding num
+unfolding num numUpTo lastRungWord
 takeWord w = do
   k ← num
-  x ← num
   need layout (eqb k 4)
+  x ← numUpTo overLimit lastRungWord
   give (ruleOf w (wordNumbered x))
 
--- `part` reads what is wanted of a part
+-- `part` reads what is wanted of a part, `head` the head of an application that is to be what is wanted, and `inside` the body of a function of
+-- some name
 
 unfoldable pub takeAll : ℕ → Reader (Unit {0}) → Reader (Unit {0})
 takeAll zero part = give tt
@@ -62,53 +68,72 @@ takeArguments part r n = do
   part (r .first)
   takeAll (n - 1) (part (r .others))
 
-unfoldable pub takeBit : (Wanted → Reader (Unit {0})) → Wanted → Reader Rule
-unfolding num
-takeBit part w = do
-  num
-  part Program
+unfoldable pub bitWith : ℕ → (ℕ → Reader (Unit {0})) → Wanted → Reader Rule
+unfolding numBelow
+bitWith names inside w = do
+  n ← numBelow names
+  inside n
   give (bitRule w)
 
-unfoldable pub headBy : (Wanted → Reader (Unit {0})) → Wanted → ℕ → Reader Rule
-unfolding takeBit takeWord
-headBy part w zero = fail layout
-headBy part w (suc zero) = fail layout
-headBy part w (suc (suc zero)) = takeBit part w
-headBy part w (suc (suc (suc zero))) = takeWord w
-headBy part w (suc (suc (suc (suc t)))) = fail layout
+unfoldable pub headBy : ℕ → (ℕ → Reader (Unit {0})) → Wanted → ℕ → Reader Rule
+unfolding bitWith takeWord
+headBy names inside w zero = fail layout
+headBy names inside w (suc zero) = fail layout
+headBy names inside w (suc (suc zero)) = bitWith names inside w
+headBy names inside w (suc (suc (suc zero))) = takeWord w
+headBy names inside w (suc (suc (suc (suc t)))) = fail layout
 
-unfoldable pub takeHead : (Wanted → Reader (Unit {0})) → Wanted → Reader Rule
-unfolding num headBy
-takeHead part w = do
-  t ← num
-  headBy part w t
-
-unfoldable pub takeApplication : (Wanted → Reader (Unit {0})) → Wanted → Reader (Unit {0})
-unfolding num takeHead takeArguments
-takeApplication part w = do
+unfoldable pub takeApplication : (Wanted → Reader (Unit {0})) → (Wanted → Reader Rule) → Wanted → Reader (Unit {0})
+unfolding num takeArguments
+takeApplication part head w = do
   n ← num
   need layout (not (eqb n 0))
-  r ← takeHead part w
+  r ← head w
   takeArguments part r (n - 1)
 
 -- what follows the tag
-unfoldable pub takeBody : (Wanted → Reader (Unit {0})) → Wanted → ℕ → Reader (Unit {0})
+unfoldable pub takeBody : ℕ → List ℕ → (Wanted → Reader (Unit {0})) → (Wanted → Reader Rule) → Wanted → ℕ → Reader (Unit {0})
 unfolding takeVariable takeApplication takeAtom
-takeBody part w zero = takeVariable w
-takeBody part w (suc zero) = takeApplication part w
-takeBody part w (suc (suc zero)) = fail layout
-takeBody part w (suc (suc (suc zero))) = takeAtom w
-takeBody part w (suc (suc (suc (suc t)))) = fail layout
+takeBody names around part head w zero = takeVariable names around w
+takeBody names around part head w (suc zero) = takeApplication part head w
+takeBody names around part head w (suc (suc zero)) = fail layout
+takeBody names around part head w (suc (suc (suc zero))) = takeAtom w
+takeBody names around part head w (suc (suc (suc (suc t)))) = fail layout
 
--- a tree where l levels are left
-unfoldable pub takeTree : ℕ → Wanted → Reader (Unit {0})
-unfolding num takeBody
-takeTree zero w = fail layout
-takeTree (suc l) w = do
-  t ← num
-  takeBody (takeTree l) w t
+-- where l levels are left: a tree, and a head, whose function has its body one level down
+unfoldable mutual
+  unfolding num takeBody headBy
 
--- ---- what the code says of the bytes of a tree that ends its image
+  pub takeTree : ℕ → ℕ → List ℕ → Wanted → Reader (Unit {0})
+  takeTree names zero around w = fail layout
+  takeTree names (suc l) around w = do
+    t ← num
+    takeBody names around (λ v. takeTree names l around v) (λ v. takeHead names l around v) w t
 
-abbrev pub Tells : List ℕ → Bool → Type 0
-Tells s r = (h : m.Head) (t : Tree) → readTree mostNesting h 0 s ≡ got t [] → r ≡ isProgram t
+  pub takeHead : ℕ → ℕ → List ℕ → Wanted → Reader Rule
+  takeHead names zero around w = fail layout
+  takeHead names (suc l) around w = do
+    t ← num
+    headBy names (λ n. takeTree names l (set around n 1) Program) w t
+
+-- a function, whose body has l levels
+unfoldable pub takeBit : ℕ → ℕ → List ℕ → Wanted → Reader Rule
+unfolding bitWith takeTree
+takeBit names l around w = bitWith names (λ n. takeTree names l (set around n 1) Program) w
+
+-- ---- what the code says of the bytes behind a head that declares so many names
+
+-- they are a program that is owned, and nothing more
+pub record Found (h : m.Head) (s : List ℕ) : Type 0 where
+  pub root : Tree
+  pub reads : readTree mostNesting h 0 s ≡ got root []
+  pub program : isProgram root ≡ true
+  pub owned : closed [] root ≡ true
+
+-- they are not
+abbrev pub Missed : m.Head → List ℕ → Type 0
+Missed h s = (t : Tree) → readTree mostNesting h 0 s ≡ got t [] → closed [] t ≡ true → isProgram t ≡ false
+
+pub record Tells (names : ℕ) (s : List ℕ) (r : Bool) : Type 0 where
+  pub found : r ≡ true → (h : m.Head) → h .names ≡ names → Found h s
+  pub missed : r ≡ false → (h : m.Head) → h .names ≡ names → Missed h s

@@ -1,7 +1,8 @@
 // The rules of the panel profile, in the request's words.
+use scopes::Point;
 ghost use mathlib.Core.Path.{_≡_};
 ghost use Rattle.requests.specs.Panel.{wordNumbered};
-ghost use Rattle.profile.specs.Rules.{noRule, rungRule, contactsRule, ruleOf, bitRule, takesVariable, takesAtom, takesCount};
+ghost use Rattle.profile.specs.Rules.{noRule, rungRule, contactsRule, ruleOf, bitRule, takesVariable, takesPoint, takesAtom, takesCount};
 
 // What a place of a program asks for.
 pub enum Wanted {
@@ -158,7 +159,7 @@ pub fn takes_count(rule: Rule, count: u32) -> bool
     rule.count <= count
 }
 
-// A bit in scope is an expression: code 3 has settled that it is in scope.
+// A bit in scope is an expression.
 pub fn takes_variable(wanted: Wanted) -> bool
     ensures { λ r. ⌜ r ≡ takesVariable wanted ⌝ }
 {
@@ -171,13 +172,22 @@ pub fn takes_variable(wanted: Wanted) -> bool
     }
 }
 
+fn takes_point(kind: u32, content: u32) -> bool
+    ensures { λ r. ⌜ r ≡ takesPoint kind content ⌝ }
+{
+    if kind == POINT {
+        return content <= Point::LAST;
+    }
+    false
+}
+
 pub fn takes_atom(wanted: Wanted, kind: u32, content: u32) -> bool
     ensures { λ r. ⌜ r ≡ takesAtom wanted kind content ⌝ }
 {
     match wanted {
         Wanted::Program => false,
-        Wanted::Expression => kind == POINT,
-        Wanted::Point => kind == POINT,
+        Wanted::Expression => takes_point(kind, content),
+        Wanted::Point => takes_point(kind, content),
         Wanted::Variable => false,
         Wanted::Start => {
             if kind == NUMBER {

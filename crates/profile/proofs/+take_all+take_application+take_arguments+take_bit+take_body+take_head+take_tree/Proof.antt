@@ -1,4 +1,6 @@
+use denote.Ref.{now}
 use Rattle.numbers.proofs.Answering.{answering}
+use Rattle.roots.proofs.Trees.{name-inside, still-inside}
 use Rattle.profile.proofs.Taking.{All, tree-laws}
 use borrow.Author.Needs.{needs}
 use Prim.Native.Nat.{ℕ, _+_, _*_, _<_}
@@ -27,6 +29,7 @@ use Rattle.profile.proofs.take_tree.Kinds as take-tree-kinds
 use Rattle.profile.proofs.+take_all+take_application+take_arguments+take_bit+take_body+take_head+take_tree.Lts-take_tree as take-tree-lts
 use Rattle.numbers.proofs.Cursor.after.Reads as after-reads
 use Rattle.numbers.proofs.Cursor.number.Reads as number-reads
+use Rattle.numbers.proofs.Cursor.number_below.Reads as number-below-reads
 use Rattle.profile.proofs.rules.of_bit.Reads as of-bit-reads
 use Rattle.profile.proofs.rules.takes_count.Reads as takes-count-reads
 use Rattle.profile.proofs.take_atom.Reads as take-atom-reads
@@ -39,101 +42,101 @@ use Rattle.profile.proofs.+take_all+take_application+take_arguments+tak
   close,
 }
 
-abbrev μ-take-all : Measures 1 take-all-kinds.ps ℕ
-μ-take-all κs a = 8 * a .1 .1 .0 + 2
+abbrev μ-take-all : Measures 2 take-all-kinds.ps ℕ
+μ-take-all κs a = 8 * a .1 .1 .1 .1 .0 + 2
 
-abbrev μ-take-application : Measures 1 take-application-kinds.ps ℕ
-μ-take-application κs a = 8 * a .1 .1 .0 + 5
+abbrev μ-take-application : Measures 2 take-application-kinds.ps ℕ
+μ-take-application κs a = 8 * a .1 .1 .1 .1 .0 + 5
 
-abbrev μ-take-arguments : Measures 1 take-arguments-kinds.ps ℕ
-μ-take-arguments κs a = 8 * a .1 .1 .0 + 3
+abbrev μ-take-arguments : Measures 2 take-arguments-kinds.ps ℕ
+μ-take-arguments κs a = 8 * a .1 .1 .1 .1 .0 + 3
 
-abbrev μ-take-bit : Measures 1 take-bit-kinds.ps ℕ
-μ-take-bit κs a = 8 * a .1 .1 .0 + 3
+abbrev μ-take-bit : Measures 2 take-bit-kinds.ps ℕ
+μ-take-bit κs a = 8 * a .1 .1 .1 .1 .0 + 3
 
-abbrev μ-take-body : Measures 1 take-body-kinds.ps ℕ
-μ-take-body κs a = 8 * a .1 .1 .0 + 6
+abbrev μ-take-body : Measures 2 take-body-kinds.ps ℕ
+μ-take-body κs a = 8 * a .1 .1 .1 .1 .0 + 6
 
-abbrev μ-take-head : Measures 1 take-head-kinds.ps ℕ
-μ-take-head κs a = 8 * a .1 .1 .0 + 4
+abbrev μ-take-head : Measures 2 take-head-kinds.ps ℕ
+μ-take-head κs a = 8 * a .1 .1 .1 .1 .0 + 4
 
-abbrev μ-take-tree : Measures 1 take-tree-kinds.ps ℕ
-μ-take-tree κs a = 8 * a .1 .1 .0
+abbrev μ-take-tree : Measures 2 take-tree-kinds.ps ℕ
+μ-take-tree κs a = 8 * a .1 .1 .1 .1 .0
 
-abbrev take-all-at : ℕ → In 1 take-all-kinds.ps
-take-all-at t = and 1 take-all-kinds.ps (is 1 take-all-kinds.ps μ-take-all t) take-all.Pre
+abbrev take-all-at : ℕ → In 2 take-all-kinds.ps
+take-all-at t = and 2 take-all-kinds.ps (is 2 take-all-kinds.ps μ-take-all t) take-all.Pre
 
-abbrev take-all-below : ℕ → In 1 take-all-kinds.ps
+abbrev take-all-below : ℕ → In 2 take-all-kinds.ps
 take-all-below t =
-    and 1 take-all-kinds.ps (falls 1 take-all-kinds.ps _<_ μ-take-all t) take-all.Pre
+    and 2 take-all-kinds.ps (falls 2 take-all-kinds.ps _<_ μ-take-all t) take-all.Pre
 
-abbrev take-application-at : ℕ → In 1 take-application-kinds.ps
+abbrev take-application-at : ℕ → In 2 take-application-kinds.ps
 take-application-at t =
     and
-    1
+    2
     take-application-kinds.ps
-    (is 1 take-application-kinds.ps μ-take-application t)
+    (is 2 take-application-kinds.ps μ-take-application t)
     take-application.Pre
 
-abbrev take-application-below : ℕ → In 1 take-application-kinds.ps
+abbrev take-application-below : ℕ → In 2 take-application-kinds.ps
 take-application-below t =
     and
-    1
+    2
     take-application-kinds.ps
-    (falls 1 take-application-kinds.ps _<_ μ-take-application t)
+    (falls 2 take-application-kinds.ps _<_ μ-take-application t)
     take-application.Pre
 
-abbrev take-arguments-at : ℕ → In 1 take-arguments-kinds.ps
+abbrev take-arguments-at : ℕ → In 2 take-arguments-kinds.ps
 take-arguments-at t =
     and
-    1
+    2
     take-arguments-kinds.ps
-    (is 1 take-arguments-kinds.ps μ-take-arguments t)
+    (is 2 take-arguments-kinds.ps μ-take-arguments t)
     take-arguments.Pre
 
-abbrev take-arguments-below : ℕ → In 1 take-arguments-kinds.ps
+abbrev take-arguments-below : ℕ → In 2 take-arguments-kinds.ps
 take-arguments-below t =
     and
-    1
+    2
     take-arguments-kinds.ps
-    (falls 1 take-arguments-kinds.ps _<_ μ-take-arguments t)
+    (falls 2 take-arguments-kinds.ps _<_ μ-take-arguments t)
     take-arguments.Pre
 
-abbrev take-bit-at : ℕ → In 1 take-bit-kinds.ps
-take-bit-at t = and 1 take-bit-kinds.ps (is 1 take-bit-kinds.ps μ-take-bit t) take-bit.Pre
+abbrev take-bit-at : ℕ → In 2 take-bit-kinds.ps
+take-bit-at t = and 2 take-bit-kinds.ps (is 2 take-bit-kinds.ps μ-take-bit t) take-bit.Pre
 
-abbrev take-bit-below : ℕ → In 1 take-bit-kinds.ps
+abbrev take-bit-below : ℕ → In 2 take-bit-kinds.ps
 take-bit-below t =
-    and 1 take-bit-kinds.ps (falls 1 take-bit-kinds.ps _<_ μ-take-bit t) take-bit.Pre
+    and 2 take-bit-kinds.ps (falls 2 take-bit-kinds.ps _<_ μ-take-bit t) take-bit.Pre
 
-abbrev take-body-at : ℕ → In 1 take-body-kinds.ps
-take-body-at t = and 1 take-body-kinds.ps (is 1 take-body-kinds.ps μ-take-body t) take-body.Pre
+abbrev take-body-at : ℕ → In 2 take-body-kinds.ps
+take-body-at t = and 2 take-body-kinds.ps (is 2 take-body-kinds.ps μ-take-body t) take-body.Pre
 
-abbrev take-body-below : ℕ → In 1 take-body-kinds.ps
+abbrev take-body-below : ℕ → In 2 take-body-kinds.ps
 take-body-below t =
-    and 1 take-body-kinds.ps (falls 1 take-body-kinds.ps _<_ μ-take-body t) take-body.Pre
+    and 2 take-body-kinds.ps (falls 2 take-body-kinds.ps _<_ μ-take-body t) take-body.Pre
 
-abbrev take-head-at : ℕ → In 1 take-head-kinds.ps
-take-head-at t = and 1 take-head-kinds.ps (is 1 take-head-kinds.ps μ-take-head t) take-head.Pre
+abbrev take-head-at : ℕ → In 2 take-head-kinds.ps
+take-head-at t = and 2 take-head-kinds.ps (is 2 take-head-kinds.ps μ-take-head t) take-head.Pre
 
-abbrev take-head-below : ℕ → In 1 take-head-kinds.ps
+abbrev take-head-below : ℕ → In 2 take-head-kinds.ps
 take-head-below t =
-    and 1 take-head-kinds.ps (falls 1 take-head-kinds.ps _<_ μ-take-head t) take-head.Pre
+    and 2 take-head-kinds.ps (falls 2 take-head-kinds.ps _<_ μ-take-head t) take-head.Pre
 
-abbrev take-tree-at : ℕ → In 1 take-tree-kinds.ps
-take-tree-at t = and 1 take-tree-kinds.ps (is 1 take-tree-kinds.ps μ-take-tree t) take-tree.Pre
+abbrev take-tree-at : ℕ → In 2 take-tree-kinds.ps
+take-tree-at t = and 2 take-tree-kinds.ps (is 2 take-tree-kinds.ps μ-take-tree t) take-tree.Pre
 
-abbrev take-tree-below : ℕ → In 1 take-tree-kinds.ps
+abbrev take-tree-below : ℕ → In 2 take-tree-kinds.ps
 take-tree-below t =
-    and 1 take-tree-kinds.ps (falls 1 take-tree-kinds.ps _<_ μ-take-tree t) take-tree.Pre
+    and 2 take-tree-kinds.ps (falls 2 take-tree-kinds.ps _<_ μ-take-tree t) take-tree.Pre
 
 abbrev take-all-Inv-loop : take-all-lts.InvT-loop
-take-all-Inv-loop c s levels wanted count here₀ left₀ here left = All (c .at) levels wanted s count (here .at) left
+take-all-Inv-loop c s around₀ names levels wanted count here₀ left₀ around here left = All (c .at) names levels wanted s around₀ count around (here .at) left
 
 abbrev take-all-μ-loop : take-all-lts.MeasureT-loop
-take-all-μ-loop c s levels wanted count here₀ left₀ here left = left
+take-all-μ-loop c s around₀ names levels wanted count here₀ left₀ around here left = left
 
--- src/lib.rt:184:5
+-- src/lib.rt:285:5
 take-all-loop-holds : (t : ℕ) → take-all-lts.Need-loop-holds (
   after-reads.Asked,
   after-reads.Learnt,
@@ -142,7 +145,7 @@ take-all-loop-holds : (t : ℕ) → take-all-lts.Need-loop-holds (
 ) (take-all-at t) take-all.Post take-all-Inv-loop take-all-μ-loop
 take-all-loop-holds t c = search (tree-laws, answering, needs)
 
--- src/lib.rt:185:31
+-- src/lib.rt:286:31
 take-all-after-requires : (t : ℕ) → take-all-lts.Need-after-requires (
   after-reads.Asked,
   after-reads.Learnt,
@@ -151,7 +154,7 @@ take-all-after-requires : (t : ℕ) → take-all-lts.Need-after-requires (
 ) (take-all-at t) take-all.Post take-all-Inv-loop take-all-μ-loop
 take-all-after-requires t c κs = search (tree-laws, answering, needs)
 
--- src/lib.rt:185:15
+-- src/lib.rt:286:15
 take-all-take-tree-requires : (t : ℕ) → take-all-lts.Need-take-tree-requires (
   after-reads.Asked,
   after-reads.Learnt,
@@ -160,7 +163,7 @@ take-all-take-tree-requires : (t : ℕ) → take-all-lts.Need-take-tree-requires
 ) (take-all-at t) take-all.Post take-all-Inv-loop take-all-μ-loop
 take-all-take-tree-requires t c κs = search (tree-laws, answering, needs)
 
--- src/lib.rt:186:23
+-- src/lib.rt:287:23
 take-all-enum-known-past : (t : ℕ) → take-all-lts.Need-enum-known-past (
   after-reads.Asked,
   after-reads.Learnt,
@@ -169,7 +172,7 @@ take-all-enum-known-past : (t : ℕ) → take-all-lts.Need-enum-known-past (
 ) (take-all-at t) take-all.Post take-all-Inv-loop take-all-μ-loop
 take-all-enum-known-past t c = search (tree-laws, answering, needs)
 
--- src/lib.rt:188:17
+-- src/lib.rt:289:17
 take-all-sub-left : (t : ℕ) → take-all-lts.Need-sub-left (
   after-reads.Asked,
   after-reads.Learnt,
@@ -178,7 +181,7 @@ take-all-sub-left : (t : ℕ) → take-all-lts.Need-sub-left (
 ) (take-all-at t) take-all.Post take-all-Inv-loop take-all-μ-loop
 take-all-sub-left t c = search (tree-laws, answering, needs)
 
--- src/lib.rt:184:5
+-- src/lib.rt:285:5
 take-all-loop-less : (t : ℕ) → take-all-lts.Need-loop-less (
   after-reads.Asked,
   after-reads.Learnt,
@@ -187,7 +190,7 @@ take-all-loop-less : (t : ℕ) → take-all-lts.Need-loop-less (
 ) (take-all-at t) take-all.Post take-all-Inv-loop take-all-μ-loop
 take-all-loop-less t c = search (tree-laws, answering, needs)
 
--- src/lib.rt:184:5
+-- src/lib.rt:285:5
 take-all-loop-again : (t : ℕ) → take-all-lts.Need-loop-again (
   after-reads.Asked,
   after-reads.Learnt,
@@ -196,7 +199,7 @@ take-all-loop-again : (t : ℕ) → take-all-lts.Need-loop-again (
 ) (take-all-at t) take-all.Post take-all-Inv-loop take-all-μ-loop
 take-all-loop-again t c = search (tree-laws, answering, needs)
 
--- src/lib.rt:190:26
+-- src/lib.rt:291:26
 take-all-enum-known-f : (t : ℕ) → take-all-lts.Need-enum-known-f (
   after-reads.Asked,
   after-reads.Learnt,
@@ -205,7 +208,16 @@ take-all-enum-known-f : (t : ℕ) → take-all-lts.Need-enum-known-f (
 ) (take-all-at t) take-all.Post take-all-Inv-loop take-all-μ-loop
 take-all-enum-known-f t c = search (tree-laws, answering, needs)
 
--- src/lib.rt:190:32
+-- src/lib.rt:291:32
+take-all-same-length : (t : ℕ) → take-all-lts.Need-same-length (
+  after-reads.Asked,
+  after-reads.Learnt,
+  take-tree-below t,
+  take-tree.Post,
+) (take-all-at t) take-all.Post take-all-Inv-loop take-all-μ-loop
+take-all-same-length t c = search (tree-laws, answering, needs)
+
+-- src/lib.rt:291:32
 take-all-returns : (t : ℕ) → take-all-lts.Need-returns (
   after-reads.Asked,
   after-reads.Learnt,
@@ -214,7 +226,16 @@ take-all-returns : (t : ℕ) → take-all-lts.Need-returns (
 ) (take-all-at t) take-all.Post take-all-Inv-loop take-all-μ-loop
 take-all-returns t c = search (tree-laws, answering, needs)
 
--- src/lib.rt:178:1
+-- src/lib.rt:270:1
+take-all-same-length-2 : (t : ℕ) → take-all-lts.Need-same-length-2 (
+  after-reads.Asked,
+  after-reads.Learnt,
+  take-tree-below t,
+  take-tree.Post,
+) (take-all-at t) take-all.Post take-all-Inv-loop take-all-μ-loop
+take-all-same-length-2 t c = search (tree-laws, answering, needs)
+
+-- src/lib.rt:270:1
 take-all-returns-2 : (t : ℕ) → take-all-lts.Need-returns-2 (
   after-reads.Asked,
   after-reads.Learnt,
@@ -223,7 +244,7 @@ take-all-returns-2 : (t : ℕ) → take-all-lts.Need-returns-2 (
 ) (take-all-at t) take-all.Post take-all-Inv-loop take-all-μ-loop
 take-all-returns-2 t c = search (tree-laws, answering, needs)
 
--- src/lib.rt:109:11
+-- src/lib.rt:147:11
 take-application-number-requires : (t : ℕ) → take-application-lts.Need-number-requires (
   number-reads.Asked,
   number-reads.Learnt,
@@ -236,7 +257,7 @@ take-application-number-requires : (t : ℕ) → take-application-lts.Need-numbe
 ) (take-application-at t) take-application.Post
 take-application-number-requires t c κs = search (tree-laws, answering, needs)
 
--- src/lib.rt:110:22
+-- src/lib.rt:148:22
 take-application-enum-known-count : (t : ℕ) → take-application-lts.Need-enum-known-count (
   number-reads.Asked,
   number-reads.Learnt,
@@ -249,7 +270,7 @@ take-application-enum-known-count : (t : ℕ) → take-application-lts.Need-enum
 ) (take-application-at t) take-application.Post
 take-application-enum-known-count t c = search (tree-laws, answering, needs)
 
--- src/lib.rt:112:17
+-- src/lib.rt:150:17
 take-application-returns : (t : ℕ) → take-application-lts.Need-returns (
   number-reads.Asked,
   number-reads.Learnt,
@@ -262,7 +283,7 @@ take-application-returns : (t : ℕ) → take-application-lts.Need-returns (
 ) (take-application-at t) take-application.Post
 take-application-returns t c = search (tree-laws, answering, needs)
 
--- src/lib.rt:114:17
+-- src/lib.rt:152:17
 take-application-after-requires : (t : ℕ) → take-application-lts.Need-after-requires (
   number-reads.Asked,
   number-reads.Learnt,
@@ -275,7 +296,7 @@ take-application-after-requires : (t : ℕ) → take-application-lts.Need-after-
 ) (take-application-at t) take-application.Post
 take-application-after-requires t c κs = search (tree-laws, answering, needs)
 
--- src/lib.rt:115:19
+-- src/lib.rt:153:19
 take-application-take-head-requires : (t : ℕ) → take-application-lts.Need-take-head-requires (
   number-reads.Asked,
   number-reads.Learnt,
@@ -288,7 +309,7 @@ take-application-take-head-requires : (t : ℕ) → take-application-lts.Need-ta
 ) (take-application-at t) take-application.Post
 take-application-take-head-requires t c κs = search (tree-laws, answering, needs)
 
--- src/lib.rt:116:32
+-- src/lib.rt:154:32
 take-application-enum-known-rule : (t : ℕ) → take-application-lts.Need-enum-known-rule (
   number-reads.Asked,
   number-reads.Learnt,
@@ -301,7 +322,7 @@ take-application-enum-known-rule : (t : ℕ) → take-application-lts.Need-enum-
 ) (take-application-at t) take-application.Post
 take-application-enum-known-rule t c = search (tree-laws, answering, needs)
 
--- src/lib.rt:117:44
+-- src/lib.rt:156:21
 take-application-after-requires-2 : (t : ℕ) → take-application-lts.Need-after-requires-2 (
   number-reads.Asked,
   number-reads.Learnt,
@@ -314,7 +335,7 @@ take-application-after-requires-2 : (t : ℕ) → take-application-lts.Need-afte
 ) (take-application-at t) take-application.Post
 take-application-after-requires-2 t c κs = search (tree-laws, answering, needs)
 
--- src/lib.rt:117:84
+-- src/lib.rt:161:21
 take-application-sub-take-arguments : (t : ℕ) → take-application-lts.Need-sub-take-arguments (
   number-reads.Asked,
   number-reads.Learnt,
@@ -327,7 +348,7 @@ take-application-sub-take-arguments : (t : ℕ) → take-application-lts.Need-su
 ) (take-application-at t) take-application.Post
 take-application-sub-take-arguments t c = search (tree-laws, answering, needs)
 
--- src/lib.rt:117:21
+-- src/lib.rt:154:49
 take-application-take-arguments-requires :
     (t : ℕ) → take-application-lts.Need-take-arguments-requires (
       number-reads.Asked,
@@ -339,9 +360,13 @@ take-application-take-arguments-requires :
       take-arguments-below t,
       take-arguments.Post,
     ) (take-application-at t) take-application.Post
-take-application-take-arguments-requires t c κs = search (tree-laws, answering, needs)
+take-application-take-arguments-requires t c κs =
+    let start = c .before .before .before .before .before .before .before .before .before .before .before .before .before .before .before .before .before .pre in (
+      search (start .0, tree-laws, answering, needs),
+      (search (start .1 .0, tree-laws, answering, needs), search (start .1 .1, tree-laws, answering, needs)),
+    )
 
--- src/lib.rt:119:33
+-- src/lib.rt:163:33
 take-application-enum-known-f : (t : ℕ) → take-application-lts.Need-enum-known-f (
   number-reads.Asked,
   number-reads.Learnt,
@@ -354,7 +379,7 @@ take-application-enum-known-f : (t : ℕ) → take-application-lts.Need-enum-kno
 ) (take-application-at t) take-application.Post
 take-application-enum-known-f t c = search (tree-laws, answering, needs)
 
--- src/lib.rt:122:23
+-- src/lib.rt:166:23
 take-application-enum-known-f-2 : (t : ℕ) → take-application-lts.Need-enum-known-f-2 (
   number-reads.Asked,
   number-reads.Learnt,
@@ -367,7 +392,20 @@ take-application-enum-known-f-2 : (t : ℕ) → take-application-lts.Need-enum-k
 ) (take-application-at t) take-application.Post
 take-application-enum-known-f-2 t c = search (tree-laws, answering, needs)
 
--- src/lib.rt:105:1
+-- src/lib.rt:135:1
+take-application-same-length : (t : ℕ) → take-application-lts.Need-same-length (
+  number-reads.Asked,
+  number-reads.Learnt,
+  after-reads.Asked,
+  after-reads.Learnt,
+  take-head-below t,
+  take-head.Post,
+  take-arguments-below t,
+  take-arguments.Post,
+) (take-application-at t) take-application.Post
+take-application-same-length t c = search (tree-laws, answering, needs)
+
+-- src/lib.rt:135:1
 take-application-returns-2 : (t : ℕ) → take-application-lts.Need-returns-2 (
   number-reads.Asked,
   number-reads.Learnt,
@@ -380,7 +418,20 @@ take-application-returns-2 : (t : ℕ) → take-application-lts.Need-returns-2 (
 ) (take-application-at t) take-application.Post
 take-application-returns-2 t c = search (tree-laws, answering, needs)
 
--- src/lib.rt:105:1
+-- src/lib.rt:135:1
+take-application-same-length-2 : (t : ℕ) → take-application-lts.Need-same-length-2 (
+  number-reads.Asked,
+  number-reads.Learnt,
+  after-reads.Asked,
+  after-reads.Learnt,
+  take-head-below t,
+  take-head.Post,
+  take-arguments-below t,
+  take-arguments.Post,
+) (take-application-at t) take-application.Post
+take-application-same-length-2 t c = search (tree-laws, answering, needs)
+
+-- src/lib.rt:135:1
 take-application-returns-3 : (t : ℕ) → take-application-lts.Need-returns-3 (
   number-reads.Asked,
   number-reads.Learnt,
@@ -393,7 +444,7 @@ take-application-returns-3 : (t : ℕ) → take-application-lts.Need-returns-3 (
 ) (take-application-at t) take-application.Post
 take-application-returns-3 t c = search (tree-laws, answering, needs)
 
--- src/lib.rt:105:1
+-- src/lib.rt:135:1
 take-application-returns-4 : (t : ℕ) → take-application-lts.Need-returns-4 (
   number-reads.Asked,
   number-reads.Learnt,
@@ -406,7 +457,7 @@ take-application-returns-4 : (t : ℕ) → take-application-lts.Need-returns-4 (
 ) (take-application-at t) take-application.Post
 take-application-returns-4 t c = search (tree-laws, answering, needs)
 
--- src/lib.rt:168:8
+-- src/lib.rt:252:8
 take-arguments-takes-count-requires : (t : ℕ) → take-arguments-lts.Need-takes-count-requires (
   takes-count-reads.Asked,
   takes-count-reads.Learnt,
@@ -419,7 +470,7 @@ take-arguments-takes-count-requires : (t : ℕ) → take-arguments-lts.Need-take
 ) (take-arguments-at t) take-arguments.Post
 take-arguments-takes-count-requires t c κs = search (tree-laws, answering, needs)
 
--- src/lib.rt:169:22
+-- src/lib.rt:253:22
 take-arguments-take-tree-requires : (t : ℕ) → take-arguments-lts.Need-take-tree-requires (
   takes-count-reads.Asked,
   takes-count-reads.Learnt,
@@ -432,7 +483,7 @@ take-arguments-take-tree-requires : (t : ℕ) → take-arguments-lts.Need-take-t
 ) (take-arguments-at t) take-arguments.Post
 take-arguments-take-tree-requires t c κs = search (tree-laws, answering, needs)
 
--- src/lib.rt:170:23
+-- src/lib.rt:254:23
 take-arguments-enum-known-past : (t : ℕ) → take-arguments-lts.Need-enum-known-past (
   takes-count-reads.Asked,
   takes-count-reads.Learnt,
@@ -445,7 +496,7 @@ take-arguments-enum-known-past : (t : ℕ) → take-arguments-lts.Need-enum-know
 ) (take-arguments-at t) take-arguments.Post
 take-arguments-enum-known-past t c = search (tree-laws, answering, needs)
 
--- src/lib.rt:170:47
+-- src/lib.rt:256:17
 take-arguments-after-requires : (t : ℕ) → take-arguments-lts.Need-after-requires (
   takes-count-reads.Asked,
   takes-count-reads.Learnt,
@@ -458,7 +509,7 @@ take-arguments-after-requires : (t : ℕ) → take-arguments-lts.Need-after-requ
 ) (take-arguments-at t) take-arguments.Post
 take-arguments-after-requires t c κs = search (tree-laws, answering, needs)
 
--- src/lib.rt:170:81
+-- src/lib.rt:261:17
 take-arguments-sub-take-all : (t : ℕ) → take-arguments-lts.Need-sub-take-all (
   takes-count-reads.Asked,
   takes-count-reads.Learnt,
@@ -471,7 +522,7 @@ take-arguments-sub-take-all : (t : ℕ) → take-arguments-lts.Need-sub-take-all
 ) (take-arguments-at t) take-arguments.Post
 take-arguments-sub-take-all t c = search (tree-laws, answering, needs)
 
--- src/lib.rt:170:32
+-- src/lib.rt:254:32
 take-arguments-take-all-requires : (t : ℕ) → take-arguments-lts.Need-take-all-requires (
   takes-count-reads.Asked,
   takes-count-reads.Learnt,
@@ -484,7 +535,7 @@ take-arguments-take-all-requires : (t : ℕ) → take-arguments-lts.Need-take-al
 ) (take-arguments-at t) take-arguments.Post
 take-arguments-take-all-requires t c κs = search (tree-laws, answering, needs)
 
--- src/lib.rt:171:26
+-- src/lib.rt:263:26
 take-arguments-enum-known-f : (t : ℕ) → take-arguments-lts.Need-enum-known-f (
   takes-count-reads.Asked,
   takes-count-reads.Learnt,
@@ -497,7 +548,20 @@ take-arguments-enum-known-f : (t : ℕ) → take-arguments-lts.Need-enum-known-f
 ) (take-arguments-at t) take-arguments.Post
 take-arguments-enum-known-f t c = search (tree-laws, answering, needs)
 
--- src/lib.rt:169:9
+-- src/lib.rt:253:9
+take-arguments-same-length : (t : ℕ) → take-arguments-lts.Need-same-length (
+  takes-count-reads.Asked,
+  takes-count-reads.Learnt,
+  take-tree-below t,
+  take-tree.Post,
+  after-reads.Asked,
+  after-reads.Learnt,
+  take-all-below t,
+  take-all.Post,
+) (take-arguments-at t) take-arguments.Post
+take-arguments-same-length t c = search (tree-laws, answering, needs)
+
+-- src/lib.rt:253:9
 take-arguments-returns : (t : ℕ) → take-arguments-lts.Need-returns (
   takes-count-reads.Asked,
   takes-count-reads.Learnt,
@@ -510,7 +574,20 @@ take-arguments-returns : (t : ℕ) → take-arguments-lts.Need-returns (
 ) (take-arguments-at t) take-arguments.Post
 take-arguments-returns t c = search (tree-laws, answering, needs)
 
--- src/lib.rt:169:9
+-- src/lib.rt:253:9
+take-arguments-same-length-2 : (t : ℕ) → take-arguments-lts.Need-same-length-2 (
+  takes-count-reads.Asked,
+  takes-count-reads.Learnt,
+  take-tree-below t,
+  take-tree.Post,
+  after-reads.Asked,
+  after-reads.Learnt,
+  take-all-below t,
+  take-all.Post,
+) (take-arguments-at t) take-arguments.Post
+take-arguments-same-length-2 t c = search (tree-laws, answering, needs)
+
+-- src/lib.rt:253:9
 take-arguments-returns-2 : (t : ℕ) → take-arguments-lts.Need-returns-2 (
   takes-count-reads.Asked,
   takes-count-reads.Learnt,
@@ -523,7 +600,7 @@ take-arguments-returns-2 : (t : ℕ) → take-arguments-lts.Need-returns-2 (
 ) (take-arguments-at t) take-arguments.Post
 take-arguments-returns-2 t c = search (tree-laws, answering, needs)
 
--- src/lib.rt:162:1
+-- src/lib.rt:237:1
 take-arguments-returns-3 : (t : ℕ) → take-arguments-lts.Need-returns-3 (
   takes-count-reads.Asked,
   takes-count-reads.Learnt,
@@ -536,10 +613,10 @@ take-arguments-returns-3 : (t : ℕ) → take-arguments-lts.Need-returns-3 (
 ) (take-arguments-at t) take-arguments.Post
 take-arguments-returns-3 t c = search (tree-laws, answering, needs)
 
--- src/lib.rt:150:11
-take-bit-number-requires : (t : ℕ) → take-bit-lts.Need-number-requires (
-  number-reads.Asked,
-  number-reads.Learnt,
+-- src/lib.rt:213:11
+take-bit-number-below-requires : (t : ℕ) → take-bit-lts.Need-number-below-requires (
+  number-below-reads.Asked,
+  number-below-reads.Learnt,
   after-reads.Asked,
   after-reads.Learnt,
   take-tree-below t,
@@ -547,12 +624,12 @@ take-bit-number-requires : (t : ℕ) → take-bit-lts.Need-number-requires (
   of-bit-reads.Asked,
   of-bit-reads.Learnt,
 ) (take-bit-at t) take-bit.Post
-take-bit-number-requires t c κs = search (tree-laws, answering, needs)
+take-bit-number-below-requires t c κs = search (tree-laws, answering, needs)
 
--- src/lib.rt:151:25
-take-bit-enum-known-past : (t : ℕ) → take-bit-lts.Need-enum-known-past (
-  number-reads.Asked,
-  number-reads.Learnt,
+-- src/lib.rt:214:22
+take-bit-enum-known-n : (t : ℕ) → take-bit-lts.Need-enum-known-n (
+  number-below-reads.Asked,
+  number-below-reads.Learnt,
   after-reads.Asked,
   after-reads.Learnt,
   take-tree-below t,
@@ -560,12 +637,51 @@ take-bit-enum-known-past : (t : ℕ) → take-bit-lts.Need-enum-known-past (
   of-bit-reads.Asked,
   of-bit-reads.Learnt,
 ) (take-bit-at t) take-bit.Post
-take-bit-enum-known-past t c = search (tree-laws, answering, needs)
+take-bit-enum-known-n t c = search (tree-laws, answering, needs)
 
--- src/lib.rt:152:35
+-- src/lib.rt:215:21
+take-bit-cast-i : (t : ℕ) → take-bit-lts.Need-cast-i (
+  number-below-reads.Asked,
+  number-below-reads.Learnt,
+  after-reads.Asked,
+  after-reads.Learnt,
+  take-tree-below t,
+  take-tree.Post,
+  of-bit-reads.Asked,
+  of-bit-reads.Learnt,
+) (take-bit-at t) take-bit.Post
+take-bit-cast-i t c = search (tree-laws, answering, needs)
+
+-- src/lib.rt:216:26
+take-bit-slice-read-before : (t : ℕ) → take-bit-lts.Need-slice-read-before (
+  number-below-reads.Asked,
+  number-below-reads.Learnt,
+  after-reads.Asked,
+  after-reads.Learnt,
+  take-tree-below t,
+  take-tree.Post,
+  of-bit-reads.Asked,
+  of-bit-reads.Learnt,
+) (take-bit-at t) take-bit.Post
+take-bit-slice-read-before t c = search (tree-laws, answering, needs)
+
+-- src/lib.rt:217:13
+take-bit-slice-write-around : (t : ℕ) → take-bit-lts.Need-slice-write-around (
+  number-below-reads.Asked,
+  number-below-reads.Learnt,
+  after-reads.Asked,
+  after-reads.Learnt,
+  take-tree-below t,
+  take-tree.Post,
+  of-bit-reads.Asked,
+  of-bit-reads.Learnt,
+) (take-bit-at t) take-bit.Post
+take-bit-slice-write-around t c = search (tree-laws, answering, needs)
+
+-- src/lib.rt:220:17
 take-bit-after-requires : (t : ℕ) → take-bit-lts.Need-after-requires (
-  number-reads.Asked,
-  number-reads.Learnt,
+  number-below-reads.Asked,
+  number-below-reads.Learnt,
   after-reads.Asked,
   after-reads.Learnt,
   take-tree-below t,
@@ -575,10 +691,10 @@ take-bit-after-requires : (t : ℕ) → take-bit-lts.Need-after-requires (
 ) (take-bit-at t) take-bit.Post
 take-bit-after-requires t c κs = search (tree-laws, answering, needs)
 
--- src/lib.rt:152:19
+-- src/lib.rt:218:17
 take-bit-take-tree-requires : (t : ℕ) → take-bit-lts.Need-take-tree-requires (
-  number-reads.Asked,
-  number-reads.Learnt,
+  number-below-reads.Asked,
+  number-below-reads.Learnt,
   after-reads.Asked,
   after-reads.Learnt,
   take-tree-below t,
@@ -588,10 +704,10 @@ take-bit-take-tree-requires : (t : ℕ) → take-bit-lts.Need-take-tree-requires
 ) (take-bit-at t) take-bit.Post
 take-bit-take-tree-requires t c κs = search (tree-laws, answering, needs)
 
--- src/lib.rt:153:27
-take-bit-enum-known-end : (t : ℕ) → take-bit-lts.Need-enum-known-end (
-  number-reads.Asked,
-  number-reads.Learnt,
+-- src/lib.rt:226:13
+take-bit-slice-write-around-2 : (t : ℕ) → take-bit-lts.Need-slice-write-around-2 (
+  number-below-reads.Asked,
+  number-below-reads.Learnt,
   after-reads.Asked,
   after-reads.Learnt,
   take-tree-below t,
@@ -599,12 +715,28 @@ take-bit-enum-known-end : (t : ℕ) → take-bit-lts.Need-enum-known-end (
   of-bit-reads.Asked,
   of-bit-reads.Learnt,
 ) (take-bit-at t) take-bit.Post
-take-bit-enum-known-end t c = search (tree-laws, answering, needs)
+take-bit-slice-write-around-2 t c =
+    let around = now (c .before .before .before .before .before .before .before .before .before .before .before .before .args .around) in
+    still-inside around _ (c .before .before .take-tree .ensures .1)
+    (name-inside (c .before .before .before .before .before .before .before .before .before .before .before .before .args .c .at) (c .before .before .before .before .before .before .before .before .before .before .before .before .args .names) around (now (c .before .before .before .before .before .before .before .before .before .before .before .before .args .s)) (c .before .before .before .before .before .before .before .before .before .number-below .ensures) (c .before .before .before .before .before .before .before .n .given .1) (c .before .before .before .before .before .before .before .before .before .before .before .before .pre .1 .1))
 
--- src/lib.rt:153:50
+-- src/lib.rt:228:27
+take-bit-enum-known-body : (t : ℕ) → take-bit-lts.Need-enum-known-body (
+  number-below-reads.Asked,
+  number-below-reads.Learnt,
+  after-reads.Asked,
+  after-reads.Learnt,
+  take-tree-below t,
+  take-tree.Post,
+  of-bit-reads.Asked,
+  of-bit-reads.Learnt,
+) (take-bit-at t) take-bit.Post
+take-bit-enum-known-body t c = search (tree-laws, answering, needs)
+
+-- src/lib.rt:228:50
 take-bit-of-bit-requires : (t : ℕ) → take-bit-lts.Need-of-bit-requires (
-  number-reads.Asked,
-  number-reads.Learnt,
+  number-below-reads.Asked,
+  number-below-reads.Learnt,
   after-reads.Asked,
   after-reads.Learnt,
   take-tree-below t,
@@ -614,10 +746,23 @@ take-bit-of-bit-requires : (t : ℕ) → take-bit-lts.Need-of-bit-requires (
 ) (take-bit-at t) take-bit.Post
 take-bit-of-bit-requires t c κs = search (tree-laws, answering, needs)
 
--- src/lib.rt:154:30
+-- src/lib.rt:229:30
+take-bit-enum-known-body-2 : (t : ℕ) → take-bit-lts.Need-enum-known-body-2 (
+  number-below-reads.Asked,
+  number-below-reads.Learnt,
+  after-reads.Asked,
+  after-reads.Learnt,
+  take-tree-below t,
+  take-tree.Post,
+  of-bit-reads.Asked,
+  of-bit-reads.Learnt,
+) (take-bit-at t) take-bit.Post
+take-bit-enum-known-body-2 t c = search (tree-laws, answering, needs)
+
+-- src/lib.rt:232:23
 take-bit-enum-known-f : (t : ℕ) → take-bit-lts.Need-enum-known-f (
-  number-reads.Asked,
-  number-reads.Learnt,
+  number-below-reads.Asked,
+  number-below-reads.Learnt,
   after-reads.Asked,
   after-reads.Learnt,
   take-tree-below t,
@@ -627,10 +772,10 @@ take-bit-enum-known-f : (t : ℕ) → take-bit-lts.Need-enum-known-f (
 ) (take-bit-at t) take-bit.Post
 take-bit-enum-known-f t c = search (tree-laws, answering, needs)
 
--- src/lib.rt:157:23
-take-bit-enum-known-f-2 : (t : ℕ) → take-bit-lts.Need-enum-known-f-2 (
-  number-reads.Asked,
-  number-reads.Learnt,
+-- src/lib.rt:201:1
+take-bit-same-length : (t : ℕ) → take-bit-lts.Need-same-length (
+  number-below-reads.Asked,
+  number-below-reads.Learnt,
   after-reads.Asked,
   after-reads.Learnt,
   take-tree-below t,
@@ -638,12 +783,12 @@ take-bit-enum-known-f-2 : (t : ℕ) → take-bit-lts.Need-enum-known-f-2 (
   of-bit-reads.Asked,
   of-bit-reads.Learnt,
 ) (take-bit-at t) take-bit.Post
-take-bit-enum-known-f-2 t c = search (tree-laws, answering, needs)
+take-bit-same-length t c = search (tree-laws, answering, needs)
 
--- src/lib.rt:146:1
+-- src/lib.rt:201:1
 take-bit-returns : (t : ℕ) → take-bit-lts.Need-returns (
-  number-reads.Asked,
-  number-reads.Learnt,
+  number-below-reads.Asked,
+  number-below-reads.Learnt,
   after-reads.Asked,
   after-reads.Learnt,
   take-tree-below t,
@@ -653,10 +798,23 @@ take-bit-returns : (t : ℕ) → take-bit-lts.Need-returns (
 ) (take-bit-at t) take-bit.Post
 take-bit-returns t c = search (tree-laws, answering, needs)
 
--- src/lib.rt:146:1
+-- src/lib.rt:201:1
+take-bit-same-length-2 : (t : ℕ) → take-bit-lts.Need-same-length-2 (
+  number-below-reads.Asked,
+  number-below-reads.Learnt,
+  after-reads.Asked,
+  after-reads.Learnt,
+  take-tree-below t,
+  take-tree.Post,
+  of-bit-reads.Asked,
+  of-bit-reads.Learnt,
+) (take-bit-at t) take-bit.Post
+take-bit-same-length-2 t c = search (tree-laws, answering, needs)
+
+-- src/lib.rt:201:1
 take-bit-returns-2 : (t : ℕ) → take-bit-lts.Need-returns-2 (
-  number-reads.Asked,
-  number-reads.Learnt,
+  number-below-reads.Asked,
+  number-below-reads.Learnt,
   after-reads.Asked,
   after-reads.Learnt,
   take-tree-below t,
@@ -666,10 +824,10 @@ take-bit-returns-2 : (t : ℕ) → take-bit-lts.Need-returns-2 (
 ) (take-bit-at t) take-bit.Post
 take-bit-returns-2 t c = search (tree-laws, answering, needs)
 
--- src/lib.rt:146:1
+-- src/lib.rt:201:1
 take-bit-returns-3 : (t : ℕ) → take-bit-lts.Need-returns-3 (
-  number-reads.Asked,
-  number-reads.Learnt,
+  number-below-reads.Asked,
+  number-below-reads.Learnt,
   after-reads.Asked,
   after-reads.Learnt,
   take-tree-below t,
@@ -679,7 +837,7 @@ take-bit-returns-3 : (t : ℕ) → take-bit-lts.Need-returns-3 (
 ) (take-bit-at t) take-bit.Post
 take-bit-returns-3 t c = search (tree-laws, answering, needs)
 
--- src/lib.rt:94:9
+-- src/lib.rt:124:9
 take-body-take-variable-requires : (t : ℕ) → take-body-lts.Need-take-variable-requires (
   take-variable-reads.Asked,
   take-variable-reads.Learnt,
@@ -690,7 +848,18 @@ take-body-take-variable-requires : (t : ℕ) → take-body-lts.Need-take-variabl
 ) (take-body-at t) take-body.Post
 take-body-take-variable-requires t c κs = search (tree-laws, answering, needs)
 
--- src/lib.rt:94:9
+-- src/lib.rt:124:9
+take-body-same-length : (t : ℕ) → take-body-lts.Need-same-length (
+  take-variable-reads.Asked,
+  take-variable-reads.Learnt,
+  take-application-below t,
+  take-application.Post,
+  take-atom-reads.Asked,
+  take-atom-reads.Learnt,
+) (take-body-at t) take-body.Post
+take-body-same-length t c = search (tree-laws, answering, needs)
+
+-- src/lib.rt:124:9
 take-body-returns : (t : ℕ) → take-body-lts.Need-returns (
   take-variable-reads.Asked,
   take-variable-reads.Learnt,
@@ -701,7 +870,7 @@ take-body-returns : (t : ℕ) → take-body-lts.Need-returns (
 ) (take-body-at t) take-body.Post
 take-body-returns t c = search (tree-laws, answering, needs)
 
--- src/lib.rt:97:9
+-- src/lib.rt:127:9
 take-body-take-application-requires : (t : ℕ) → take-body-lts.Need-take-application-requires (
   take-variable-reads.Asked,
   take-variable-reads.Learnt,
@@ -712,7 +881,18 @@ take-body-take-application-requires : (t : ℕ) → take-body-lts.Need-take-appl
 ) (take-body-at t) take-body.Post
 take-body-take-application-requires t c κs = search (tree-laws, answering, needs)
 
--- src/lib.rt:97:9
+-- src/lib.rt:127:9
+take-body-same-length-2 : (t : ℕ) → take-body-lts.Need-same-length-2 (
+  take-variable-reads.Asked,
+  take-variable-reads.Learnt,
+  take-application-below t,
+  take-application.Post,
+  take-atom-reads.Asked,
+  take-atom-reads.Learnt,
+) (take-body-at t) take-body.Post
+take-body-same-length-2 t c = search (tree-laws, answering, needs)
+
+-- src/lib.rt:127:9
 take-body-returns-2 : (t : ℕ) → take-body-lts.Need-returns-2 (
   take-variable-reads.Asked,
   take-variable-reads.Learnt,
@@ -723,7 +903,7 @@ take-body-returns-2 : (t : ℕ) → take-body-lts.Need-returns-2 (
 ) (take-body-at t) take-body.Post
 take-body-returns-2 t c = search (tree-laws, answering, needs)
 
--- src/lib.rt:100:9
+-- src/lib.rt:130:9
 take-body-take-atom-requires : (t : ℕ) → take-body-lts.Need-take-atom-requires (
   take-variable-reads.Asked,
   take-variable-reads.Learnt,
@@ -734,7 +914,7 @@ take-body-take-atom-requires : (t : ℕ) → take-body-lts.Need-take-atom-requir
 ) (take-body-at t) take-body.Post
 take-body-take-atom-requires t c κs = search (tree-laws, answering, needs)
 
--- src/lib.rt:100:9
+-- src/lib.rt:130:9
 take-body-returns-3 : (t : ℕ) → take-body-lts.Need-returns-3 (
   take-variable-reads.Asked,
   take-variable-reads.Learnt,
@@ -745,7 +925,7 @@ take-body-returns-3 : (t : ℕ) → take-body-lts.Need-returns-3 (
 ) (take-body-at t) take-body.Post
 take-body-returns-3 t c = search (tree-laws, answering, needs)
 
--- src/lib.rt:89:1
+-- src/lib.rt:110:1
 take-body-returns-4 : (t : ℕ) → take-body-lts.Need-returns-4 (
   take-variable-reads.Asked,
   take-variable-reads.Learnt,
@@ -756,59 +936,7 @@ take-body-returns-4 : (t : ℕ) → take-body-lts.Need-returns-4 (
 ) (take-body-at t) take-body.Post
 take-body-returns-4 t c = search (tree-laws, answering, needs)
 
--- src/lib.rt:131:11
-take-head-number-requires : (t : ℕ) → take-head-lts.Need-number-requires (
-  number-reads.Asked,
-  number-reads.Learnt,
-  after-reads.Asked,
-  after-reads.Learnt,
-  take-bit-below t,
-  take-bit.Post,
-  take-word-reads.Asked,
-  take-word-reads.Learnt,
-) (take-head-at t) take-head.Post
-take-head-number-requires t c κs = search (tree-laws, answering, needs)
-
--- src/lib.rt:132:22
-take-head-enum-known-tag : (t : ℕ) → take-head-lts.Need-enum-known-tag (
-  number-reads.Asked,
-  number-reads.Learnt,
-  after-reads.Asked,
-  after-reads.Learnt,
-  take-bit-below t,
-  take-bit.Post,
-  take-word-reads.Asked,
-  take-word-reads.Learnt,
-) (take-head-at t) take-head.Post
-take-head-enum-known-tag t c = search (tree-laws, answering, needs)
-
--- src/lib.rt:134:39
-take-head-after-requires : (t : ℕ) → take-head-lts.Need-after-requires (
-  number-reads.Asked,
-  number-reads.Learnt,
-  after-reads.Asked,
-  after-reads.Learnt,
-  take-bit-below t,
-  take-bit.Post,
-  take-word-reads.Asked,
-  take-word-reads.Learnt,
-) (take-head-at t) take-head.Post
-take-head-after-requires t c κs = search (tree-laws, answering, needs)
-
--- src/lib.rt:134:17
-take-head-take-bit-requires : (t : ℕ) → take-head-lts.Need-take-bit-requires (
-  number-reads.Asked,
-  number-reads.Learnt,
-  after-reads.Asked,
-  after-reads.Learnt,
-  take-bit-below t,
-  take-bit.Post,
-  take-word-reads.Asked,
-  take-word-reads.Learnt,
-) (take-head-at t) take-head.Post
-take-head-take-bit-requires t c κs = search (tree-laws, answering, needs)
-
--- src/lib.rt:134:17
+-- src/lib.rt:184:9
 take-head-returns : (t : ℕ) → take-head-lts.Need-returns (
   number-reads.Asked,
   number-reads.Learnt,
@@ -821,8 +949,8 @@ take-head-returns : (t : ℕ) → take-head-lts.Need-returns (
 ) (take-head-at t) take-head.Post
 take-head-returns t c = search (tree-laws, answering, needs)
 
--- src/lib.rt:137:40
-take-head-after-requires-2 : (t : ℕ) → take-head-lts.Need-after-requires-2 (
+-- src/lib.rt:186:11
+take-head-number-requires : (t : ℕ) → take-head-lts.Need-number-requires (
   number-reads.Asked,
   number-reads.Learnt,
   after-reads.Asked,
@@ -832,10 +960,10 @@ take-head-after-requires-2 : (t : ℕ) → take-head-lts.Need-after-requires-2 (
   take-word-reads.Asked,
   take-word-reads.Learnt,
 ) (take-head-at t) take-head.Post
-take-head-after-requires-2 t c κs = search (tree-laws, answering, needs)
+take-head-number-requires t c κs = search (tree-laws, answering, needs)
 
--- src/lib.rt:137:17
-take-head-take-word-requires : (t : ℕ) → take-head-lts.Need-take-word-requires (
+-- src/lib.rt:187:22
+take-head-enum-known-tag : (t : ℕ) → take-head-lts.Need-enum-known-tag (
   number-reads.Asked,
   number-reads.Learnt,
   after-reads.Asked,
@@ -845,9 +973,61 @@ take-head-take-word-requires : (t : ℕ) → take-head-lts.Need-take-word-requir
   take-word-reads.Asked,
   take-word-reads.Learnt,
 ) (take-head-at t) take-head.Post
-take-head-take-word-requires t c κs = search (tree-laws, answering, needs)
+take-head-enum-known-tag t c = search (tree-laws, answering, needs)
 
--- src/lib.rt:137:17
+-- src/lib.rt:189:39
+take-head-after-requires : (t : ℕ) → take-head-lts.Need-after-requires (
+  number-reads.Asked,
+  number-reads.Learnt,
+  after-reads.Asked,
+  after-reads.Learnt,
+  take-bit-below t,
+  take-bit.Post,
+  take-word-reads.Asked,
+  take-word-reads.Learnt,
+) (take-head-at t) take-head.Post
+take-head-after-requires t c κs = search (tree-laws, answering, needs)
+
+-- src/lib.rt:189:72
+take-head-sub-take-bit : (t : ℕ) → take-head-lts.Need-sub-take-bit (
+  number-reads.Asked,
+  number-reads.Learnt,
+  after-reads.Asked,
+  after-reads.Learnt,
+  take-bit-below t,
+  take-bit.Post,
+  take-word-reads.Asked,
+  take-word-reads.Learnt,
+) (take-head-at t) take-head.Post
+take-head-sub-take-bit t c = search (tree-laws, answering, needs)
+
+-- src/lib.rt:189:17
+take-head-take-bit-requires : (t : ℕ) → take-head-lts.Need-take-bit-requires (
+  number-reads.Asked,
+  number-reads.Learnt,
+  after-reads.Asked,
+  after-reads.Learnt,
+  take-bit-below t,
+  take-bit.Post,
+  take-word-reads.Asked,
+  take-word-reads.Learnt,
+) (take-head-at t) take-head.Post
+take-head-take-bit-requires t c κs = search (tree-laws, answering, needs)
+
+-- src/lib.rt:189:17
+take-head-same-length : (t : ℕ) → take-head-lts.Need-same-length (
+  number-reads.Asked,
+  number-reads.Learnt,
+  after-reads.Asked,
+  after-reads.Learnt,
+  take-bit-below t,
+  take-bit.Post,
+  take-word-reads.Asked,
+  take-word-reads.Learnt,
+) (take-head-at t) take-head.Post
+take-head-same-length t c = search (tree-laws, answering, needs)
+
+-- src/lib.rt:189:17
 take-head-returns-2 : (t : ℕ) → take-head-lts.Need-returns-2 (
   number-reads.Asked,
   number-reads.Learnt,
@@ -860,8 +1040,8 @@ take-head-returns-2 : (t : ℕ) → take-head-lts.Need-returns-2 (
 ) (take-head-at t) take-head.Post
 take-head-returns-2 t c = search (tree-laws, answering, needs)
 
--- src/lib.rt:141:23
-take-head-enum-known-f : (t : ℕ) → take-head-lts.Need-enum-known-f (
+-- src/lib.rt:192:40
+take-head-after-requires-2 : (t : ℕ) → take-head-lts.Need-after-requires-2 (
   number-reads.Asked,
   number-reads.Learnt,
   after-reads.Asked,
@@ -871,9 +1051,22 @@ take-head-enum-known-f : (t : ℕ) → take-head-lts.Need-enum-known-f (
   take-word-reads.Asked,
   take-word-reads.Learnt,
 ) (take-head-at t) take-head.Post
-take-head-enum-known-f t c = search (tree-laws, answering, needs)
+take-head-after-requires-2 t c κs = search (tree-laws, answering, needs)
 
--- src/lib.rt:127:1
+-- src/lib.rt:192:17
+take-head-take-word-requires : (t : ℕ) → take-head-lts.Need-take-word-requires (
+  number-reads.Asked,
+  number-reads.Learnt,
+  after-reads.Asked,
+  after-reads.Learnt,
+  take-bit-below t,
+  take-bit.Post,
+  take-word-reads.Asked,
+  take-word-reads.Learnt,
+) (take-head-at t) take-head.Post
+take-head-take-word-requires t c κs = search (tree-laws, answering, needs)
+
+-- src/lib.rt:192:17
 take-head-returns-3 : (t : ℕ) → take-head-lts.Need-returns-3 (
   number-reads.Asked,
   number-reads.Learnt,
@@ -886,7 +1079,20 @@ take-head-returns-3 : (t : ℕ) → take-head-lts.Need-returns-3 (
 ) (take-head-at t) take-head.Post
 take-head-returns-3 t c = search (tree-laws, answering, needs)
 
--- src/lib.rt:127:1
+-- src/lib.rt:196:23
+take-head-enum-known-f : (t : ℕ) → take-head-lts.Need-enum-known-f (
+  number-reads.Asked,
+  number-reads.Learnt,
+  after-reads.Asked,
+  after-reads.Learnt,
+  take-bit-below t,
+  take-bit.Post,
+  take-word-reads.Asked,
+  take-word-reads.Learnt,
+) (take-head-at t) take-head.Post
+take-head-enum-known-f t c = search (tree-laws, answering, needs)
+
+-- src/lib.rt:171:1
 take-head-returns-4 : (t : ℕ) → take-head-lts.Need-returns-4 (
   number-reads.Asked,
   number-reads.Learnt,
@@ -899,7 +1105,20 @@ take-head-returns-4 : (t : ℕ) → take-head-lts.Need-returns-4 (
 ) (take-head-at t) take-head.Post
 take-head-returns-4 t c = search (tree-laws, answering, needs)
 
--- src/lib.rt:80:9
+-- src/lib.rt:171:1
+take-head-returns-5 : (t : ℕ) → take-head-lts.Need-returns-5 (
+  number-reads.Asked,
+  number-reads.Learnt,
+  after-reads.Asked,
+  after-reads.Learnt,
+  take-bit-below t,
+  take-bit.Post,
+  take-word-reads.Asked,
+  take-word-reads.Learnt,
+) (take-head-at t) take-head.Post
+take-head-returns-5 t c = search (tree-laws, answering, needs)
+
+-- src/lib.rt:99:9
 take-tree-returns : (t : ℕ) → take-tree-lts.Need-returns (
   number-reads.Asked,
   number-reads.Learnt,
@@ -910,7 +1129,7 @@ take-tree-returns : (t : ℕ) → take-tree-lts.Need-returns (
 ) (take-tree-at t) take-tree.Post
 take-tree-returns t c = search (tree-laws, answering, needs)
 
--- src/lib.rt:82:11
+-- src/lib.rt:101:11
 take-tree-number-requires : (t : ℕ) → take-tree-lts.Need-number-requires (
   number-reads.Asked,
   number-reads.Learnt,
@@ -921,7 +1140,7 @@ take-tree-number-requires : (t : ℕ) → take-tree-lts.Need-number-requires (
 ) (take-tree-at t) take-tree.Post
 take-tree-number-requires t c κs = search (tree-laws, answering, needs)
 
--- src/lib.rt:83:22
+-- src/lib.rt:102:22
 take-tree-enum-known-tag : (t : ℕ) → take-tree-lts.Need-enum-known-tag (
   number-reads.Asked,
   number-reads.Learnt,
@@ -932,7 +1151,7 @@ take-tree-enum-known-tag : (t : ℕ) → take-tree-lts.Need-enum-known-tag (
 ) (take-tree-at t) take-tree.Post
 take-tree-enum-known-tag t c = search (tree-laws, answering, needs)
 
--- src/lib.rt:83:52
+-- src/lib.rt:103:29
 take-tree-after-requires : (t : ℕ) → take-tree-lts.Need-after-requires (
   number-reads.Asked,
   number-reads.Learnt,
@@ -943,7 +1162,7 @@ take-tree-after-requires : (t : ℕ) → take-tree-lts.Need-after-requires (
 ) (take-tree-at t) take-tree.Post
 take-tree-after-requires t c κs = search (tree-laws, answering, needs)
 
--- src/lib.rt:83:70
+-- src/lib.rt:103:62
 take-tree-sub-take-body : (t : ℕ) → take-tree-lts.Need-sub-take-body (
   number-reads.Asked,
   number-reads.Learnt,
@@ -954,7 +1173,7 @@ take-tree-sub-take-body : (t : ℕ) → take-tree-lts.Need-sub-take-body (
 ) (take-tree-at t) take-tree.Post
 take-tree-sub-take-body t c = search (tree-laws, answering, needs)
 
--- src/lib.rt:83:36
+-- src/lib.rt:103:13
 take-tree-take-body-requires : (t : ℕ) → take-tree-lts.Need-take-body-requires (
   number-reads.Asked,
   number-reads.Learnt,
@@ -965,7 +1184,7 @@ take-tree-take-body-requires : (t : ℕ) → take-tree-lts.Need-take-body-requir
 ) (take-tree-at t) take-tree.Post
 take-tree-take-body-requires t c κs = search (tree-laws, answering, needs)
 
--- src/lib.rt:84:23
+-- src/lib.rt:105:23
 take-tree-enum-known-f : (t : ℕ) → take-tree-lts.Need-enum-known-f (
   number-reads.Asked,
   number-reads.Learnt,
@@ -976,7 +1195,18 @@ take-tree-enum-known-f : (t : ℕ) → take-tree-lts.Need-enum-known-f (
 ) (take-tree-at t) take-tree.Post
 take-tree-enum-known-f t c = search (tree-laws, answering, needs)
 
--- src/lib.rt:75:1
+-- src/lib.rt:86:1
+take-tree-same-length : (t : ℕ) → take-tree-lts.Need-same-length (
+  number-reads.Asked,
+  number-reads.Learnt,
+  after-reads.Asked,
+  after-reads.Learnt,
+  take-body-below t,
+  take-body.Post,
+) (take-tree-at t) take-tree.Post
+take-tree-same-length t c = search (tree-laws, answering, needs)
+
+-- src/lib.rt:86:1
 take-tree-returns-2 : (t : ℕ) → take-tree-lts.Need-returns-2 (
   number-reads.Asked,
   number-reads.Learnt,
@@ -987,7 +1217,7 @@ take-tree-returns-2 : (t : ℕ) → take-tree-lts.Need-returns-2 (
 ) (take-tree-at t) take-tree.Post
 take-tree-returns-2 t c = search (tree-laws, answering, needs)
 
--- src/lib.rt:75:1
+-- src/lib.rt:86:1
 take-tree-returns-3 : (t : ℕ) → take-tree-lts.Need-returns-3 (
   number-reads.Asked,
   number-reads.Learnt,
@@ -1027,7 +1257,9 @@ pub +take-all+take-application+take-arguments+take-bit+take-body+take-head+take-
     (take-all-loop-less t)
     (take-all-loop-again t)
     (take-all-enum-known-f t)
+    (take-all-same-length t)
     (take-all-returns t)
+    (take-all-same-length-2 t)
     (take-all-returns-2 t))
     (λ t. take-application-lts.spec (
       number-reads.Asked,
@@ -1052,7 +1284,9 @@ pub +take-all+take-application+take-arguments+take-bit+take-body+take-head+take-
     (take-application-take-arguments-requires t)
     (take-application-enum-known-f t)
     (take-application-enum-known-f-2 t)
+    (take-application-same-length t)
     (take-application-returns-2 t)
+    (take-application-same-length-2 t)
     (take-application-returns-3 t)
     (take-application-returns-4 t))
     (λ t. take-arguments-lts.spec (
@@ -1074,12 +1308,14 @@ pub +take-all+take-application+take-arguments+take-bit+take-body+take-head+take-
     (take-arguments-sub-take-all t)
     (take-arguments-take-all-requires t)
     (take-arguments-enum-known-f t)
+    (take-arguments-same-length t)
     (take-arguments-returns t)
+    (take-arguments-same-length-2 t)
     (take-arguments-returns-2 t)
     (take-arguments-returns-3 t))
     (λ t. take-bit-lts.spec (
-      number-reads.Asked,
-      number-reads.Learnt,
+      number-below-reads.Asked,
+      number-below-reads.Learnt,
       after-reads.Asked,
       after-reads.Learnt,
       take-tree-below t,
@@ -1089,15 +1325,21 @@ pub +take-all+take-application+take-arguments+take-bit+take-body+take-head+take-
     )
     (take-bit-at t)
     take-bit.Post
-    (take-bit-number-requires t)
-    (take-bit-enum-known-past t)
+    (take-bit-number-below-requires t)
+    (take-bit-enum-known-n t)
+    (take-bit-cast-i t)
+    (take-bit-slice-read-before t)
+    (take-bit-slice-write-around t)
     (take-bit-after-requires t)
     (take-bit-take-tree-requires t)
-    (take-bit-enum-known-end t)
+    (take-bit-slice-write-around-2 t)
+    (take-bit-enum-known-body t)
     (take-bit-of-bit-requires t)
+    (take-bit-enum-known-body-2 t)
     (take-bit-enum-known-f t)
-    (take-bit-enum-known-f-2 t)
+    (take-bit-same-length t)
     (take-bit-returns t)
+    (take-bit-same-length-2 t)
     (take-bit-returns-2 t)
     (take-bit-returns-3 t))
     (λ t. take-body-lts.spec (
@@ -1111,8 +1353,10 @@ pub +take-all+take-application+take-arguments+take-bit+take-body+take-head+take-
     (take-body-at t)
     take-body.Post
     (take-body-take-variable-requires t)
+    (take-body-same-length t)
     (take-body-returns t)
     (take-body-take-application-requires t)
+    (take-body-same-length-2 t)
     (take-body-returns-2 t)
     (take-body-take-atom-requires t)
     (take-body-returns-3 t)
@@ -1129,17 +1373,20 @@ pub +take-all+take-application+take-arguments+take-bit+take-body+take-head+take-
     )
     (take-head-at t)
     take-head.Post
+    (take-head-returns t)
     (take-head-number-requires t)
     (take-head-enum-known-tag t)
     (take-head-after-requires t)
+    (take-head-sub-take-bit t)
     (take-head-take-bit-requires t)
-    (take-head-returns t)
+    (take-head-same-length t)
+    (take-head-returns-2 t)
     (take-head-after-requires-2 t)
     (take-head-take-word-requires t)
-    (take-head-returns-2 t)
-    (take-head-enum-known-f t)
     (take-head-returns-3 t)
-    (take-head-returns-4 t))
+    (take-head-enum-known-f t)
+    (take-head-returns-4 t)
+    (take-head-returns-5 t))
     λ t. take-tree-lts.spec (
       number-reads.Asked,
       number-reads.Learnt,
@@ -1157,5 +1404,6 @@ pub +take-all+take-application+take-arguments+take-bit+take-body+take-head+take-
     (take-tree-sub-take-body t)
     (take-tree-take-body-requires t)
     (take-tree-enum-known-f t)
+    (take-tree-same-length t)
     (take-tree-returns-2 t)
     (take-tree-returns-3 t)
