@@ -4,4 +4,6 @@ pub mod Samples
 pub mod InNotation
 pub mod Cases
 pub mod UseScope
+pub mod PanelPrograms
 pub mod Panel
+pub mod Scans

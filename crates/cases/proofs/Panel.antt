@@ -2,46 +2,11 @@
 use mathlib.Core.Path.{_≡_, refl}
 use Prim.Native.Nat.{ℕ, zero, suc}
 use mathlib.Core.List.{List, [], _∷_}
-use Rattle.model.specs.Objects.{number, point, rung}
-use Rattle.model.specs.Trees.{Tree, var, app, fun, datum, lst, Trees, tnil, tcons}
+use Rattle.model.specs.Objects.{number}
+use Rattle.model.specs.Trees.{Tree, var, app, fun, datum, lst, Trees, tnil}
 use Rattle.model.specs.Writing.{treeImageBytes}
 use Rattle.requests.specs.Panel.{panelJob, PanelResult}
-
--- ---- notation: no words, eight names, no scopes
-
-abbrev image : Tree → List ℕ
-image t = treeImageBytes (record { words = []; names = 8; scopes = 0 }) t
-
-infixr 15 _▹_
-abbrev _▹_ : Tree → Trees → Trees
-t ▹ l = tcons t l
-
-abbrev at : ℕ → Tree
-at x = datum (point x)
-
-abbrev bit : ℕ → ℕ → Tree → Tree
-bit n v b = app (fun n b) (datum (number v) ▹ tnil)
-
-abbrev word : ℕ → Trees → Tree
-word w l = app (datum (rung w)) l
-
-abbrev and : Trees → Tree
-and l = word 0 l
-
-abbrev or : Trees → Tree
-or l = word 1 l
-
-abbrev all : Trees → Tree
-all l = word 5 l
-
-abbrev not : Tree → Tree
-not e = word 2 (e ▹ tnil)
-
-abbrev out : Tree → Tree → Tree
-out p e = word 3 (p ▹ e ▹ tnil)
-
-abbrev set : Tree → Tree → Tree
-set n e = word 4 (n ▹ e ▹ tnil)
+use Rattle.cases.proofs.PanelPrograms.{image, _▹_, at, bit, word, and, all, out, set, latch, three}
 
 abbrev checked : Tree → PanelResult
 checked t = panelJob (image t) (9 ∷ 9 ∷ 9 ∷ [])
@@ -54,18 +19,11 @@ lists n l = record { answer = record { code = 0; units = 0; name = 0; len = n };
 
 -- ---- accepted
 
--- a latch: bit 5 starts at 0, is set by point 1 or itself, and drives point 12
-abbrev latch : Tree
-latch = bit 5 0 (all (set (var 5) (or (at 1 ▹ var 5 ▹ tnil)) ▹ out (at 12) (and (var 5 ▹ not (at 2) ▹ tnil)) ▹ tnil))
-
 latch-checked : checked latch ≡ lists 4 (5 ∷ 9 ∷ 9 ∷ [])
 unfolding panelJob treeImageBytes
 latch-checked = refl
 
 -- outermost and leftmost first; equal names are two bits
-abbrev three : Tree
-three = bit 4 0 (all (bit 6 1 (set (var 6) (var 4)) ▹ bit 4 1 (out (at 0) (var 4)) ▹ tnil))
-
 three-checked : checked three ≡ lists 12 (4 ∷ 6 ∷ 4 ∷ [])
 unfolding panelJob treeImageBytes
 three-checked = refl
