@@ -1,0 +1,9 @@
+pub mod Expressions
+pub mod Programs
+pub mod Fitting
+pub mod Words
+pub mod ByTest
+pub mod Standing
+pub mod Looping
+pub mod Worked
+pub mod Examples
