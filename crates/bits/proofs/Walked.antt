@@ -93,11 +93,11 @@ mutual
 
 -- ---- a token written is read back
 
-token-back : (tag x : ℕ) (rest : List ℕ) → eqb tag 3 ≡ false → tag < 4294967296 → x < 4294967296 → readToken ((numBytes tag ++ numBytes x) ++ rest) ≡ got (token tag x) rest
+pub token-back : (tag x : ℕ) (rest : List ℕ) → eqb tag 3 ≡ false → tag < 4294967296 → x < 4294967296 → readToken ((numBytes tag ++ numBytes x) ++ rest) ≡ got (token tag x) rest
 unfolding readToken readBehind readContent
 token-back tag x rest e h k = rw (append-assoc (numBytes tag) (numBytes x) rest, num-back tag (numBytes x ++ rest) h, e, num-back x rest k)
 
-atom-token-back : (kind x : ℕ) (rest : List ℕ) → kind < 4294967296 → x < 4294967296 → readToken ((numBytes 3 ++ numBytes kind ++ numBytes x) ++ rest) ≡ got (atomToken kind x) rest
+pub atom-token-back : (kind x : ℕ) (rest : List ℕ) → kind < 4294967296 → x < 4294967296 → readToken ((numBytes 3 ++ numBytes kind ++ numBytes x) ++ rest) ≡ got (atomToken kind x) rest
 unfolding readToken readBehind readKind readContent
 atom-token-back kind x rest h k =
     rw (
@@ -108,7 +108,7 @@ atom-token-back kind x rest h k =
       num-back x rest k,
     )
 
-content-small : (k : ℕ) (a : Atom) → k < 4294967296 → AtomFits k a → contentOf a < 4294967296
+pub content-small : (k : ℕ) (a : Atom) → k < 4294967296 → AtomFits k a → contentOf a < 4294967296
 unfolding contentOf lastPoint lastPrimitive lastRungWord
 content-small k (symbol x) h f = omega arith
 content-small k (number x) h f = f

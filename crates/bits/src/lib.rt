@@ -20,7 +20,7 @@ pub struct Token {
     pub content: u32,
 }
 
-enum TokenRead {
+pub enum TokenRead {
     Read(Token, Cursor),
     Fault(Refusal),
 }
@@ -87,7 +87,7 @@ fn read_kind(c: Cursor, s: &[u8]) -> TokenRead
 }
 
 // The token at a cursor, where `s` is the image from there on.
-fn read_token(c: Cursor, s: &[u8]) -> TokenRead
+pub fn read_token(c: Cursor, s: &[u8]) -> TokenRead
     requires { ⌜ c .at + length (now s) ≤ mostImage ⌝ }
     ensures { λ r. ⌜ r ≡ tokenAt (c .at + length (now (s .entry))) (readToken (now (s .entry))) ⌝ }
 {

@@ -1,0 +1,10 @@
+pub mod Runs
+pub mod WordLaws
+pub mod Tails
+pub mod ProgramTails
+pub mod Expressions
+pub mod Programs
+pub mod Wholes
+pub mod ExpressionMeaning
+pub mod Meaning
+pub mod Roots
