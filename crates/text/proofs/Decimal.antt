@@ -27,11 +27,11 @@ digits-before (suc k) n after = by (λ l. digits-before k (n / 10) l) (ltb n 10)
         ∙ sym (append-assoc (digits k (n / 10) []) ((48 + n % 10) ∷ []) after)
         ∙ ap (λ (l : List ℕ). l ++ after) (sym (h ((48 + n % 10) ∷ [])))
 
-one-digit : (k n : ℕ) → n < 10 → digits (suc k) n [] ≡ (48 + n) ∷ []
+pub one-digit : (k n : ℕ) → n < 10 → digits (suc k) n [] ≡ (48 + n) ∷ []
 unfolding digits
 one-digit k n h = simp (lt-ltb n 10 h)
 
-more-digits : (k n : ℕ) → 10 ≤ n → digits (suc k) n [] ≡ digits k (n / 10) [] ++ (48 + n % 10) ∷ []
+pub more-digits : (k n : ℕ) → 10 ≤ n → digits (suc k) n [] ≡ digits k (n / 10) [] ++ (48 + n % 10) ∷ []
 unfolding digits
 more-digits k n h = simp (le-ltb n 10 h) (digits-before k (n / 10) ((48 + n % 10) ∷ []))
 
@@ -59,14 +59,32 @@ module _ (out : List ℕ) (at left n : ℕ) where
       (sym (one-digit (left - 1) n l) ∙ ap (λ (k : ℕ). digits k n []) (one-less left h))
       (record { ends = refl; is = refl })
 
+  one-long : (left ≡ 0 → ⊥) → n < 10 → length (digits left n []) ≡ 1
+  one-long h l = ap (λ (k : ℕ). length (digits k n [])) (sym (one-less left h)) ∙ ap length (one-digit (left - 1) n l)
+
+  more-long : (left ≡ 0 → ⊥) → 10 ≤ n → length (digits left n []) ≡ length (digits (left - 1) (n / 10) []) + 1
+  more-long h l =
+      ap (λ (k : ℕ). length (digits k n [])) (sym (one-less left h))
+      ∙ ap length (more-digits (left - 1) n l)
+      ∙ length-append (digits (left - 1) (n / 10) []) ((48 + n % 10) ∷ [])
+
+  pub one-room : (left ≡ 0 → ⊥) → n < 10 → at + length (digits left n []) ≤ length out → at < length out
+  one-room h l r = let e = one-long h l in omega arith
+
+  pub one-fits : (left ≡ 0 → ⊥) → n < 10 → at + length (digits left n []) ≤ length out → Fits w64 (length out) → Fits w64 (at + 1)
+  one-fits h l r f = let e = one-long h l in omega arith
+
+  pub fewer-room : (left ≡ 0 → ⊥) → 10 ≤ n → at + length (digits left n []) ≤ length out → at + length (digits (left - 1) (n / 10) []) ≤ length out
+  fewer-room h l r = let e = more-long h l in omega arith
+
   module _ {out′ : List ℕ} {past : ℕ} (w : Placed out at (digits (left - 1) (n / 10) []) out′ past) where
-    pub digit-room : (left ≡ 0 → ⊥) → at + left ≤ length out → past < length out′
-    digit-room h r =
-        let e = w .ends in let f = few-digits (left - 1) (n / 10) in let s = placed-length w in
+    pub digit-room : (left ≡ 0 → ⊥) → 10 ≤ n → at + length (digits left n []) ≤ length out → past < length out′
+    digit-room h l r =
+        let e = w .ends in let m = more-long h l in let s = placed-length w in
         omega arith
 
-    pub digit-fits : (left ≡ 0 → ⊥) → at + left ≤ length out → Fits w64 (length out) → Fits w64 (past + 1)
-    digit-fits h r f = let l = digit-room h r in let s = placed-length w in omega arith
+    pub digit-fits : (left ≡ 0 → ⊥) → 10 ≤ n → at + length (digits left n []) ≤ length out → Fits w64 (length out) → Fits w64 (past + 1)
+    digit-fits h l r f = let q = digit-room h l r in let s = placed-length w in omega arith
 
     pub next-digit : (left ≡ 0 → ⊥) → 10 ≤ n → Placed out at (digits left n []) (set out′ past (48 + n % 10)) (past + 1)
     next-digit h l =
@@ -77,4 +95,7 @@ module _ (out : List ℕ) (at left n : ℕ) where
 pub placed-few : {out out′ : List ℕ} {at past : ℕ} (k n : ℕ) → Placed out at (digits k n []) out′ past → past ≤ at + k
 placed-few k n w = let e = w .ends in let f = few-digits k n in omega arith
 
-pub ruleset digit-laws = (no-digits, last-digit, digit-room, digit-fits, next-digit, placed-few, placed-then, placed-length)
+pub decimal-room : (room at n : ℕ) → at + 10 ≤ room → at + length (digits 10 n []) ≤ room
+decimal-room room at n h = let f = few-digits 10 n in omega arith
+
+pub ruleset digit-laws = (no-digits, last-digit, one-room, one-fits, fewer-room, decimal-room, digit-room, digit-fits, next-digit, placed-few, placed-then, placed-length)

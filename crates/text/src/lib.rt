@@ -8,7 +8,7 @@ ghost use Rattle.text.specs.Placing.{Placed};
 ghost use Rattle.text.specs.Hexadecimal.{hexDigit, hexOf};
 
 // A number of 32 bits has at most so many digits.
-const MOST_DIGITS: usize = 10;
+pub const MOST_DIGITS: usize = 10;
 
 // Writes a text at a place, and gives the place past it.
 pub fn put_text(out: &mut [u8], at: usize, text: &[u8]) -> usize
@@ -25,9 +25,9 @@ pub fn put_text(out: &mut [u8], at: usize, text: &[u8]) -> usize
     to
 }
 
-// The digits of a number, `left` at most.
-fn put_digits(out: &mut [u8], at: usize, left: usize, n: u32) -> usize
-    requires { ⌜ at + left ≤ length (now out) ⌝ }
+// The digits of a number, `left` at most, where there is room for just these.
+pub fn put_digits(out: &mut [u8], at: usize, left: usize, n: u32) -> usize
+    requires { ⌜ at + length (digits left n []) ≤ length (now out) ⌝ }
     ensures { λ r. ⌜ Placed (now (out .entry)) at (digits left n []) (now (out .exit)) r ⌝ }
 {
     if left == 0 {

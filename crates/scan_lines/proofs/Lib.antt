@@ -1,0 +1,3 @@
+pub mod Showing
+pub mod Counting
+pub mod Texts
