@@ -1,3 +1,4 @@
 pub mod Wholes
 pub mod OneAnswer
 pub mod PanelAnswers
+pub mod ScanAnswers

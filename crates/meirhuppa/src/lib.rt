@@ -6,3 +6,4 @@ pub mod limits;
 pub mod panel;
 pub mod parse;
 pub mod resolve;
+pub mod scan;

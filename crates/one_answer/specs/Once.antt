@@ -4,8 +4,10 @@ use mathlib.Core.List.{List}
 use Prim.Native.Nat.{ℕ}
 use Rattle.model.specs.Jobs.{Result}
 use Rattle.requests.specs.Panel.{PanelResult}
+use Rattle.requests.specs.ScanJob.{ScanResult}
 use Rattle.meirhuppa.specs.Endings.{Answered}
 use Rattle.meirhuppa.specs.Panels.{PanelAnswered}
+use Rattle.meirhuppa.specs.Scans.{ScanAnswered}
 use Rattle.meirhuppa.specs.declared.answers.Answer.{Answer}
 
 -- they are the job's, and whatever else is the job's is the same
@@ -17,3 +19,8 @@ pub record Once (job : Result) (a : Answer) (output table : List ℕ) : Type 0 w
 pub record PanelOnce (job : PanelResult) (a : Answer) (bits : List ℕ) : Type 0 where
   pub is : PanelAnswered job a bits
   pub only : (b : Answer) (p : List ℕ) → PanelAnswered job b p → (a ≡ b) × (bits ≡ p)
+
+-- of the scan runner, which has no table
+pub record ScanOnce (job : ScanResult) (a : Answer) (output : List ℕ) : Type 0 where
+  pub is : ScanAnswered job a output
+  pub only : (b : Answer) (p : List ℕ) → ScanAnswered job b p → (a ≡ b) × (output ≡ p)

@@ -6,10 +6,12 @@ use meirhuppa::expand;
 use meirhuppa::panel;
 use meirhuppa::parse;
 use meirhuppa::resolve;
+use meirhuppa::scan;
 ghost use mathlib.Core.List.{[]};
 ghost use Rattle.model.specs.Jobs.{resolveJob, expandJob, parseJob, evaluateJob};
 ghost use Rattle.requests.specs.Panel.{panelJob};
-ghost use Rattle.one_answer.specs.Once.{Once, PanelOnce};
+ghost use Rattle.requests.specs.ScanJob.{scanJob};
+ghost use Rattle.one_answer.specs.Once.{Once, PanelOnce, ScanOnce};
 
 pub fn resolve_once(image: &[u8], phase: u32, budget: u32, table: &mut [u32]) -> Answer
     ensures { λ r. ⌜ Once (resolveJob (now (image .entry)) phase budget (now (table .entry))) r [] (now (table .exit)) ⌝ }
@@ -45,4 +47,10 @@ pub fn panel_once(image: &[u8], bits: &mut [u32]) -> Answer
     ensures { λ r. ⌜ PanelOnce (panelJob (now (image .entry)) (now (bits .entry))) r (now (bits .exit)) ⌝ }
 {
     panel::meirhuppa_panel(image, bits)
+}
+
+pub fn scan_once(image: &[u8], recording: &[u8], out: &mut [u8]) -> Answer
+    ensures { λ r. ⌜ ScanOnce (scanJob (now (image .entry)) (now (recording .entry)) (now (out .entry))) r (now (out .exit)) ⌝ }
+{
+    scan::meirhuppa_scan(image, recording, out)
 }

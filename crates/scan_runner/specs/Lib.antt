@@ -1,0 +1,4 @@
+pub mod Refusing
+pub mod Stepping
+pub mod Preparing
+pub mod Running
