@@ -6,10 +6,11 @@ use lib.ListN.{length, replicate, length-replicate}
 use borrow.Author.Tests.{eq-eqb, ne-eqb, le-leb, lt-leb}
 use Rattle.model.specs.Jobs.{Answer, Result, resolveJob, expandJob, parseJob, evaluateJob}
 use Rattle.requests.specs.Panel.{PanelRefusal, PanelEnding, refused, panelOf, roomFor, bitsAfter, PanelResult, panelJob}
+use Rattle.requests.specs.ScanJob.{ScanRefusal, ScanEnding, stopped, scanOf, scanRoom, outputAfterScans, ScanResult, scanJob}
 use Rattle.text.specs.Placing.{Placed}
 use Rattle.answer_line.specs.Format.{wordFill, byteFill, answerLine}
 use Rattle.answer_line.specs.Words.{bytesFill, bytesOfWords}
-use Rattle.answer_line.specs.Calls.{keeping, jobOf, panelBytes, leaving, freshJob, callLine}
+use Rattle.answer_line.specs.Calls.{keeping, jobOf, panelBytes, scanBytes, requestOf, leaving, freshJob, callLine}
 use Rattle.answer_line.proofs.Laying.{laid-over-fill, filled-output}
 
 module _ (job : ℕ) (image : List ℕ) (ph budget : ℕ) (table output : List ℕ) where
@@ -50,21 +51,48 @@ panel-refused image bytes h =
     (ap (λ (k : ℕ). roomFor k (panelOf image)) (length-replicate (bytes / 4) bytesFill) ∙ h)
     ∙ filled-output bytes
 
-module _ (job : ℕ) (image : List ℕ) (ph budget words bytes : ℕ) where
-  pub panel-fresh : {a : Answer} {table output : List ℕ} → 3 < job → table ≡ replicate words wordFill → record { answer = a; output = output; table = [] } ≡ panelBytes image bytes
-      → record { answer = a; output = output; table = table } ≡ freshJob job image ph budget words bytes
-  unfolding freshJob leaving
-  panel-fresh h p e = (λ i. leaving (p i) (e i)) ∙ simp (lt-leb job 3 h)
+-- the output was lent filled
+pub scan-filled : (image recording : List ℕ) (bytes : ℕ) {out out′ : List ℕ} {a : Answer} → out ≡ replicate bytes byteFill
+    → record { answer = a; output = out′ } ≡ scanJob image recording out → record { answer = a; output = out′; table = [] } ≡ scanBytes image recording bytes
+unfolding scanBytes
+scan-filled image recording bytes p e =
+    ap {B = Result} (λ (r : ScanResult). record { answer = r .answer; output = r .output; table = [] }) (e ∙ ap (scanJob image recording) p)
 
-module _ (job : ℕ) (image : List ℕ) (ph budget words bytes : ℕ) {r : Result} where
+-- a refusal leaves every byte of the output as it was filled
+pub scan-refused : (image recording : List ℕ) (bytes : ℕ) {r : ScanRefusal} → scanRoom bytes (scanOf image recording) ≡ stopped r
+    → (scanBytes image recording bytes) .output ≡ replicate bytes byteFill
+unfolding scanBytes scanJob outputAfterScans
+scan-refused image recording bytes h =
+    ap (λ (e : ScanEnding). outputAfterScans e (replicate bytes byteFill))
+    (ap (λ (k : ℕ). scanRoom k (scanOf image recording)) (length-replicate bytes byteFill) ∙ h)
+
+module _ (job : ℕ) (image second : List ℕ) (bytes : ℕ) {r : Result} where
+  pub request-panel : job ≡ 4 → r ≡ panelBytes image bytes → r ≡ requestOf job image second bytes
+  unfolding requestOf
+  request-panel h e = e ∙ simp (eq-eqb job 4 h)
+
+  pub request-scan : (job ≡ 4 → ⊥) → r ≡ scanBytes image second bytes → r ≡ requestOf job image second bytes
+  unfolding requestOf
+  request-scan n e = e ∙ simp (ne-eqb job 4 n)
+
+module _ (job : ℕ) (image second : List ℕ) (ph budget words bytes : ℕ) where
+  pub request-fresh : {a : Answer} {table output : List ℕ} → 3 < job → table ≡ replicate words wordFill
+      → record { answer = a; output = output; table = [] } ≡ requestOf job image second bytes
+      → record { answer = a; output = output; table = table } ≡ freshJob job image second ph budget words bytes
+  unfolding freshJob leaving
+  request-fresh h p e = (λ i. leaving (p i) (e i)) ∙ simp (lt-leb job 3 h)
+
+module _ (job : ℕ) (image second : List ℕ) (ph budget words bytes : ℕ) {r : Result} where
   pub job-fresh : {table output : List ℕ} → job ≤ 3 → table ≡ replicate words wordFill → output ≡ replicate bytes byteFill → r ≡ jobOf job image ph budget table output
-      → r ≡ freshJob job image ph budget words bytes
+      → r ≡ freshJob job image second ph budget words bytes
   unfolding freshJob
   job-fresh h p q e = e ∙ (λ i. jobOf job image ph budget (p i) (q i)) ∙ simp (le-leb job 3 h)
 
-  pub line-of-call : {out out′ : List ℕ} {at past : ℕ} → r ≡ freshJob job image ph budget words bytes → Placed out at (answerLine budget r) out′ past
-      → Placed out at (callLine job image ph budget words bytes) out′ past
+  pub line-of-call : {out out′ : List ℕ} {at past : ℕ} → r ≡ freshJob job image second ph budget words bytes → Placed out at (answerLine budget r) out′ past
+      → Placed out at (callLine job image second ph budget words bytes) out′ past
   unfolding callLine
   line-of-call {out} {out′} {at} {past} e w = subst (λ (z : Result). Placed out at (answerLine budget z) out′ past) e w
 
-pub ruleset answer-laws = (job-resolve, job-expand, job-parse, job-evaluate, panel-laid, panel-fresh, job-fresh, line-of-call)
+pub ruleset request-laws = (scan-filled, request-panel, request-scan)
+
+pub ruleset answer-laws = (job-resolve, job-expand, job-parse, job-evaluate, request-fresh, job-fresh, line-of-call)

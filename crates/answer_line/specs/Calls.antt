@@ -6,6 +6,7 @@ use lib.ListN.{replicate}
 use Rattle.model.specs.Choice.{if_then_else_}
 use Rattle.model.specs.Jobs.{Result, resolveJob, expandJob, parseJob, evaluateJob}
 use Rattle.requests.specs.Panel.{panelJob}
+use Rattle.requests.specs.ScanJob.{scanJob}
 use Rattle.answer_line.specs.Format.{wordFill, byteFill, answerLine}
 use Rattle.answer_line.specs.Words.{bytesFill, bytesOfWords}
 
@@ -27,15 +28,25 @@ panelBytes image bytes =
     let r = panelJob image (replicate (bytes / 4) bytesFill) in
     record { answer = r .answer; output = bytesOfWords (r .bits) ++ replicate (bytes % 4) byteFill; table = [] }
 
+-- the scan runner (job 5) with an output of so many bytes, filled before the call
+unfoldable pub scanBytes : List ℕ → List ℕ → ℕ → Result
+scanBytes image recording bytes =
+    let r = scanJob image recording (replicate bytes byteFill) in record { answer = r .answer; output = r .output; table = [] }
+
+-- the request of document 02 with that number, of image, second input and count of the output's bytes
+unfoldable pub requestOf : ℕ → List ℕ → List ℕ → ℕ → Result
+requestOf job image second bytes = if eqb job 4 then panelBytes image bytes else scanBytes image second bytes
+
 -- it is not lent the table, which stays
 unfoldable pub leaving : List ℕ → Result → Result
 leaving table r = record { answer = r .answer; output = r .output; table = table }
 
--- with a table of so many words and an output of so many bytes, filled before the call
-unfoldable pub freshJob : ℕ → List ℕ → ℕ → ℕ → ℕ → ℕ → Result
-freshJob job image ph budget words bytes =
+-- with a table of so many words and an output of so many bytes, filled before the call; `second` is the input behind the image, which is
+-- empty where a job has none
+unfoldable pub freshJob : ℕ → List ℕ → List ℕ → ℕ → ℕ → ℕ → ℕ → Result
+freshJob job image second ph budget words bytes =
     if leb job 3 then jobOf job image ph budget (replicate words wordFill) (replicate bytes byteFill)
-    else leaving (replicate words wordFill) (panelBytes image bytes)
+    else leaving (replicate words wordFill) (requestOf job image second bytes)
 
-unfoldable pub callLine : ℕ → List ℕ → ℕ → ℕ → ℕ → ℕ → List ℕ
-callLine job image ph budget words bytes = answerLine budget (freshJob job image ph budget words bytes)
+unfoldable pub callLine : ℕ → List ℕ → List ℕ → ℕ → ℕ → ℕ → ℕ → List ℕ
+callLine job image second ph budget words bytes = answerLine budget (freshJob job image second ph budget words bytes)

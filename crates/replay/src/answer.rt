@@ -7,12 +7,14 @@ use meirhuppa::evaluate;
 use meirhuppa::expand;
 use meirhuppa::parse;
 use meirhuppa::resolve;
+use meirhuppa::scan;
 ghost use mathlib.Core.Path.{_≡_};
+ghost use mathlib.Core.List.{[]};
 ghost use Prim.Native.Nat.{_+_, _*_, _≤_};
 ghost use lib.ListN.{length};
 ghost use Rattle.text.specs.Placing.{Placed};
 ghost use Rattle.meirhuppa.specs.Endings.{answerIs};
-ghost use Rattle.answer_line.specs.Calls.{jobOf, freshJob, callLine};
+ghost use Rattle.answer_line.specs.Calls.{jobOf, requestOf, freshJob, callLine};
 
 // The numbers at the head of a call; the last three are sizes.
 pub struct Call {
@@ -35,7 +37,9 @@ impl Call {
 
     pub const PANEL: u32 = 4;
 
-    pub const LAST_JOB: u32 = Call::PANEL;
+    pub const SCAN: u32 = 5;
+
+    pub const LAST_JOB: u32 = Call::SCAN;
 }
 
 // The jobs of document 01. Every number above those of the others is evaluate's: no call that comes here has one over `EVALUATE`.
@@ -54,32 +58,47 @@ fn do_job(call: Call, image: &[u8], table: &mut [u32], output: &mut [u8]) -> Ans
     evaluate::meirhuppa_evaluate(image, call.budget, table, output)
 }
 
-// Any job, with buffers that are filled first. Every number above `EVALUATE` is the panel check's: no call has one over `LAST_JOB`.
-fn do_fresh(call: Call, image: &[u8], table: &mut [u32], output: &mut [u8]) -> Answer
+// The requests of document 02, with an output that is filled first. Every number but `PANEL` is the scan runner's: no call that comes here
+// has another.
+fn do_request(call: Call, image: &[u8], second: &[u8], output: &mut [u8]) -> Answer
     requires { ⌜ length (now output) ≤ 70000 ⌝ }
-    ensures { λ r. ⌜ record { answer = answerIs r; output = now (output .exit); table = now (table .exit) } ≡ freshJob (call .job) (now (image .entry)) (call .phase) (call .budget) (length (now (table .entry))) (length (now (output .entry))) ⌝ }
+    ensures { λ r. ⌜ record { answer = answerIs r; output = now (output .exit); table = [] } ≡ requestOf (call .job) (now (image .entry)) (now (second .entry)) (length (now (output .entry))) ⌝ }
+{
+    if call.job == Call::PANEL {
+        return as_words::panel(image, output);
+    }
+    buffers::fill_bytes(output);
+    scan::meirhuppa_scan(image, second, output)
+}
+
+// Any job, with buffers that are filled first. Every number above `EVALUATE` is a request's: no call has one over `LAST_JOB`.
+fn do_fresh(call: Call, image: &[u8], second: &[u8], table: &mut [u32], output: &mut [u8]) -> Answer
+    requires { ⌜ length (now output) ≤ 70000 ⌝ }
+    ensures { λ r. ⌜ record { answer = answerIs r; output = now (output .exit); table = now (table .exit) } ≡ freshJob (call .job) (now (image .entry)) (now (second .entry)) (call .phase) (call .budget) (length (now (table .entry))) (length (now (output .entry))) ⌝ }
 {
     buffers::fill_words(table, buffers::WORD);
     if Call::EVALUATE < call.job {
-        return as_words::panel(image, output);
+        return do_request(call, image, second, output);
     }
     buffers::fill_bytes(output);
     do_job(call, image, table, output)
 }
 
-// Puts the line of a call on the page, and gives the place past it. The buffers are exactly as long as the call says.
+// Puts the line of a call on the page, and gives the place past it. The buffers are exactly as long as the call says; the second input is
+// empty where the job has none.
 pub fn answer(
     call: Call,
     image: &[u8],
+    second: &[u8],
     table: &mut [u32],
     output: &mut [u8],
     page: &mut [u8],
     at: usize,
 ) -> usize
     requires { ⌜ (at + length (now output) * 2 + 53 ≤ length (now page)) × (length (now output) ≤ 70000) ⌝ }
-    ensures { λ r. ⌜ Placed (now (page .entry)) at (callLine (call .job) (now (image .entry)) (call .phase) (call .budget) (length (now (table .entry))) (length (now (output .entry)))) (now (page .exit)) r ⌝ }
+    ensures { λ r. ⌜ Placed (now (page .entry)) at (callLine (call .job) (now (image .entry)) (now (second .entry)) (call .phase) (call .budget) (length (now (table .entry))) (length (now (output .entry)))) (now (page .exit)) r ⌝ }
 {
-    let a = do_fresh(call, image, table, output);
+    let a = do_fresh(call, image, second, table, output);
     let numbers = Numbers {
         code: a.code,
         units: a.units,

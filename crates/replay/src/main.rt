@@ -9,6 +9,7 @@ use crate::answer::Call;
 use crate::page::MOST_BYTES;
 use crate::page::PAGE;
 use crate::stream::Input;
+use crate::stream::Length;
 use crate::stream::Number;
 use crate::stream::Place;
 ghost use mathlib.Core.Path.{_≡_};
@@ -18,6 +19,7 @@ ghost use Prim.Native.Nat.{_≤_};
 ghost use lib.ListN.{length};
 ghost use Rattle.text.specs.Placing.{Placed};
 ghost use Rattle.replay.specs.Page.{lastStart};
+ghost use Rattle.replay.specs.Stream.{SecondOf};
 
 // The most words of the table that a call may ask for.
 const MOST_WORDS: usize = 170000;
@@ -48,12 +50,35 @@ fn cut(input: Input, count: usize, page: &mut [u8; PAGE]) -> Run
     ended(input, past)
 }
 
-// A call whose head is read, with buffers exactly as long as it says; its line starts where the run is.
+// The inputs of a call: the image, and what stands behind it, into the front of `second`, whose length is given back. That is the scan
+// runner's recording; no other job has any.
+fn read_inputs(
+    job: u32,
+    input: Input,
+    room: &mut [u8; Input::ROOM],
+    image: &mut [u8],
+    second: &mut [u8],
+) -> Length
+    ensures { λ r. ⌜ SecondOf job (length (now (second .exit))) r ⌝ }
+{
+    match input.fill(room, image) {
+        Place::At(past) => {
+            if job == Call::SCAN {
+                return past.bytes(room, second);
+            }
+            Length::Read(0, past)
+        }
+        Place::Cut => Length::Cut,
+    }
+}
+
+// A call whose head is read, with image, table and output exactly as long as it says; its line starts where the run is.
 fn exact(
     call: Call,
     run: Run,
     room: &mut [u8; Input::ROOM],
     image: &mut [u8],
+    second: &mut [u8],
     table: &mut [u32],
     output: &mut [u8],
     page: &mut [u8; PAGE],
@@ -62,16 +87,17 @@ fn exact(
 {
     let input = run.input;
     let count = run.count;
-    match input.fill(room, image) {
-        Place::At(past) => {
-            let end = answer::answer(call, image, table, output, page, count);
+    match read_inputs(call.job, input, room, image, second) {
+        Length::Read(length, past) => {
+            let part = &second[0..length];
+            let end = answer::answer(call, image, part, table, output, page, count);
             Run {
                 input: past,
                 count: end,
                 ongoing: true,
             }
         }
-        Place::Cut => cut(input, count, page),
+        Length::Cut => cut(input, count, page),
     }
 }
 
@@ -81,6 +107,7 @@ fn sized(
     run: Run,
     room: &mut [u8; Input::ROOM],
     image: &mut [u8],
+    second: &mut [u8],
     table: &mut [u32],
     output: &mut [u8],
     page: &mut [u8; PAGE],
@@ -103,6 +130,7 @@ fn sized(
         run,
         room,
         &mut image[0..length],
+        second,
         &mut table[0..words],
         &mut output[0..bytes],
         page,
@@ -114,6 +142,7 @@ fn next(
     run: Run,
     room: &mut [u8; Input::ROOM],
     image: &mut [u8],
+    second: &mut [u8],
     table: &mut [u32],
     output: &mut [u8; MOST_BYTES],
     page: &mut [u8; PAGE],
@@ -137,7 +166,7 @@ fn next(
                     count,
                     ongoing: true,
                 };
-                sized(call, here, room, image, table, output, page)
+                sized(call, here, room, image, second, table, output, page)
             }
             Place::Cut => cut(input, count, page),
         },
@@ -150,6 +179,7 @@ fn next(
 fn answer_all(
     room: &mut [u8; Input::ROOM],
     image: &mut [u8],
+    second: &mut [u8],
     table: &mut [u32],
     output: &mut [u8; MOST_BYTES],
     page: &mut [u8; PAGE],
@@ -161,7 +191,7 @@ fn answer_all(
     };
     let mut turns = u64::MAX;
     while turns > 0 && run.ongoing {
-        run = next(run, room, image, table, output, page);
+        run = next(run, room, image, second, table, output, page);
         turns -= 1;
     }
     page::write_front(page, run.count);
@@ -171,7 +201,15 @@ fn main() {
     let mut room = [0u8; Input::ROOM];
     let mut page = [0u8; PAGE];
     let mut image = [0u8; MOST_BYTES];
+    let mut second = [0u8; MOST_BYTES];
     let mut table = [0u32; MOST_WORDS];
     let mut output = [0u8; MOST_BYTES];
-    answer_all(&mut room, &mut image, &mut table, &mut output, &mut page);
+    answer_all(
+        &mut room,
+        &mut image,
+        &mut second,
+        &mut table,
+        &mut output,
+        &mut page,
+    );
 }

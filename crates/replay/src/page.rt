@@ -4,7 +4,7 @@ ghost use mathlib.Core.Path.{_≡_};
 ghost use Prim.Native.Nat.{_≤_};
 ghost use Rattle.replay.specs.Page.{lastStart, startOf};
 
-// The most that a call may ask for: bytes of image and output.
+// The most that a call may ask for: bytes of the image, of what stands behind it, and of the output.
 pub const MOST_BYTES: usize = 70000;
 
 // Two digits for each byte of the output.

@@ -1,6 +1,7 @@
 // Standard input, byte by byte out of a room that is filled again where all of it is taken.
 ghost use mathlib.Core.Path.{_≡_};
-ghost use Rattle.replay.specs.Stream.{wholeOf};
+ghost use lib.ListN.{length};
+ghost use Rattle.replay.specs.Stream.{wholeOf, Within};
 
 // The bytes in the room that are still to be taken: those from `at` to `end`.
 pub struct Input {
@@ -22,6 +23,12 @@ pub enum Number {
 
 pub enum Place {
     At(Input),
+    Cut,
+}
+
+// The length of an input whose bytes are read too.
+pub enum Length {
+    Read(usize, Input),
     Cut,
 }
 
@@ -127,5 +134,24 @@ impl Input {
             i += 1;
         }
         Place::At(here)
+    }
+
+    // A length and so many bytes, into the front of `into`.
+    pub fn bytes(self, room: &mut [u8; Input::ROOM], into: &mut [u8]) -> Length
+        ensures { λ r. ⌜ Within (length (now (into .entry))) r ⌝ }
+    {
+        match self.number(room) {
+            Number::Read(number, past) => {
+                let length = number as usize;
+                if into.len() < length {
+                    return Length::Cut;
+                }
+                match past.fill(room, &mut into[0..length]) {
+                    Place::At(behind) => Length::Read(length, behind),
+                    Place::Cut => Length::Cut,
+                }
+            }
+            Number::End | Number::Cut => Length::Cut,
+        }
     }
 }

@@ -7,10 +7,10 @@ use Rattle.replay.proofs.answer_all.Statement.{statement}
 use Rattle.replay.proofs.answer_all.Tie as tie
 
 abbrev Inv-loop : tie.InvT-loop
-Inv-loop room₀ image₀ table₀ output₀ page₀ run₀ turns₀ room image table output page run turns = (turns ≤ 18446744073709551615) × (length image ≡ length image₀) × (length table ≡ length table₀)
+Inv-loop room₀ image₀ second₀ table₀ output₀ page₀ run₀ turns₀ room image second table output page run turns = (turns ≤ 18446744073709551615) × (length image ≡ length image₀) × (length second ≡ length second₀) × (length table ≡ length table₀)
 
 abbrev μ-loop : tie.MeasureT-loop
-μ-loop room₀ image₀ table₀ output₀ page₀ run₀ turns₀ room image table output page run turns = turns
+μ-loop room₀ image₀ second₀ table₀ output₀ page₀ run₀ turns₀ room image second table output page run turns = turns
 
 start-requires : tie.Need-start-requires Inv-loop μ-loop
 start-requires c κs = search needs
@@ -39,6 +39,9 @@ same-length c = search needs
 same-length-2 : tie.Need-same-length-2 Inv-loop μ-loop
 same-length-2 c = search needs
 
+same-length-3 : tie.Need-same-length-3 Inv-loop μ-loop
+same-length-3 c = search needs
+
 returns : tie.Need-returns Inv-loop μ-loop
 returns c = search needs
 
@@ -57,4 +60,5 @@ answer-all-spec =
     write-front-requires
     same-length
     same-length-2
+    same-length-3
     returns)

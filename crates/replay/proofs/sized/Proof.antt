@@ -46,7 +46,7 @@ part-exact-end-3 : tie.Need-part-exact-end-3
 part-exact-end-3 c = search needs
 
 exact-requires : tie.Need-exact-requires
-exact-requires c κs = search (part-within, c .before .before .before .before .before .before .before .before .before .before .before .before .before .before .before .before .pre, needs)
+exact-requires c κs = search (part-within, c .before .before .before .before .before .before .before .before .before .before .before .before .before .before .before .before .before .before .pre, needs)
 
 same-length : tie.Need-same-length
 same-length c = search needs
@@ -56,6 +56,9 @@ same-length-2 c = search needs
 
 same-length-3 : tie.Need-same-length-3
 same-length-3 c = search needs
+
+same-length-4 : tie.Need-same-length-4
+same-length-4 c = search needs
 
 returns-2 : tie.Need-returns-2
 returns-2 c = search needs
@@ -82,4 +85,5 @@ sized-spec =
     same-length
     same-length-2
     same-length-3
+    same-length-4
     returns-2)

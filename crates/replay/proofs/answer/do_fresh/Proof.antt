@@ -6,8 +6,8 @@ use Rattle.replay.proofs.answer.do_fresh.Tie as tie
 fill-words-requires : tie.Need-fill-words-requires
 fill-words-requires c κs = search (answer-laws, needs)
 
-panel-requires : tie.Need-panel-requires
-panel-requires c κs = search (answer-laws, needs)
+do-request-requires : tie.Need-do-request-requires
+do-request-requires c κs = search (answer-laws, needs)
 
 same-length : tie.Need-same-length
 same-length c = search (answer-laws, needs)
@@ -38,7 +38,7 @@ do-fresh-spec =
     tie.close
     (tie.spec
     fill-words-requires
-    panel-requires
+    do-request-requires
     same-length
     same-length-2
     returns

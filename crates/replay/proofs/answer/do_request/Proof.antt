@@ -1,0 +1,37 @@
+use Rattle.answer_line.proofs.Calls.{request-laws}
+use borrow.Author.Needs.{needs}
+use Rattle.replay.proofs.answer.do_request.Statement.{statement}
+use Rattle.replay.proofs.answer.do_request.Tie as tie
+
+panel-requires : tie.Need-panel-requires
+panel-requires c κs = search needs
+
+same-length : tie.Need-same-length
+same-length c = search needs
+
+returns : tie.Need-returns
+returns c = search (request-laws, needs)
+
+fill-bytes-requires : tie.Need-fill-bytes-requires
+fill-bytes-requires c κs = search needs
+
+meirhuppa-scan-requires : tie.Need-meirhuppa-scan-requires
+meirhuppa-scan-requires c κs = search needs
+
+same-length-2 : tie.Need-same-length-2
+same-length-2 c = search needs
+
+returns-2 : tie.Need-returns-2
+returns-2 c = search (request-laws, needs)
+
+pub do-request-spec : {M : Type 1} → statement M
+do-request-spec =
+    tie.close
+    (tie.spec
+    panel-requires
+    same-length
+    returns
+    fill-bytes-requires
+    meirhuppa-scan-requires
+    same-length-2
+    returns-2)
