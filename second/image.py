@@ -17,12 +17,15 @@ Notation for trees:
     x 9 @12 #0 '0         atoms, as above
     <a b>                 list value
     `(a b){1}             syntax value
+
+Notation for recordings: a text for each scan, as "@1=1 @12=0", or "" where nothing changes.
 """
+import collections
 
 CORE = ["lambda", "let-syntax", "quote", "syntax"]
 PRIMITIVES = ["stx-e", "mk-stx", "first", "rest", "link", "same", "pick"]
 RUNG_WORDS = ["and", "or", "not", "out", "set", "all"]
-JOBS = ["resolve", "expand", "parse", "evaluate", "panel"]
+JOBS = ["resolve", "expand", "parse", "evaluate", "panel", "scan"]
 SYMBOL, NUMBER, POINT, PRIMITIVE, RUNG_WORD, LIST = range(6)
 VARIABLE, APPLICATION, FUNCTION, ATOM, LIST_VALUE, SYNTAX_VALUE = range(6)
 TABLE_WORDS_PER_UNIT = 40
@@ -198,16 +201,40 @@ def bits(names):
     return b"".join(name.to_bytes(4, "little") for name in names)
 
 
-def call(job, image, phase=0, budget=1024, table=None, output=65536):
+def scan_changes(text):
+    """The changes of a scan, as (point, value)."""
+    pairs = (change.lstrip("@").split("=") for change in text.split())
+    return [(int(point), int(value)) for point, value in pairs]
+
+
+def recording(scans):
+    """A recording as bytes. The changes are written as they stand, in order or not."""
+    out = number(len(scans))
+    for scan in map(scan_changes, scans):
+        out += number(len(scan)) + b"".join(number(point) + number(value) for point, value in scan)
+    return out
+
+
+# A call of the stream; the recording is empty but for the job scan, whose number is SCAN.
+Call = collections.namedtuple("Call", "job phase budget table output image recording")
+SCAN = JOBS.index("scan")
+
+
+def call_bytes(call, number=number):
+    """A call as it stands in a stream, its numbers written by number."""
+    out = b"".join(number(n) for n in (*call[:5], len(call.image))) + call.image
+    return out + number(len(call.recording)) + call.recording if call.job == SCAN else out
+
+
+def call(job, image, phase=0, budget=1024, table=None, output=65536, recording=b""):
     """A call of the stream. The table is just large enough unless given."""
     if table is None:
         table = min(TABLE_WORDS_PER_UNIT * budget, LARGEST_TABLE)
-    job = JOBS.index(job)
-    return b"".join(number(n) for n in (job, phase, budget, table, output, len(image))) + image
+    return call_bytes(Call(JOBS.index(job), phase, budget, table, output, image, recording))
 
 
 def calls_of(stream):
-    """The calls of a stream, as (job, phase, budget, table, output, image)."""
+    """The calls of a stream."""
     place, end = 0, len(stream)
 
     def next_number():
@@ -221,11 +248,16 @@ def calls_of(stream):
             if byte < 128:
                 return value
 
+    def next_bytes():
+        nonlocal place
+        length = next_number()
+        place += length
+        return stream[place - length:place]
+
     while place < end:
-        numbers = [next_number() for _ in range(6)]
-        image = stream[place:place + numbers[5]]
-        place += numbers[5]
-        yield (*numbers[:5], image)
+        numbers = [next_number() for _ in range(5)]
+        image = next_bytes()
+        yield Call(*numbers, image, next_bytes() if numbers[0] == SCAN else b"")
 
 
 # ---- reading, for people: damage is shown, not judged ----
@@ -240,7 +272,7 @@ class Shower:
 
     def byte(self):
         if self.place >= len(self.image):
-            raise Damage("the image ends here")
+            raise Damage("the bytes end here")
         self.place += 1
         return self.image[self.place - 1]
 
@@ -346,7 +378,31 @@ def show_bits(written):
 
 def show_written(job, written):
     """What a job, given by its name, wrote, as lines."""
+    if job == "scan":
+        return written.decode("latin-1").splitlines()
     return [show_bits(written)] if job == "panel" else show(written)
+
+
+class RecordingShower(Shower):
+    def change(self):
+        point = self.number()
+        return f" @{point}={self.number()}"
+
+    def lines(self):
+        try:
+            scans = self.number()
+            yield f"scans {scans}"
+            for scan in range(min(scans, len(self.image))):
+                yield f"scan {scan + 1}:" + "".join(self.change() for _ in self.count())
+            if self.place < len(self.image):
+                yield f"left over: {self.image[self.place:].hex()}"
+        except Damage as damage:
+            yield f"at byte {self.place}: {damage}"
+
+
+def show_recording(given):
+    """A recording readably, as lines."""
+    return list(RecordingShower(given).lines())
 
 
 def show(image):

@@ -1,6 +1,7 @@
 #include "jobs.h"
 
-#include "panel.h"
+#include <string.h>
+
 #include "work.h"
 
 /* Code 3: a variable, outside syntax values, without a function of its name
@@ -73,7 +74,8 @@ static void do_job(Work *work, const Call *call, Answer *answer)
         do_evaluate(work);
         break;
     case JOB_PANEL:
-        return; /* takes no budget and does not come here */
+    case JOB_SCAN:
+        return; /* take no budget and do not come here */
     }
     if (work->code != SUCCESS)
         return;
@@ -93,17 +95,20 @@ static void write_bits(const Panel *panel, Answer *answer)
             answer->output[answer->length++] = (uint8_t)(panel->names[i] >> (8 * byte));
 }
 
+Code load_panel(Memory *memory, const Call *call, Image *image, Panel *panel)
+{
+    Code code = read_image(memory, call->image, call->image_length, TREE_IMAGE, image);
+    if (code != SUCCESS)
+        return code;
+    if (!is_closed(image->tree, NULL))
+        return FREE_VARIABLE;
+    return check_panel(image->tree, panel);
+}
+
 static void answer_panel(Memory *memory, const Call *call, Image *image, Answer *answer)
 {
     static Panel panel;
-    answer->code = read_image(memory, call->image, call->image_length, TREE_IMAGE, image);
-    if (answer->code != SUCCESS)
-        return;
-    if (!is_closed(image->tree, NULL)) {
-        answer->code = FREE_VARIABLE;
-        return;
-    }
-    answer->code = check_panel(image->tree, &panel);
+    answer->code = load_panel(memory, call, image, &panel);
     if (answer->code != SUCCESS)
         return;
     uint32_t room = call->output_length / BYTES_PER_BIT; /* whole words */
@@ -111,6 +116,55 @@ static void answer_panel(Memory *memory, const Call *call, Image *image, Answer 
         answer->code = TOO_LONG;
     else
         write_bits(&panel, answer);
+}
+
+Code load_scans(Memory *memory, const Call *call, Runner *runner, Recording *recording)
+{
+    static Image image;
+    static Panel panel;
+    Code code = load_panel(memory, call, &image, &panel);
+    if (code != SUCCESS)
+        return code;
+    code = read_recording(memory, call->recording, call->recording_length, recording);
+    if (code != SUCCESS)
+        return code;
+    if (changes_driven(recording, panel.driven))
+        return CHANGES_DRIVEN;
+    start_runner(memory, image.tree, &panel, runner);
+    return SUCCESS;
+}
+
+/* The lines one after another, as long as they go in. */
+static bool write_lines(Runner *runner, const Recording *recording, size_t room, Answer *answer)
+{
+    uint8_t line[LONGEST_LINE];
+    size_t written = 0;
+    for (uint32_t i = 0; i < recording->count; i++) {
+        size_t length = run_scan(runner, &recording->scans[i], line);
+        if (length > room - written)
+            return false;
+        memcpy(answer->output + written, line, length);
+        written += length;
+    }
+    answer->length = (uint32_t)written;
+    return true;
+}
+
+static void answer_scan(Memory *memory, const Call *call, Answer *answer)
+{
+    static Runner runner;
+    Recording recording;
+    answer->code = load_scans(memory, call, &runner, &recording);
+    if (answer->code != SUCCESS)
+        return;
+    size_t room = call->output_length < LONGEST_OUTPUT ? call->output_length : LONGEST_OUTPUT;
+    if (!write_lines(&runner, &recording, room, answer))
+        answer->code = TOO_LONG;
+}
+
+bool is_unbudgeted(Job job)
+{
+    return job == JOB_PANEL || job == JOB_SCAN;
 }
 
 void answer_call(Memory *memory, const Call *call, Answer *answer)
@@ -121,6 +175,10 @@ void answer_call(Memory *memory, const Call *call, Answer *answer)
 
     if (call->job == JOB_PANEL) {
         answer_panel(memory, call, &image, answer);
+        return;
+    }
+    if (call->job == JOB_SCAN) {
+        answer_scan(memory, call, answer);
         return;
     }
     if (call->budget > MOST_BUDGET ||

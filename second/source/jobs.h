@@ -6,17 +6,23 @@
 #include <stdint.h>
 
 #include "image.h"
+#include "scans.h"
 
-typedef enum { JOB_RESOLVE, JOB_EXPAND, JOB_PARSE, JOB_EVALUATE, JOB_PANEL } Job;
+typedef enum { JOB_RESOLVE, JOB_EXPAND, JOB_PARSE, JOB_EVALUATE, JOB_PANEL, JOB_SCAN } Job;
+
+/* Lines of scans may be longer than an image; a stream lends no more than this. */
+enum { LONGEST_OUTPUT = 70000 };
 
 typedef struct {
     Job job;
-    uint32_t phase; /* not used by parse, evaluate and panel */
-    uint32_t budget; /* not used by panel, nor is the table */
+    uint32_t phase; /* used by resolve and expand */
+    uint32_t budget; /* not used by panel and scan, nor is the table */
     uint32_t table_words;
     uint32_t output_length; /* not used by resolve */
     const uint8_t *image;
     size_t image_length;
+    const uint8_t *recording; /* used by scan */
+    size_t recording_length;
 } Call;
 
 typedef struct {
@@ -24,8 +30,18 @@ typedef struct {
     uint32_t units;
     uint32_t name;
     uint32_t length;
-    uint8_t output[LONGEST_IMAGE]; /* the first length bytes are written */
+    uint8_t output[LONGEST_OUTPUT]; /* the first length bytes are written */
 } Answer;
+
+/* Whether the job takes neither phase, budget nor table. */
+bool is_unbudgeted(Job job);
+
+/* Reads a tree image and checks it against the profile: every refusal of the
+   panel check but 20. */
+Code load_panel(Memory *memory, const Call *call, Image *image, Panel *panel);
+
+/* Loads a call of scan: every refusal of it but 20. */
+Code load_scans(Memory *memory, const Call *call, Runner *runner, Recording *recording);
 
 /* Answers a call. The memory is cleared first. */
 void answer_call(Memory *memory, const Call *call, Answer *answer);

@@ -1,5 +1,5 @@
-/* The limits and codes of document 01 as requests T-01, T-07 and T-09 amend it,
-   each with its number. */
+/* The limits and codes of document 01 as requests T-01, T-02, T-07 and T-09 amend
+   it, each with its number. */
 #ifndef LIMITS_H
 #define LIMITS_H
 
@@ -12,6 +12,7 @@ enum {
     MOST_BUDGET = 4096,
     LONGEST_WORD = 32,
     LONGEST_IMAGE = 65536,
+    LONGEST_RECORDING = 65536,
     LARGEST_POINT = 1023,
     LARGEST_PRIMITIVE = 6,
     LARGEST_RUNG_WORD = 15,
@@ -54,7 +55,9 @@ typedef enum {
     TOO_LONG = 20,
     OUTSIDE_PROFILE = 21,
     DRIVEN_TWICE = 22,
-    TOO_MANY_BITS = 23
+    TOO_MANY_BITS = 23,
+    BAD_RECORDING = 24,
+    CHANGES_DRIVEN = 25
 } Code;
 
 #endif

@@ -3,12 +3,12 @@
 
 int main(void)
 {
-    static uint8_t image[LARGEST_STREAM_SIZE];
+    static Inputs inputs;
     static Answer answer;
     Memory *memory = new_memory();
     Call call;
     Met met;
-    while ((met = read_call(stdin, &call, image)) == A_CALL) {
+    while ((met = read_call(stdin, &call, &inputs)) == A_CALL) {
         answer_call(memory, &call, &answer);
         write_answer_line(stdout, &call, &answer);
     }

@@ -20,13 +20,23 @@ static Met read_stream_number(FILE *stream, uint32_t *number)
     return CUT;
 }
 
-Met read_call(FILE *stream, Call *call, uint8_t *image)
+/* A length and so many bytes. */
+static bool read_input(FILE *stream, uint8_t bytes[LARGEST_STREAM_SIZE], size_t *length)
 {
-    uint32_t job, length;
+    uint32_t number;
+    if (read_stream_number(stream, &number) != A_CALL || number > LARGEST_STREAM_SIZE)
+        return false;
+    *length = number;
+    return fread(bytes, 1, number, stream) == number;
+}
+
+Met read_call(FILE *stream, Call *call, Inputs *inputs)
+{
+    uint32_t job;
     Met met = read_stream_number(stream, &job);
     if (met != A_CALL)
         return met;
-    if (job > JOB_PANEL)
+    if (job > JOB_SCAN)
         return CUT;
     call->job = (Job)job;
     if (read_stream_number(stream, &call->phase) != A_CALL ||
@@ -35,12 +45,13 @@ Met read_call(FILE *stream, Call *call, uint8_t *image)
         call->table_words > LARGEST_STREAM_TABLE ||
         read_stream_number(stream, &call->output_length) != A_CALL ||
         call->output_length > LARGEST_STREAM_SIZE ||
-        read_stream_number(stream, &length) != A_CALL || length > LARGEST_STREAM_SIZE)
+        !read_input(stream, inputs->image, &call->image_length))
         return CUT;
-    if (fread(image, 1, length, stream) != length)
+    call->image = inputs->image;
+    call->recording = inputs->recording;
+    call->recording_length = 0;
+    if (job == JOB_SCAN && !read_input(stream, inputs->recording, &call->recording_length))
         return CUT;
-    call->image = image;
-    call->image_length = length;
     return A_CALL;
 }
 
@@ -53,6 +64,12 @@ static void write_stream_number(FILE *stream, uint32_t number)
     putc((int)number, stream);
 }
 
+static void write_input(FILE *stream, const uint8_t *bytes, size_t length)
+{
+    write_stream_number(stream, (uint32_t)length);
+    fwrite(bytes, 1, length, stream);
+}
+
 void write_call(FILE *stream, const Call *call)
 {
     write_stream_number(stream, call->job);
@@ -60,8 +77,9 @@ void write_call(FILE *stream, const Call *call)
     write_stream_number(stream, call->budget);
     write_stream_number(stream, call->table_words);
     write_stream_number(stream, call->output_length);
-    write_stream_number(stream, (uint32_t)call->image_length);
-    fwrite(call->image, 1, call->image_length, stream);
+    write_input(stream, call->image, call->image_length);
+    if (call->job == JOB_SCAN)
+        write_input(stream, call->recording, call->recording_length);
 }
 
 /* What a right implementation does to the table: nothing after code 5 or in a
@@ -69,7 +87,7 @@ void write_call(FILE *stream, const Call *call)
    words are cleared. */
 static const char *table_column(const Call *call, const Answer *answer)
 {
-    if (call->job == JOB_PANEL)
+    if (is_unbudgeted(call->job))
         return "kept";
     return answer->code == BAD_BUDGET || call->budget == 0 ? "kept" : "clear";
 }

@@ -7,14 +7,19 @@
 
 #include "jobs.h"
 
-/* The most words of a table, and the most bytes of an output or image. */
-enum { LARGEST_STREAM_TABLE = 170000, LARGEST_STREAM_SIZE = 70000 };
+/* The most words of a table, and the most bytes of an output, image or recording. */
+enum { LARGEST_STREAM_TABLE = 170000, LARGEST_STREAM_SIZE = LONGEST_OUTPUT };
+
+/* The bytes that a call of the stream brings. */
+typedef struct {
+    uint8_t image[LARGEST_STREAM_SIZE];
+    uint8_t recording[LARGEST_STREAM_SIZE];
+} Inputs;
 
 typedef enum { A_CALL, THE_END, CUT } Met;
 
-/* Reads the next call; its image is put into image, which has room for
-   LARGEST_STREAM_SIZE bytes. */
-Met read_call(FILE *stream, Call *call, uint8_t *image);
+/* Reads the next call; its bytes are put into inputs. */
+Met read_call(FILE *stream, Call *call, Inputs *inputs);
 
 void write_call(FILE *stream, const Call *call);
 
