@@ -1,12 +1,14 @@
-"""Edge cases of document 01, as requests T-01, T-03, T-07 and T-09 amend it, worked out by hand.
+"""Edge cases of document 01, as requests T-01, T-02, T-03, T-07 and T-09 amend it, worked out by hand.
 
 Each case is a reason, a call and the answer that document 01 asks for. The
 notation is the one of image.py. `steps` walks through the charges of a call
 one after another: with a budget just short of a charge the answer is code 19
 with the units charged before it, and with the whole budget the call ends. The
-cases of the panel check (T-01) are in panel_cases.py.
+cases of the panel check (T-01) are in panel_cases.py, those of the scan runner
+(T-02) in scan_cases.py.
 """
 import panel_cases
+import scan_cases
 from image import (call, head, number, scope_set, sets, syntax_image, tree_image)
 
 CASES = []  # (reason, call bytes, job, code, units, name, output or None, table)
@@ -1358,6 +1360,6 @@ for length in (65536, 65537):
         case("a result of 65,537 bytes in a longer output", "evaluate", image, 20, 38 + 3 + 7 + 9,
              output=70000)
 
-# ==== the panel check ====
+# ==== the panel check and the scan runner ====
 
-CASES += panel_cases.CASES
+CASES += panel_cases.CASES + scan_cases.CASES

@@ -1,7 +1,8 @@
 #!/usr/bin/env python3
-"""large_panel.py rungs|points [BYTES]: writes a legal panel program, a tree image of 65,536 bytes or as many as are named, on standard output.
+"""large_panel.py rungs|sets|points [BYTES]: writes a legal panel program, a tree image of 65,536 bytes or as many as are named, on standard output.
 
     rungs     a bit, and as many short rungs as go in; the first ones drive all the points
+    sets      a bit, and as many rungs as go in, all of which set it; no point is driven
     points    one rung, whose expression reads as many points and bits as go in
 """
 import sys
@@ -19,12 +20,17 @@ def rung(index):
     return f"('out @{index} $4)" if index < POINTS else "('set $4 @1)"
 
 
+def coil(_):
+    return "('set $4 @10)"
+
+
 def contact(index):
     """Points of one byte and of two, and the bit."""
     return f"@{index % POINTS}" if index % 5 else "$4"
 
 
-SHAPES = {"rungs": (rung, "([4 ('all %s)] 0)"), "points": (contact, "([4 ('out @1023 ('or %s))] 0)")}
+SHAPES = {"rungs": (rung, "([4 ('all %s)] 0)"), "sets": (coil, "([4 ('all %s)] 0)"),
+          "points": (contact, "([4 ('out @1023 ('or %s))] 0)")}
 
 
 def parts_that_fit(part, size):
