@@ -2,9 +2,10 @@
 
        calls --seed S --count N [--small BYTES]
 
-   Each image is first answered with all the budget there is. The calls then
-   hand out budgets, tables and outputs around what it needed. --small keeps
-   images shorter than so many bytes, and nearly all budgets to 200 at most. */
+   Each call is first answered with all the budget and output there is. The
+   calls then hand out budgets, tables and outputs around what it needed.
+   --small keeps images and recordings shorter than so many bytes, and nearly
+   all budgets to 200 at most. */
 #include <stdlib.h>
 #include <string.h>
 
@@ -79,23 +80,77 @@ static uint32_t choose_output(uint32_t need)
     return LONGEST_IMAGE + below(3) - 1;
 }
 
-/* The panel check takes neither phase, budget nor table; its output is words. */
-static void choose_panel_sizes(Call *call, uint32_t need)
+/* Phase, budget and table of a job that takes none. */
+static void choose_unused(Call *call)
 {
     call->phase = percent(95) ? below(5) : (uint32_t)next_chance();
     call->budget = percent(95) ? below(4) : (uint32_t)next_chance();
     call->table_words = percent(95) ? below(90) : below(LARGEST_STREAM_TABLE + 1);
+}
+
+/* The output of the panel check is words. */
+static uint32_t choose_panel_output(uint32_t need)
+{
     uint32_t choice = below(100);
     if (choice < 30)
-        call->output_length = need;
-    else if (choice < 50)
-        call->output_length = need + between(1, 9);
-    else if (choice < 60 && need > 0)
-        call->output_length = need - between(1, 4);
-    else if (choice < 68)
-        call->output_length = below(need + 1);
-    else
-        call->output_length = choice < 98 ? MOST_BITS * BYTES_PER_BIT : LONGEST_IMAGE;
+        return need;
+    if (choice < 50)
+        return need + between(1, 9);
+    if (choice < 60 && need > 0)
+        return need - between(1, 4);
+    if (choice < 68)
+        return below(need + 1);
+    return choice < 98 ? MOST_BITS * BYTES_PER_BIT : LONGEST_IMAGE;
+}
+
+/* Lines may be longer than an image. */
+static uint32_t choose_lines_output(uint32_t need)
+{
+    uint32_t choice = below(100);
+    if (choice < 8 && need > 0)
+        return need - 1;
+    if (choice < 14)
+        return below(need + 1);
+    if (choice < 50)
+        return need;
+    return choice < 60 && need < LARGEST_STREAM_SIZE ? need + 1 : LARGEST_STREAM_SIZE;
+}
+
+/* A recording for the image of a call, whatever the image is. */
+static void add_recording(Call *call)
+{
+    static Draft recorded;
+    static Image image;
+    static Panel panel;
+    memset(&panel, 0, sizeof panel);
+    clear_memory(memory);
+    load_panel(memory, call, &image, &panel);
+    draft_recording(panel.driven, small > 0, &recorded);
+    if (percent(8))
+        damage_draft(&recorded, &recorded);
+    call->recording = recorded.bytes;
+    call->recording_length = recorded.length;
+}
+
+static void choose_sizes(Call *call, const Answer *answer)
+{
+    if (is_unbudgeted(call->job)) {
+        choose_unused(call);
+        call->output_length = call->job == JOB_PANEL ? choose_panel_output(answer->length)
+                                                     : choose_lines_output(answer->length);
+    } else {
+        call->budget = choose_budget(answer->units);
+        call->table_words = choose_table(call->budget);
+        call->output_length = choose_output(answer->length);
+    }
+}
+
+/* Whether a call is within what --small asks for. */
+static bool is_small_enough(const Call *call, const Answer *answer)
+{
+    if (call->image_length >= small || call->recording_length >= small || answer->length > 200)
+        return false;
+    return (call->budget <= 200 || percent(5)) && call->budget <= 5000;
 }
 
 /* Emits a call of the job on the image, with sizes around its need. */
@@ -105,21 +160,16 @@ static void emit(Job job, const Draft *draft, Answer *answer)
                  .phase = job == JOB_PARSE || job == JOB_EVALUATE ? below(5) : choose_phase(),
                  .budget = MOST_BUDGET,
                  .table_words = TABLE_WORDS_PER_UNIT * MOST_BUDGET,
-                 .output_length = LONGEST_IMAGE,
+                 .output_length = job == JOB_SCAN ? LONGEST_OUTPUT : LONGEST_IMAGE,
                  .image = draft->bytes,
                  .image_length = draft->length};
+    if (job == JOB_SCAN)
+        add_recording(&call);
     answer_call(memory, &call, answer);
     if (wanted == 0)
         return;
-    if (job == JOB_PANEL) {
-        choose_panel_sizes(&call, answer->length);
-    } else {
-        call.budget = choose_budget(answer->units);
-        call.table_words = choose_table(call.budget);
-        call.output_length = choose_output(answer->length);
-    }
-    if (small > 0 && (draft->length >= small || answer->length > 200 ||
-                      (call.budget > 200 && percent(95)) || call.budget > 5000))
+    choose_sizes(&call, answer);
+    if (small > 0 && !is_small_enough(&call, answer))
         return;
     write_call(stdout, &call);
     wanted--;
@@ -128,9 +178,9 @@ static void emit(Job job, const Draft *draft, Answer *answer)
 static Job choose_job(uint32_t kind)
 {
     if (percent(2))
-        return (Job)below(JOB_PANEL + 1);
+        return (Job)below(JOB_SCAN + 1);
     if (kind == TREE_IMAGE)
-        return percent(95) ? JOB_EVALUATE : JOB_PANEL;
+        return percent(95) ? JOB_EVALUATE : percent(50) ? JOB_PANEL : JOB_SCAN;
     uint32_t choice = below(10);
     return choice < 6 ? JOB_EXPAND : choice < 9 ? JOB_PARSE : JOB_RESOLVE;
 }
@@ -138,21 +188,24 @@ static Job choose_job(uint32_t kind)
 static void make_draft(Draft *draft, Job *job)
 {
     uint32_t choice = below(100);
-    if (choice < 40) {
+    if (choice < 36) {
         draft_program(memory, draft);
         *job = percent(95) ? JOB_EXPAND : choose_job(draft->kind);
-    } else if (choice < 50) {
+    } else if (choice < 44) {
         draft_identifier(memory, draft);
         *job = percent(95) ? JOB_RESOLVE : choose_job(draft->kind);
-    } else if (choice < 60) {
+    } else if (choice < 53) {
         draft_object(memory, draft);
         *job = percent(90) ? JOB_PARSE : choose_job(draft->kind);
-    } else if (choice < 85) {
+    } else if (choice < 74) {
         draft_tree(memory, draft);
         *job = choose_job(draft->kind);
-    } else {
+    } else if (choice < 86) {
         draft_panel(memory, draft);
-        *job = percent(95) ? JOB_PANEL : choose_job(draft->kind);
+        *job = percent(90) ? JOB_PANEL : percent(50) ? JOB_SCAN : choose_job(draft->kind);
+    } else {
+        draft_ladder(memory, draft);
+        *job = JOB_SCAN;
     }
 }
 
@@ -177,7 +230,7 @@ static void go_on(Job job, Draft *draft, Answer *answer)
         if (take_result(draft, answer, SYNTAX_IMAGE))
             emit(JOB_PARSE, draft, answer);
         if (percent(40) && take_result(draft, answer, TREE_IMAGE))
-            emit(JOB_PANEL, draft, answer);
+            emit(percent(60) ? JOB_PANEL : JOB_SCAN, draft, answer);
     } else if (job == JOB_PARSE && percent(50) && take_result(draft, answer, TREE_IMAGE)) {
         emit(percent(75) ? JOB_EVALUATE : JOB_PANEL, draft, answer);
     } else if (job == JOB_EVALUATE && percent(5) && take_result(draft, answer, TREE_IMAGE)) {

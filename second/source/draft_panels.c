@@ -317,6 +317,16 @@ static const Tree *any_panel(void)
     return program((int)between(0, 6), NULL);
 }
 
+static void finish_panel(Draft *draft)
+{
+    next_name = CORE_NAMES + draft_image.word_count;
+    memset(driven, 0, sizeof driven);
+    draft_image.tree = any_panel();
+    if (draft_image.names < next_name)
+        draft_image.names = next_name;
+    finish_draft(draft);
+}
+
 void draft_panel(Memory *memory, Draft *draft)
 {
     start_draft(memory, TREE_IMAGE, between(0, 3));
@@ -325,10 +335,14 @@ void draft_panel(Memory *memory, Draft *draft)
     drives_again = percent(25);
     is_open = percent(8);
     until_break = percent(30) ? between(1, percent(80) ? 12 : 300) : 0;
-    next_name = CORE_NAMES + draft_image.word_count;
-    memset(driven, 0, sizeof driven);
-    draft_image.tree = any_panel();
-    if (draft_image.names < next_name)
-        draft_image.names = next_name;
-    finish_draft(draft);
+    finish_panel(draft);
+}
+
+void draft_ladder(Memory *memory, Draft *draft)
+{
+    start_draft(memory, TREE_IMAGE, 0);
+    names_differ = percent(50);
+    drives_again = is_open = false;
+    until_break = 0;
+    finish_panel(draft);
 }

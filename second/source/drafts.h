@@ -1,4 +1,4 @@
-/* Drafts: images made up by chance, most of them well formed. */
+/* Drafts: images and recordings made up by chance, most of them well formed. */
 #ifndef DRAFTS_H
 #define DRAFTS_H
 
@@ -18,6 +18,10 @@ void draft_identifier(Memory *memory, Draft *draft);
 void draft_object(Memory *memory, Draft *draft); /* any syntax, for parse */
 void draft_tree(Memory *memory, Draft *draft);
 void draft_panel(Memory *memory, Draft *draft); /* for the panel check */
+void draft_ladder(Memory *memory, Draft *draft); /* a panel program for scans, accepted */
+
+/* A recording for a program that drives these points; a small one is short. */
+void draft_recording(const bool driven_points[], bool is_small, Draft *draft);
 
 /* Breaks a draft; other is another image to take pieces from. */
 void damage_draft(Draft *draft, const Draft *other);
