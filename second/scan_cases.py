@@ -179,9 +179,9 @@ scan("a bit is set and the point of its number is driven", "([4 ('all ('set $4 @
 scan("the first bit is no point", "([4 ('all ('set $4 @1) ('out @10 ('or @0 @1023)))] 0)", ["@1=1"], ["@10=0"])
 scan("the last point is no bit", "([4 ('all ('out @1023 @1) ('out @10 $4))] 0)", ["@1=1"], ["@10=0 @1023=1"])
 scan("names of core forms are bits", "([0 ([3 ('all ('set $0 @1) ('out @10 $0) ('out @11 $3))] 1)] 0)", ["@1=1"], ["@10=1 @11=1"])
-EACH = " ".join(f"([{4 + i} ('out @{i} ${4 + i})] {i % 3 % 2})" for i in range(256))
-scan("256 bits, every third one starts at 1", f"('all {EACH})", [""], [" ".join(f"@{i}={i % 3 % 2}" for i in range(256))],
-     made=256, output=4096)
+EACH = " ".join(f"([{4 + i} ('out @{i} ${4 + i})] {i % 7 % 2})" for i in range(256))
+scan("256 bits, of seven the second, fourth and sixth start at 1", f"('all {EACH})", [""],
+     [" ".join(f"@{i}={i % 7 % 2}" for i in range(256))], made=256, output=4096)
 # A bit takes two levels: `all` stands at level 61, a rung's parts at 63.
 PASSED_ON = " ".join(f"('set ${5 + i} ${4 + i})" for i in range(29))
 scan("30 bits in each other, a push goes through all of them",
@@ -343,6 +343,7 @@ PANEL_REFUSALS = [
     (21, "a bare point", "@1"), (21, "`out` of one", "('out @20)"), (21, "a bit that starts at 2", "([4 ('out @20 $4)] 2)"),
     (22, "a point driven twice", "('all ('out @20 @10) ('out @20 @11))"),
     (23, "257 bits", side_by_side(257, last="('out @20 @10)")),
+    (21, "a bare point behind a rung", "('all ('out @20 @10) @1)"),
     (3, "an open variable and a bare point", "('all @1 ('out @20 $4))"),
     (21, "a bare point and a point driven twice", "('all @1 ('out @20 @10) ('out @20 @11))"),
 ]
