@@ -106,3 +106,12 @@ def plain(thing):
 
 def image_of(text):
     return image.syntax_image(text_of(plain(read(text))))
+
+
+def image_in(file):
+    """The image of a file, which is a listing where it ends in .rung."""
+    if file.endswith(".rung"):
+        with open(file) as text:
+            return image_of(text.read())
+    with open(file, "rb") as given:
+        return given.read()
