@@ -1,9 +1,12 @@
-"""What a replay program answers when it expands an image at phase 0, parses the result and checks the tree against the panel profile.
+"""What a replay program answers when it expands an image at phase 0, parses the result and checks the tree against the panel profile; and
+what a scan program prints when it runs the tree over a recording.
 
-A replay program reads calls and prints a line for each: second/replay, and target/bin/replay of the proved library.
+A replay program reads calls and prints a line for each: second/replay, and target/bin/replay of the proved library. Of the scan programs
+there are likewise two.
 """
 import os
 import subprocess
+import tempfile
 from collections import namedtuple
 
 from listing import image
@@ -54,6 +57,16 @@ def bits_of(checked):
     """The names of the bits that a panel check has written, each with its address."""
     words = range(0, len(checked.written), 4)
     return [(int.from_bytes(checked.written[place:place + 4], "little"), address) for address, place in enumerate(words)]
+
+
+def scan(program, tree, recording):
+    """The run of a scan program, which takes two files: its status, and what it has printed."""
+    with tempfile.TemporaryDirectory() as folder:
+        paths = [os.path.join(folder, name) for name in ("tree", "recording")]
+        for path, given in zip(paths, (tree, recording)):
+            with open(path, "wb") as file:
+                file.write(given)
+        return subprocess.run([*command(program), *paths], stdout=subprocess.PIPE, stderr=subprocess.PIPE)
 
 
 def root_of(given):
