@@ -11,6 +11,7 @@ EXAMPLES = os.path.join(ROOT, "examples")
 sys.path.insert(0, EXAMPLES)
 import answers
 import listing
+import scans
 
 PROGRAM_BUDGET = 400
 OLDER_SCOPES = 64
@@ -79,7 +80,7 @@ def proved_programs():
 
 # ---- the checks ----
 
-def images_are_fresh():
+def files_are_fresh():
     return subprocess.run([os.path.join(EXAMPLES, "make"), "--check"]).returncode == 0
 
 
@@ -170,12 +171,13 @@ def program_checks(row, programs):
 
 
 def checks(second, proved):
-    """Each check with what it is about. Where an image is stale, the others have nothing to say."""
-    fresh = images_are_fresh()
-    yield "the images", fresh
+    """Each check with what it is about. Where an image or a recording is stale, the others have nothing to say."""
+    fresh = files_are_fresh()
+    yield "the images and recordings", fresh
     if not fresh:
         return
     yield from page_checks(second)
+    yield from scans.checks()
     for row in rows():
         yield from program_checks(row, second)
         if proved:
