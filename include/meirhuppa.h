@@ -1,12 +1,12 @@
-/* Meirhuppa: the macro expander of document 01, and the panel check of request T-01, as a library.
+/* Meirhuppa: the macro expander of document 01, with the panel check of request T-01 and the scan runner of T-02, as a library.
  *
- * Five jobs on lent byte images. Each answers with a code (0 is success), the units charged, a name (resolve only) and the length in bytes
+ * Six jobs on lent byte images. Each answers with a code (0 is success), the units charged, a name (resolve only) and the length in bytes
  * of what it wrote. No job keeps anything, allocates anything or fails in any other way: every image, phase, budget and buffer gets an
  * answer, and the work ends.
  *
  * The caller's duties, which nothing here can check:
  *  - every pointer is good for as many elements as its length says (a length of 0 still wants a pointer that is not null);
- *  - image, table, output and bits do not overlap;
+ *  - what is lent to be written, table, output and bits, overlaps nothing else that is lent;
  *  - no other thread touches them during the call;
  *  - the calling thread has 160 KiB of stack to spare (MEIRHUPPA_STACK). That is measured, on x86-64, and not proved.
  *
@@ -16,6 +16,9 @@
  *
  * The panel check takes no phase, budget or table. Its units and name are always 0. Every refusal leaves `bits` untouched, with length 0;
  * success writes a word for each bit from its start and touches no word after them.
+ *
+ * The scan runner takes none of them either, and a recording beside the image. Its units and name are always 0. Every refusal leaves the output
+ * untouched, with length 0; success writes the lines from its start, as text without a byte 0 at the end, and touches no byte after them.
  *
  * An image may have up to 256 scopes, 1,024 names (core names and words counted) and 512 bindings.
  */
@@ -33,15 +36,15 @@ typedef struct meirhuppa_answer {
     uint32_t code;   /* 0, or one of the refusals below */
     uint32_t units;  /* charged; before a refusal, those charged before it */
     uint32_t name;   /* of a successful resolve, else 0 */
-    uint32_t length; /* of the image written, in bytes; of the panel check, four for each bit; else 0 */
+    uint32_t length; /* of the image or the lines written, in bytes; of the panel check, four for each bit; else 0 */
 } meirhuppa_answer;
 
 enum meirhuppa_code {
     MEIRHUPPA_SUCCESS = 0,
     MEIRHUPPA_LAYOUT = 1,            /* the image breaks the layout */
     MEIRHUPPA_OVER_LIMIT = 2,        /* a count, value or nesting is over its limit */
-    MEIRHUPPA_UNOWNED = 3,           /* evaluate, panel: a variable of the tree, outside syntax values, has no enclosing function of its name */
-    MEIRHUPPA_WRONG_KIND = 4,        /* the kind is 1 or 2 but not the job's (2 for evaluate and panel, 1 for the others) */
+    MEIRHUPPA_UNOWNED = 3,           /* evaluate, panel, scan: a variable of the tree, outside syntax values, has no enclosing function of its name */
+    MEIRHUPPA_WRONG_KIND = 4,        /* the kind is 1 or 2 but not the job's (2 for evaluate, panel and scan, 1 for the others) */
     MEIRHUPPA_SMALL_TABLE = 5,       /* budget over 4,096, or fewer than 40 table words per unit of budget */
     MEIRHUPPA_AMBIGUOUS = 6,         /* several bindings fit and none contains the others */
     MEIRHUPPA_NO_MEANING = 7,        /* expand: an identifier in expression place whose name has no meaning */
@@ -57,10 +60,13 @@ enum meirhuppa_code {
     MEIRHUPPA_TOO_DEEP = 17,         /* something made has nesting over 64 */
     MEIRHUPPA_TOO_MANY_ENTRIES = 18, /* a 129th entry in progress */
     MEIRHUPPA_OVER_BUDGET = 19,      /* a charge is larger than what remains */
-    MEIRHUPPA_TOO_LONG = 20,         /* the result is longer than the output or 65,536 bytes; panel: more bits than words lent */
-    MEIRHUPPA_OUTSIDE_PROFILE = 21,  /* panel: the tree is no program of the panel profile */
-    MEIRHUPPA_DRIVEN_TWICE = 22,     /* panel: two `out` drive one point, wherever they stand */
-    MEIRHUPPA_TOO_MANY_BITS = 23     /* panel: more than 256 bits */
+    MEIRHUPPA_TOO_LONG = 20,         /* the result is longer than the output or 65,536 bytes; panel: more bits than words lent; scan: the lines
+                                        are longer than the output, whatever that is */
+    MEIRHUPPA_OUTSIDE_PROFILE = 21,  /* panel, scan: the tree is no program of the panel profile */
+    MEIRHUPPA_DRIVEN_TWICE = 22,     /* panel, scan: two `out` drive one point, wherever they stand */
+    MEIRHUPPA_TOO_MANY_BITS = 23,    /* panel, scan: more than 256 bits */
+    MEIRHUPPA_BAD_RECORDING = 24,    /* scan: the recording breaks its layout or is longer than 65,536 bytes */
+    MEIRHUPPA_DRIVEN_CHANGE = 25     /* scan: a change names a point that the program drives */
 };
 
 enum {
@@ -68,6 +74,8 @@ enum {
     MEIRHUPPA_WORDS_PER_UNIT = 40,
     MEIRHUPPA_MOST_IMAGE = 65536,
     MEIRHUPPA_MOST_BITS = 256, /* so many words lent to the panel check are always enough */
+    MEIRHUPPA_MOST_RECORDING = 65536,
+    MEIRHUPPA_MOST_LINE = 7088, /* bytes of a scan's line, with its end; so many for each scan are always enough */
     MEIRHUPPA_STACK = 163840 /* bytes of stack that a call takes at most */
 };
 
@@ -98,6 +106,8 @@ static inline const char *meirhuppa_meaning(uint32_t code)
     case MEIRHUPPA_OUTSIDE_PROFILE: return "the tree is outside the panel profile";
     case MEIRHUPPA_DRIVEN_TWICE: return "a point is driven twice";
     case MEIRHUPPA_TOO_MANY_BITS: return "the program has more than 256 bits";
+    case MEIRHUPPA_BAD_RECORDING: return "the recording breaks its layout, or is longer than 65,536 bytes";
+    case MEIRHUPPA_DRIVEN_CHANGE: return "the recording changes a point that the program drives";
     default: return "unknown code";
     }
 }
@@ -122,6 +132,14 @@ meirhuppa_answer meirhuppa_evaluate(const uint8_t *image, size_t image_length, u
  * is named bits[0], and there are length / 4 bits. Of several refusals the order is 2 for an image over 65,536 bytes, then 1, 2 and 4 as the
  * image is read from the front, then 3, 21, 22 and 23, each over the whole tree, and 20 where fewer words are lent than there are bits. */
 meirhuppa_answer meirhuppa_panel(const uint8_t *image, size_t image_length, uint32_t *bits, size_t bits_words);
+
+/* The lines of a panel program run over a recording, one for each scan, each with a line end: the scan's number, from 1, then for each driven
+ * point in ascending order a space, the point and its value, as `3 @10=1 @13=0`. The image is a tree image. The recording is the count of scans, and
+ * for each the count of changed points, then point (up to 1,023) and value (0 or 1), points ascending, all in groups of seven bits as in images.
+ * Of several refusals the order is that of the panel check without its 20, then 24, then 25, each over the whole recording, and 20 where the
+ * lines are longer than the output. */
+meirhuppa_answer meirhuppa_scan(const uint8_t *image, size_t image_length, const uint8_t *recording, size_t recording_length,
+                                uint8_t *output, size_t output_length);
 
 #ifdef __cplusplus
 }

@@ -20,8 +20,11 @@ static inline meirhuppa_answer ask_library(const Call *call, uint32_t *table, vo
     case JOB_EVALUATE:
         return meirhuppa_evaluate(call->image, call->image_length, call->budget, table, call->table_words,
                                   output, call->output_length);
-    default:
+    case JOB_PANEL:
         return meirhuppa_panel(call->image, call->image_length, output, call->output_length / sizeof(uint32_t));
+    default:
+        return meirhuppa_scan(call->image, call->image_length, call->recording, call->recording_length,
+                              output, call->output_length);
     }
 }
 

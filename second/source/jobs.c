@@ -162,11 +162,6 @@ static void answer_scan(Memory *memory, const Call *call, Answer *answer)
         answer->code = TOO_LONG;
 }
 
-bool is_unbudgeted(Job job)
-{
-    return job == JOB_PANEL || job == JOB_SCAN;
-}
-
 void answer_call(Memory *memory, const Call *call, Answer *answer)
 {
     static Image image;

@@ -34,7 +34,10 @@ typedef struct {
 } Answer;
 
 /* Whether the job takes neither phase, budget nor table. */
-bool is_unbudgeted(Job job);
+static inline bool is_unbudgeted(Job job)
+{
+    return job == JOB_PANEL || job == JOB_SCAN;
+}
 
 /* Reads a tree image and checks it against the profile: every refusal of the
    panel check but 20. */

@@ -18,6 +18,7 @@
 
 /* Where the lent buffers end. */
 static uint8_t *image_end;
+static uint8_t *recording_end;
 static uint32_t *table_end;
 static uint8_t *output_end;
 
@@ -80,14 +81,19 @@ static size_t lent_output(const Call *call)
     return call->job == JOB_PANEL ? call->output_length / sizeof(uint32_t) * sizeof(uint32_t) : call->output_length;
 }
 
+/* The bytes, moved to where they end before the page. */
+static const uint8_t *lent_input(uint8_t *end, const uint8_t *bytes, size_t length)
+{
+    return memcpy(end - length, bytes, length);
+}
+
 static void answer(Call *call)
 {
     size_t output_length = lent_output(call);
-    uint8_t *image = image_end - call->image_length;
     uint32_t *table = table_end - call->table_words;
     uint8_t *output = output_end - output_length;
-    memcpy(image, call->image, call->image_length);
-    call->image = image;
+    call->image = lent_input(image_end, call->image, call->image_length);
+    call->recording = lent_input(recording_end, call->recording, call->recording_length);
     for (size_t i = 0; i < call->table_words; i++)
         table[i] = TABLE_FILL;
     memset(output, OUTPUT_FILL, output_length);
@@ -100,13 +106,14 @@ static void answer(Call *call)
 
 int main(void)
 {
-    static uint8_t image[LARGEST_STREAM_SIZE];
+    static Inputs inputs;
     Call call;
     Met met;
     image_end = fenced(LARGEST_STREAM_SIZE);
+    recording_end = fenced(LARGEST_STREAM_SIZE);
     table_end = fenced(LARGEST_STREAM_TABLE * sizeof *table_end);
     output_end = fenced(LARGEST_STREAM_SIZE);
-    while ((met = read_call(stdin, &call, image)) == A_CALL)
+    while ((met = read_call(stdin, &call, &inputs)) == A_CALL)
         answer(&call);
     if (met == CUT)
         puts("cut");
