@@ -7,8 +7,11 @@
 #include "../library_call.h"
 #include "../painted_stack.h"
 
+/* More than the lines of any scans that are called here. */
+enum { OUTPUT_BYTES = 1 << 20 };
+
 static uint32_t table[MEIRHUPPA_WORDS_PER_UNIT * MEIRHUPPA_MOST_BUDGET];
-static _Alignas(uint32_t) uint8_t output[MEIRHUPPA_MOST_IMAGE];
+static _Alignas(uint32_t) uint8_t output[OUTPUT_BYTES];
 static meirhuppa_answer answer;
 
 static void *ask(void *call)
@@ -19,9 +22,9 @@ static void *ask(void *call)
 
 int main(void)
 {
-    static uint8_t image[LARGEST_STREAM_SIZE];
+    static Inputs inputs;
     Call call;
-    while (read_call(stdin, &call, image) == A_CALL) {
+    while (read_call(stdin, &call, &inputs) == A_CALL) {
         size_t used;
         if (call.budget > MEIRHUPPA_MOST_BUDGET)
             call.budget = MEIRHUPPA_MOST_BUDGET;

@@ -7,6 +7,7 @@ sys.dont_write_bytecode = True
 sys.path.insert(0, SECOND)
 import image
 from large_panel import large_panel
+from large_recording import large_recording
 
 BUDGET = 4096
 NESTING = 64
@@ -62,7 +63,7 @@ def syntax_images():
 
 
 def tree_images():
-    """For evaluate and the panel check."""
+    """For evaluate, the panel check and the scans."""
     yield "one application of 4,000 numbers", tree(wide(4000))
     yield "one list value of 4,000 numbers", tree("<" + "1 " * 4000 + ">")
     yield "13,000 numbers judged", tree("<" + "1 " * JUDGED + ">")
@@ -76,7 +77,7 @@ def tree_images():
 
 
 def panel_programs():
-    """For the panel check, all of them accepted."""
+    """For the panel check and the scans, all of them accepted."""
     rung = "('out @1 @2)"
     yield "as many rungs as go in", large_panel("rungs")
     yield "as many points as go in", large_panel("points")
@@ -85,6 +86,21 @@ def panel_programs():
     yield "62 `all` in each other", tree(nested(62, before="'all", inmost=rung))
     yield "62 `not` in each other", tree("('out @1 " + nested(62, before="'not", inmost="@2") + ")")
     yield "wide `and` at every level", tree("('out @1 " + nested(62, before="'and @2", after="@3 " * 60, inmost="@4") + ")")
+
+
+def recordings():
+    """For the programs of a few rungs: as many scans as go in, and as many changes."""
+    yield "65,533 scans", large_recording("still")
+    yield "all points changed again and again", large_recording("points")
+
+
+def scan_calls():
+    """Every program over two scans, and a small one over the longest recordings."""
+    for name, given in (*tree_images(), *panel_programs()):
+        yield f"scan: {name}", image.call("scan", given, recording=image.recording(["", ""]))
+    small = tree("([4 ('all ('set $4 @10) ('out @1023 $4))] 0)")
+    for name, recorded in recordings():
+        yield f"scan: {name}", image.call("scan", small, recording=recorded)
 
 
 def calls():
@@ -97,3 +113,4 @@ def calls():
             yield f"{job}: {name}", image.call(job, given, budget=BUDGET)
     for name, given in panel_programs():
         yield f"panel: {name}", image.call("panel", given)
+    yield from scan_calls()
