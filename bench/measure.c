@@ -13,7 +13,7 @@
 enum { ROUNDS = 5, ROUND_NANOSECONDS = 200000 };
 
 static uint32_t table[MEIRHUPPA_WORDS_PER_UNIT * MEIRHUPPA_MOST_BUDGET];
-static _Alignas(uint32_t) uint8_t output[MEIRHUPPA_MOST_IMAGE];
+static _Alignas(uint32_t) uint8_t output[LONGEST_OUTPUT];
 static meirhuppa_answer of_library;
 static Answer of_second;
 static Memory *memory;
@@ -67,11 +67,11 @@ static bool answers_agree(void)
 
 int main(void)
 {
-    static uint8_t image[LARGEST_STREAM_SIZE];
+    static Inputs inputs;
     Call call;
     memory = new_memory();
-    while (read_call(stdin, &call, image) == A_CALL) {
-        if (call.budget > MEIRHUPPA_MOST_BUDGET && call.job != JOB_PANEL)
+    while (read_call(stdin, &call, &inputs) == A_CALL) {
+        if (call.budget > MEIRHUPPA_MOST_BUDGET && !is_unbudgeted(call.job))
             continue;
         call.table_words = MEIRHUPPA_WORDS_PER_UNIT * call.budget;
         call.output_length = sizeof output;
