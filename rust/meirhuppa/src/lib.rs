@@ -1,5 +1,6 @@
-//! Meirhuppa's four jobs and its panel check over slices. What they promise is document 01, and request T-01 for the panel check, and is proved
-//! of the code behind the boundary; this crate adds names for the refusals and the lengths of the slices, which are true by their type.
+//! Meirhuppa's four jobs, its panel check and its scan runner over slices. What they promise is document 01, and requests T-01 and T-02 for the last
+//! two, and is proved of the code behind the boundary; this crate adds names for the refusals and the lengths of the slices, which are true by
+//! their type.
 //!
 //! A call takes at most 160 KiB of the calling thread's stack. That is measured, on x86-64, and not proved.
 #![deny(warnings)]
@@ -15,14 +16,14 @@ pub struct Answer {
     pub length: usize,
 }
 
-/// Why a job was refused, and the units charged before it: none of a panel check. The output is as it was.
+/// Why a job was refused, and the units charged before it: none of a panel check or a scan. The output is as it was.
 #[derive(Clone, Copy, Debug, PartialEq, Eq)]
 pub struct Refusal {
     pub code: Code,
     pub units: u32,
 }
 
-/// The refusals of document 01, and of request T-01. Number 16 is none of them and stays unused.
+/// The refusals of document 01, and of requests T-01 and T-02. Number 16 is none of them and stays unused.
 #[derive(Clone, Copy, Debug, PartialEq, Eq)]
 #[non_exhaustive]
 pub enum Code {
@@ -62,7 +63,8 @@ pub enum Code {
     TooManyEntries,
     /// 19: a charge is larger than what remains.
     OverBudget,
-    /// 20: the result is longer than the output or 65,536 bytes; of a panel check, more bits than words lent.
+    /// 20: the result is longer than the output or 65,536 bytes; of a panel check, more bits than words lent; of scans, lines longer than the
+    /// output, whatever that is.
     TooLong,
     /// 21: the tree is no program of the panel profile.
     OutsideProfile,
@@ -70,11 +72,15 @@ pub enum Code {
     DrivenTwice,
     /// 23: more than 256 bits.
     TooManyBits,
+    /// 24: the recording breaks its layout or is longer than 65,536 bytes.
+    BadRecording,
+    /// 25: a change of the recording names a point that the program drives.
+    DrivenChange,
     /// A number that this crate has no name for.
     Unknown(u32),
 }
 
-const NUMBERED: [(u32, Code); 22] = [
+const NUMBERED: [(u32, Code); 24] = [
     (1, Code::Layout),
     (2, Code::OverLimit),
     (3, Code::Unowned),
@@ -97,6 +103,8 @@ const NUMBERED: [(u32, Code); 22] = [
     (21, Code::OutsideProfile),
     (22, Code::DrivenTwice),
     (23, Code::TooManyBits),
+    (24, Code::BadRecording),
+    (25, Code::DrivenChange),
 ];
 
 impl Code {
@@ -119,6 +127,34 @@ pub const WORDS_PER_UNIT: usize = 40;
 
 /// So many words lent to a panel check are always enough.
 pub const MOST_BITS: usize = 256;
+
+/// Bytes of a scan's line, with its end, at most: so many for each scan are always enough.
+pub const MOST_LINE: usize = 7088;
+
+/// The lines of scans, the first scan's first. Each comes without its line end.
+#[derive(Clone, Debug, PartialEq, Eq)]
+pub struct Lines<'a> {
+    left: &'a str,
+}
+
+impl<'a> Lines<'a> {
+    /// The lines that are left, each with its end, as the library wrote them.
+    pub fn text(&self) -> &'a str {
+        self.left
+    }
+}
+
+impl<'a> Iterator for Lines<'a> {
+    type Item = &'a str;
+
+    fn next(&mut self) -> Option<&'a str> {
+        let (line, left) = self.left.split_once('\n')?;
+        self.left = left;
+        Some(line)
+    }
+}
+
+impl std::iter::FusedIterator for Lines<'_> {}
 
 #[cfg(target_arch = "x86_64")]
 mod library {
@@ -168,6 +204,14 @@ mod library {
             output_length: usize,
         ) -> Raw;
         pub fn meirhuppa_panel(image: *const u8, image_length: usize, bits: *mut u32, bits_words: usize) -> Raw;
+        pub fn meirhuppa_scan(
+            image: *const u8,
+            image_length: usize,
+            recording: *const u8,
+            recording_length: usize,
+            output: *mut u8,
+            output_length: usize,
+        ) -> Raw;
     }
 
     pub fn answer(raw: Raw) -> Result<super::Answer, super::Refusal> {
@@ -253,4 +297,25 @@ pub fn panel<'a>(image: &[u8], bits: &'a mut [u32]) -> Result<&'a [u32], Refusal
     let raw = unsafe { library::meirhuppa_panel(image.as_ptr(), image.len(), bits.as_mut_ptr(), bits.len()) };
     // The length counts bytes.
     library::answer(raw).map(|answer| &bits[..answer.length / std::mem::size_of::<u32>()])
+}
+
+/// Runs a panel program over a recording, and gives the line of each scan, as `3 @10=1 @13=0`: the scan's number, from 1, and every point that the
+/// program drives with its value. A tree image goes in, as [`parse`] writes it, and a recording as request T-02 lays it out. The lines stand at the
+/// front of `output`. A refusal leaves all of it as it was, success what is behind them.
+#[cfg(target_arch = "x86_64")]
+pub fn scan<'a>(image: &[u8], recording: &[u8], output: &'a mut [u8]) -> Result<Lines<'a>, Refusal> {
+    // SAFETY: as in `resolve`.
+    let raw = unsafe {
+        library::meirhuppa_scan(
+            image.as_ptr(),
+            image.len(),
+            recording.as_ptr(),
+            recording.len(),
+            output.as_mut_ptr(),
+            output.len(),
+        )
+    };
+    let answer = library::answer(raw)?;
+    let left = std::str::from_utf8(&output[..answer.length]).expect("lines are digits, spaces, @, = and line ends");
+    Ok(Lines { left })
 }

@@ -1,9 +1,9 @@
-//! A slice of the second program's corpus, all five jobs, each answer held against the line that is kept for it. `tests/slice` makes the slice,
+//! A slice of the second program's corpus, all six jobs, each answer held against the line that is kept for it. `tests/slice` makes the slice,
 //! for C as well. The archive is for x86-64, so elsewhere this says so and tests nothing.
 
 #[cfg(target_arch = "x86_64")]
 mod on_x86_64 {
-    use meirhuppa::{evaluate, expand, panel, parse, resolve, Answer, Refusal, WORDS_PER_UNIT};
+    use meirhuppa::{evaluate, expand, panel, parse, resolve, scan, Answer, Refusal, WORDS_PER_UNIT};
     use std::process::Command;
 
     const TABLE_FILL: u32 = 0xa5a5_a5a5;
@@ -16,7 +16,10 @@ mod on_x86_64 {
         table_words: usize,
         output_length: usize,
         image: &'a [u8],
+        recording: &'a [u8],
     }
+
+    const SCAN: u32 = 5;
 
     /// The stream's next number: groups of seven bits, the low group first, the top bit set on all but the last.
     fn next_number(stream: &mut &[u8]) -> u32 {
@@ -26,12 +29,21 @@ mod on_x86_64 {
         groups.iter().rev().fold(0, |number, &group| (number << 7) | u32::from(group & 127))
     }
 
-    /// The stream's next call: six numbers, then the image.
-    fn next_call<'a>(stream: &mut &'a [u8]) -> Call<'a> {
-        let [job, phase, budget, table_words, output_length, image_length] = std::array::from_fn(|_| next_number(stream));
-        let (image, rest) = stream.split_at(image_length as usize);
+    /// The stream's next bytes, with their length before them.
+    fn next_bytes<'a>(stream: &mut &'a [u8]) -> &'a [u8] {
+        let length = next_number(stream) as usize;
+        let (bytes, rest) = stream.split_at(length);
         *stream = rest;
-        Call { job, phase, budget, table_words: table_words as usize, output_length: output_length as usize, image }
+        bytes
+    }
+
+    /// The stream's next call: five numbers, the image, and where scans are asked for the recording.
+    fn next_call<'a>(stream: &mut &'a [u8]) -> Call<'a> {
+        let [job, phase, budget, table_words, output_length] = std::array::from_fn(|_| next_number(stream));
+        let image = next_bytes(stream);
+        let recording = if job == SCAN { next_bytes(stream) } else { &[] };
+        let (table_words, output_length) = (table_words as usize, output_length as usize);
+        Call { job, phase, budget, table_words, output_length, image, recording }
     }
 
     fn word_of(bytes: &[u8]) -> u32 {
@@ -50,6 +62,12 @@ mod on_x86_64 {
         Ok(Answer { units: 0, name: 0, length: 4 * names.len() })
     }
 
+    /// The scans, whose lines are what they have written.
+    fn ask_scan(call: &Call, output: &mut [u8]) -> Result<Answer, Refusal> {
+        let length = scan(call.image, call.recording, output)?.text().len();
+        Ok(Answer { units: 0, name: 0, length })
+    }
+
     fn ask(call: &Call, table: &mut [u32], output: &mut [u8]) -> Result<Answer, Refusal> {
         match call.job {
             0 => resolve(call.image, call.phase, call.budget, table),
@@ -57,6 +75,7 @@ mod on_x86_64 {
             2 => parse(call.image, call.budget, table, output),
             3 => evaluate(call.image, call.budget, table, output),
             4 => ask_panel(call.image, output),
+            SCAN => ask_scan(call, output),
             job => panic!("there is no job {job}"),
         }
     }
