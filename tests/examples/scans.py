@@ -68,9 +68,10 @@ def scanned(asked, image, recording):
     return answers.scan(asked.scan, tree, recording)
 
 
-def example_scan(*files):
-    paths = [os.path.join(EXAMPLES, file) for file in files]
-    return subprocess.run([os.path.join(EXAMPLES, "scan"), *paths], stdout=subprocess.PIPE, stderr=subprocess.DEVNULL)
+def example(script, *files):
+    """The run of a script of the examples."""
+    paths = [os.path.join(EXAMPLES, file) for file in (script, *files)]
+    return subprocess.run(paths, stdout=subprocess.PIPE, stderr=subprocess.DEVNULL)
 
 
 def text_of(lines):
@@ -90,7 +91,9 @@ def commands_have_tables(*path):
 
 
 def changes_as_said(table):
-    return recordings.listing_of(bytes_in(table.recording + ".recording")) == text_of(table.changes).decode()
+    """By the script, both ways."""
+    back, there = (example("record", table.recording + ending).stdout for ending in (".recording", ".scans"))
+    return back == text_of(table.changes) and there == bytes_in(table.recording + ".recording")
 
 
 def lines_as_said(table, asked):
@@ -100,7 +103,7 @@ def lines_as_said(table, asked):
 
 def shows_as_said(table):
     """From what the programs read, and from the listings."""
-    runs = [example_scan(table.program + program, table.recording + recording)
+    runs = [example("scan", table.program + program, table.recording + recording)
             for program, recording in ((".image", ".recording"), (".rung", ".scans"))]
     return all(run.returncode == 0 and run.stdout == text_of(table.lines) for run in runs)
 
@@ -119,6 +122,13 @@ def order_hides_the_one_bit(asked):
     """With each motor right behind its `set`, one bit and two print the same."""
     hidden = "((lambda run ('all ('set run ('and @1 ('not @2))) ('out @10 run) ('set run @5) ('out @13 run))) 0)"
     return scanned(asked, listing.image_of(hidden), bytes_in("feeder-and-fan.recording")).stdout == lines_of("feeder-and-fan")
+
+
+def refusals_print_nothing():
+    """The start-stop drives the fan's motor, and a recording is no image."""
+    runs = (example("scan", "start-stop.image", "fan-with-overrun.recording"),
+            example("scan", "start-stop.recording", "start-stop.recording"))
+    return all((run.returncode, run.stdout) == (1, b"") for run in runs)
 
 
 def refused_with(code, asked, recording):
@@ -159,6 +169,7 @@ def checks():
     yield "the scans of the page", commands_have_tables("examples", "README.md")
     yield "the scans of the README", commands_have_tables("README.md")
     yield "how listings of scans are read", listings_are_read_strictly()
+    yield "what examples/scan refuses", refusals_print_nothing()
     for table in tables():
         yield f"the changes of {table.recording}, run by {table.program}", changes_as_said(table)
         yield f"{table.program} over {table.recording} by examples/scan", shows_as_said(table)
