@@ -119,16 +119,21 @@ place-found {c = c} h e = h .found c e
 
 -- ---- the root
 
-pub root-fits : {image : List ℕ} {root : ℕ} (m : ℕ) → ProgramAt image root → root ≤ m + length image
-root-fits m p = let x = p .good .root-within in omega arith
+pub good-fits : {image : List ℕ} {root : ℕ} (m : ℕ) → RootGood image root → root ≤ m + length image
+good-fits m g = let x = g .root-within in omega arith
 
-pub root-short : {image : List ℕ} {root : ℕ} {s : List ℕ} → ProgramAt image root → s ≡ drop (root - 0) image → root + length s ≤ 65536
-root-short {image} {root} {s} p e =
-    let g = p .good in
+pub good-short : {image : List ℕ} {root : ℕ} {s : List ℕ} → RootGood image root → s ≡ drop (root - 0) image → root + length s ≤ 65536
+good-short {image} {root} {s} g e =
     let l = ap length e ∙ length-drop (root - 0) image in
     let x = g .root-within in
     let y = g .short in
     omega arith
+
+pub root-fits : {image : List ℕ} {root : ℕ} (m : ℕ) → ProgramAt image root → root ≤ m + length image
+root-fits m p = good-fits m (p .good)
+
+pub root-short : {image : List ℕ} {root : ℕ} {s : List ℕ} → ProgramAt image root → s ≡ drop (root - 0) image → root + length s ≤ 65536
+root-short p e = good-short (p .good) e
 
 bytes-drop : (n : ℕ) (s : List ℕ) → Bytes s → Bytes (drop n s)
 bytes-drop zero s b = b

@@ -25,7 +25,7 @@ use Rattle.panel_check.specs.declared.Checked.the-variants as checked
 use Rattle.panel_check.specs.declared.refusal.PanelRefusal.{PanelRefusal}
 use Rattle.panel_check.specs.Refusing.{panelRefusalOf}
 use Rattle.panel_check.specs.Checking.{RootGood, Passes, endingIn, Checks}
-use Rattle.panel_check.proofs.Checking.{root-fits, root-short}
+use Rattle.panel_check.proofs.Checking.{good-fits, good-short}
 use Rattle.recordings.specs.declared.Recording.{Recording}
 use Rattle.recordings.specs.declared.Recording.the-variants as recording
 use Rattle.recordings.specs.Judging.{judgedOf}
@@ -182,4 +182,4 @@ module _ {image marks names : List ℕ} {k : Checked} (h : Checks image marks na
       by {y} (got i s) u v = let z : profile (i .root) ≡ p.refused y = sym (rw u) ∙ v in rw (u, z)
       by {y} (fault c) u v = let z : p.refused (p.base c) ≡ p.refused y = sym (rw u) ∙ v in let m : p.base c ≡ y = cc in rw u (ap (λ (b : p.PanelRefusal). stopped (panel b)) m)
 
-pub ruleset prepare-laws = (root-fits, root-short, root-wired, accepted-root, recording-broken, recording-driven, recording-kept, check-passed, check-refused)
+pub ruleset prepare-laws = (good-fits, good-short, root-wired, accepted-root, recording-broken, recording-driven, recording-kept, check-passed, check-refused)
