@@ -1,12 +1,11 @@
 -- The loop that prints a line after each scan: every line has room.
-use mathlib.Core.Path.{_≡_, refl, sym, ap, _∙_, subst}
+use mathlib.Core.Path.{_≡_, refl, _∙_, subst}
 use Prim.Native.Nat.{ℕ, suc, _+_, _-_, _≤_, _<_}
 use native.Mathlib.Omega.{arith}
 use native.Mathlib.Numerals.{add-one}
 use mathlib.Core.List.{List, [], _∷_}
 use lib.ListN.{length, drop, take, replicate, length-replicate}
 use lib.Seq.{length-take-le}
-use Rattle.model.specs.Jobs.{digits}
 use Rattle.text.specs.Placing.{Placed}
 use Rattle.text.proofs.Placing.{placed-length}
 use Rattle.text.proofs.Decimal.{few-digits}
