@@ -133,7 +133,7 @@ def refusals_print_nothing():
 
 def refused_with(code, asked, recording):
     run = scanned(asked, bytes_in("start-stop.image"), recording)
-    return run.returncode != 0 and (run.stdout, run.stderr) == (b"", f"code {code}\n".encode())
+    return (run.stdout, run.stderr) == (b"", f"code {code}\n".encode())
 
 
 def is_refused(take, given):
