@@ -1,6 +1,6 @@
 -- Bytes placed one after another.
 use Prim.Native.Nat.{ℕ, suc, _+_, _≤_, _<_}
-use mathlib.Core.Path.{_≡_, refl, ap, _∙_}
+use mathlib.Core.Path.{_≡_, refl, ap, _∙_, subst}
 use mathlib.Core.List.{List, [], _∷_, _++_}
 use native.Mathlib.Omega.{arith}
 use native.Mathlib.Numerals.{add-one}
@@ -18,6 +18,10 @@ placed-then {out} {out₁} {out₂} {xs} {ys} {at} {p} {q} a b =
 
 pub placed-length : {out bytes out′ : List ℕ} {at past : ℕ} → Placed out at bytes out′ past → length out′ ≡ length out
 placed-length {out} {bytes} {at = at} a = ap length (a .is) ∙ length-sets out at bytes
+
+-- the same bytes under another name
+pub renamed : {out xs ys out′ : List ℕ} {at past : ℕ} → xs ≡ ys → Placed out at xs out′ past → Placed out at ys out′ past
+renamed {out} {out′ = out′} {at} {past} e w = subst (λ (l : List ℕ). Placed out at l out′ past) e w
 
 -- where the placing of bytes at `at` stands: placing the rest of them at `to` makes of out what is to be made of out₀
 pub record Placing (out₀ : List ℕ) (at : ℕ) (bytes out : List ℕ) (to : ℕ) (rest : List ℕ) : Type 0 where
@@ -38,6 +42,14 @@ module _ {out₀ : List ℕ} {at : ℕ} {bytes out : List ℕ} {to : ℕ} where
         same = length-set out to b ∙ w .same;
         ends = let e = w .ends in omega arith;
         is = rw add-one (w .is);
+      }
+
+  pub placing-more : {out′ xs rest : List ℕ} {p : ℕ} → Placing out₀ at bytes out to (xs ++ rest) → Placed out to xs out′ p → Placing out₀ at bytes out′ p rest
+  placing-more {out′} {xs} {rest} {p} w a =
+      record {
+        same = placed-length a ∙ w .same;
+        ends = let e = w .ends in let f = a .ends in let l = length-append xs rest in omega arith;
+        is = (λ i. sets (a .is i) (a .ends i) rest) ∙ sets-append xs rest out to ∙ w .is;
       }
 
 -- ---- text

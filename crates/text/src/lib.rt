@@ -8,7 +8,7 @@ ghost use Rattle.text.specs.Placing.{Placed};
 ghost use Rattle.text.specs.Hexadecimal.{hexDigit, hexOf};
 
 // A number of 32 bits has at most so many digits.
-pub const MOST_DIGITS: usize = 10;
+const MOST_DIGITS: usize = 10;
 
 // Writes a text at a place, and gives the place past it.
 pub fn put_text(out: &mut [u8], at: usize, text: &[u8]) -> usize
@@ -26,7 +26,7 @@ pub fn put_text(out: &mut [u8], at: usize, text: &[u8]) -> usize
 }
 
 // The digits of a number, `left` at most, where there is room for just these.
-pub fn put_digits(out: &mut [u8], at: usize, left: usize, n: u32) -> usize
+pub fn put_wide(out: &mut [u8], at: usize, left: usize, n: u64) -> usize
     requires { ⌜ at + length (digits left n []) ≤ length (now out) ⌝ }
     ensures { λ r. ⌜ Placed (now (out .entry)) at (digits left n []) (now (out .exit)) r ⌝ }
 {
@@ -37,7 +37,21 @@ pub fn put_digits(out: &mut [u8], at: usize, left: usize, n: u32) -> usize
         out[at] = (48 + n) as u8;
         return at + 1;
     }
-    let last = put_digits(out, at, left - 1, n / 10);
+    let last = put_wide(out, at, left - 1, n / 10);
+    out[last] = (48 + n % 10) as u8;
+    last + 1
+}
+
+// All digits of a number of 32 bits. Most have one, and those need no further call.
+pub fn put_number(out: &mut [u8], at: usize, n: u32) -> usize
+    requires { ⌜ at + length (digits 10 n []) ≤ length (now out) ⌝ }
+    ensures { λ r. ⌜ Placed (now (out .entry)) at (digits 10 n []) (now (out .exit)) r ⌝ }
+{
+    if n < 10 {
+        out[at] = (48 + n) as u8;
+        return at + 1;
+    }
+    let last = put_wide(out, at, MOST_DIGITS - 1, (n / 10) as u64);
     out[last] = (48 + n % 10) as u8;
     last + 1
 }
@@ -47,7 +61,7 @@ pub fn put_decimal(out: &mut [u8], at: usize, n: u32) -> usize
     ensures bytes { λ r. ⌜ Placed (now (out .entry)) at (digits 10 n []) (now (out .exit)) r ⌝ }
     ensures few { λ r. ⌜ r ≤ at + 10 ⌝ }
 {
-    put_digits(out, at, MOST_DIGITS, n)
+    put_number(out, at, n)
 }
 
 // A word and the number behind it.
