@@ -17,7 +17,7 @@ use Rattle.text.proofs.Decimal.{one-digit, more-digits}
 use Rattle.bits.specs.Meeting.{points}
 use Rattle.scan_lines.specs.Lines.{marked, markedPlaces}
 use Rattle.scan_lines.specs.Lengths.{mostScans, mostFixed, numberLength, placesLength, markLength, fixedLength, linesLength}
-use Rattle.scan_lines.proofs.Showing.{marked-first, marked-end}
+use Rattle.scan_lines.proofs.Driven.{marked-first, marked-end}
 
 -- ---- digits
 

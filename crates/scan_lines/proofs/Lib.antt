@@ -1,3 +1,4 @@
+pub mod Driven
 pub mod Showing
 pub mod Counting
 pub mod Texts

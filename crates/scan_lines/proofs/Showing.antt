@@ -1,24 +1,21 @@
--- The parts of a line placed one behind another, in one loop over the points.
+-- The parts of a line placed one behind another, in one loop over the listed points.
 use Prim.Native.Nat.{ℕ, suc, _+_, _-_, _≤_, _<_}
 use mathlib.Core.Path.{_≡_, refl, ap, _∙_, sym, subst}
-use mathlib.Core.Bool.{Bool, true, false}
 use mathlib.Core.List.{List, [], _∷_, _++_, append-assoc}
 use native.Mathlib.Omega.{arith}
 use native.Mathlib.Numerals.{add-one}
-use lib.Dec.{eqb}
-use lib.ListN.{length, getD, length-append}
-use lib.Seq.{sets}
-use borrow.Author.Tests.{eq-eqb, ne-eqb}
-use Rattle.model.specs.Choice.{if_then_else_}
+use lib.ListN.{length, getD, drop, length-append, drop-of-length-le}
+use lib.Seq.{drop-cons}
+use mir.Syntax.{w32, w64}
+use mir.Val.{Fits}
 use Rattle.model.specs.Jobs.{digits}
-use Rattle.numbers.proofs.Writing.{sets-append}
 use Rattle.requests.specs.Scanning.{State}
 use Rattle.requests.specs.ScanJob.{shown, lineAfter}
 use Rattle.text.specs.Placing.{Placed}
-use Rattle.text.proofs.Placing.{placed-then, placed-length, Placing, begun, ended}
+use Rattle.text.proofs.Placing.{placed-then, placed-length, renamed, Placing, begun, ended, placing-more}
 use Rattle.text.proofs.Decimal.{digits-before}
 use Rattle.bits.specs.Meeting.{points}
-use Rattle.scan_lines.specs.Lines.{held, marked, markedPlaces, pointShown, markShown, lineOf}
+use Rattle.scan_lines.specs.Lines.{Points, held, pointShown, lineOf}
 
 -- ---- digits, points and the line end, one behind another
 
@@ -64,10 +61,6 @@ line-long places k s =
     ∙ length-append (digits 10 k []) (shown places (s .points) [] ++ (10 ∷ []))
     ∙ ap (λ (n : ℕ). length (digits 10 k []) + n) (length-append (shown places (s .points) []) (10 ∷ []))
 
--- the same bytes under another name
-renamed : {out xs ys out′ : List ℕ} {at past : ℕ} → xs ≡ ys → Placed out at xs out′ past → Placed out at ys out′ past
-renamed {out} {out′ = out′} {at} {past} e w = subst (λ (l : List ℕ). Placed out at l out′ past) e w
-
 -- ---- one point
 
 module _ (x v at : ℕ) (out : List ℕ) (r : at + length (pointShown x v) ≤ length out) where
@@ -96,120 +89,72 @@ module _ (x v at : ℕ) (out : List ℕ) (r : at + length (pointShown x v) ≤ l
 
 pub ruleset point-laws = (sign-room, place-room, equals-room, value-room, point-placed, placed-length)
 
--- ---- one point, where it has a mark
-
-module _ (mark x v : ℕ) where
-  shown-none : mark ≡ 0 → markShown mark x v ≡ []
-  unfolding markShown
-  shown-none e = rw (eq-eqb mark 0 e)
-
-  shown-one : (mark ≡ 0 → ⊥) → markShown mark x v ≡ pointShown x v
-  unfolding markShown
-  shown-one n = rw (ne-eqb mark 0 n)
-
-  module _ (at : ℕ) (out : List ℕ) where
-    pub mark-none : mark ≡ 0 → Placed out at (markShown mark x v) out at
-    mark-none e = renamed (sym (shown-none e)) (record { ends = omega arith; is = refl })
-
-    pub mark-room : (mark ≡ 0 → ⊥) → at + length (markShown mark x v) ≤ length out → at + length (pointShown x v) ≤ length out
-    mark-room n h = let e = ap length (shown-one n) in omega arith
-
-    pub mark-one : {o₁ : List ℕ} {p : ℕ} → (mark ≡ 0 → ⊥) → Placed out at (pointShown x v) o₁ p → Placed out at (markShown mark x v) o₁ p
-    mark-one n w = renamed (sym (shown-one n)) w
-
-pub ruleset mark-laws = (mark-none, mark-room, mark-one, placed-length)
-
 -- ---- all points
 
--- where the marked ones below point i are placed
-pub record Showing (out₀ : List ℕ) (at : ℕ) (marks values out : List ℕ) (to i : ℕ) : Type 0 where
-  pub within : i ≤ points
-  pub placing : Placing out₀ at (shown (markedPlaces marks) values []) out to (shown (marked (points - i) i marks) values [])
+-- where the first i of them are placed
+pub record Showing (out₀ : List ℕ) (at : ℕ) (places values out : List ℕ) (to i : ℕ) : Type 0 where
+  pub placing : Placing out₀ at (shown places values []) out to (shown (drop i places) values [])
 
-pub showing-begun : {out marks values : List ℕ} {at : ℕ} → Showing out at marks values out at 0
-unfolding markedPlaces
-showing-begun = record { within = omega arith; placing = begun }
+pub showing-begun : {out places values : List ℕ} {at : ℕ} → Showing out at places values out at 0
+showing-begun = record { placing = begun }
 
-placing-more : {out₀ bytes out out′ xs rest : List ℕ} {at to p : ℕ} → Placing out₀ at bytes out to (xs ++ rest) → Placed out to xs out′ p → Placing out₀ at bytes out′ p rest
-placing-more {out₀} {bytes} {out} {out′} {xs} {rest} {at} {to} {p} w a =
-    record {
-      same = placed-length a ∙ w .same;
-      ends = let e = w .ends in let f = a .ends in let l = length-append xs rest in omega arith;
-      is = (λ i. sets (a .is i) (a .ends i) rest) ∙ sets-append xs rest out to ∙ w .is;
-    }
+module _ {places : List ℕ} (p : Points places) (i : ℕ) where
+  pub place-wide : Fits w64 (getD places i 0)
+  place-wide = let b = p .below i in omega arith
 
-one-fewer : (i : ℕ) → i < points → points - i ≡ suc (points - suc i)
-one-fewer i h = omega arith
+  pub place-fits : Fits w32 (getD places i 0)
+  place-fits = let b = p .below i in omega arith
 
-pub marked-first : (marks : List ℕ) (i : ℕ) → i < points
-    → marked (points - i) i marks ≡ (if eqb (getD marks i 0) 0 then marked (points - suc i) (suc i) marks else i ∷ marked (points - suc i) (suc i) marks)
-unfolding marked
-marked-first marks i h = ap (λ (c : ℕ). marked c i marks) (one-fewer i h)
+  pub place-valued : (values : List ℕ) → points ≤ length values → getD places i 0 < length values
+  place-valued values h = let b = p .below i in omega arith
 
-pub marked-end : (marks : List ℕ) (i : ℕ) → points ≤ i → marked (points - i) i marks ≡ []
-unfolding marked
-marked-end marks i h = let e : points - i ≡ 0 = omega arith in ap (λ (c : ℕ). marked c i marks) e
-
-first-shown : (mark x : ℕ) (l values : List ℕ) → shown (if eqb mark 0 then l else x ∷ l) values [] ≡ markShown mark x (getD values x 0) ++ shown l values []
-unfolding markShown
-first-shown mark x l values = by (eqb mark 0)
-  where
-    by : (t : Bool) → shown (if t then l else x ∷ l) values [] ≡ (if t then [] else pointShown x (getD values x 0)) ++ shown l values []
-    by true = refl
-    by false = shown-first x l values []
-
-module _ {out₀ : List ℕ} {at : ℕ} {marks values out : List ℕ} {to i : ℕ} (w : Showing out₀ at marks values out to i) where
-  unfoldable rest : List ℕ
-  rest = shown (marked (points - suc i) (suc i) marks) values []
-
-  here : i < points → Placing out₀ at (shown (markedPlaces marks) values []) out to (markShown (getD marks i 0) i (getD values i 0) ++ rest)
-  unfolding rest
+module _ {out₀ : List ℕ} {at : ℕ} {places values out : List ℕ} {to i : ℕ} (w : Showing out₀ at places values out to i) where
+  here : i < length places → Placing out₀ at (shown places values []) out to (pointShown (getD places i 0) (getD values (getD places i 0) 0) ++ shown (drop (suc i) places) values [])
   here h =
-      subst (λ (l : List ℕ). Placing out₀ at (shown (markedPlaces marks) values []) out to l)
-      (ap (λ (l : List ℕ). shown l values []) (marked-first marks i h) ∙ first-shown (getD marks i 0) i (marked (points - suc i) (suc i) marks) values)
+      subst (λ (l : List ℕ). Placing out₀ at (shown places values []) out to l)
+      (ap (λ (l : List ℕ). shown l values []) (drop-cons places i 0 h) ∙ shown-first (getD places i 0) (drop (suc i) places) values [])
       (w .placing)
 
-  pub point-room : at + length (shown (markedPlaces marks) values []) ≤ length out₀ → i < points
-      → to + length (markShown (getD marks i 0) i (getD values i 0)) ≤ length out
+  pub point-room : at + length (shown places values []) ≤ length out₀ → i < length places
+      → to + length (pointShown (getD places i 0) (getD values (getD places i 0) 0)) ≤ length out
   point-room r h =
       let p = here h in let s = p .same in let e = p .ends in
-      let l = length-append (markShown (getD marks i 0) i (getD values i 0)) rest in
+      let l = length-append (pointShown (getD places i 0) (getD values (getD places i 0) 0)) (shown (drop (suc i) places) values []) in
       omega arith
 
-  pub showing-more : {out′ : List ℕ} {p : ℕ} → i < points → Placed out to (markShown (getD marks i 0) i (getD values i 0)) out′ p
-      → Showing out₀ at marks values out′ p (i + 1)
-  unfolding rest
-  showing-more h a = rw (add-one i) (record { within = h; placing = placing-more (here h) a })
+  pub showing-more : {out′ : List ℕ} {p : ℕ} → i < length places → Placed out to (pointShown (getD places i 0) (getD values (getD places i 0) 0)) out′ p
+      → Showing out₀ at places values out′ p (i + 1)
+  showing-more h a = rw (add-one i) (record { placing = placing-more (here h) a })
 
-  pub showing-ended : points ≤ i → Placed out₀ at (shown (markedPlaces marks) values []) out to
+  pub showing-ended : length places ≤ i → Placed out₀ at (shown places values []) out to
   unfolding shown
   showing-ended h =
-      ended (subst (λ (l : List ℕ). Placing out₀ at (shown (markedPlaces marks) values []) out to (shown l values [])) (marked-end marks i h) (w .placing))
+      ended (subst (λ (l : List ℕ). Placing out₀ at (shown places values []) out to (shown l values [])) (drop-of-length-le places h) (w .placing))
 
-pub ruleset showing-laws = (showing-begun, point-room, showing-more, showing-ended, placed-length)
+pub ruleset showing-laws = (showing-begun, place-wide, place-fits, place-valued, point-room, showing-more, showing-ended, placed-length)
 
 -- ---- the line
 
-module _ (marks : List ℕ) (k : ℕ) (values : List ℕ) (at : ℕ) (out : List ℕ) (r : at + length (lineOf marks k values) ≤ length out) where
-  of-line : length (lineOf marks k values) ≡ length (digits 10 k []) + (length (shown (markedPlaces marks) values []) + 1)
+module _ (places : List ℕ) (k : ℕ) (values : List ℕ) (at : ℕ) (out : List ℕ) (r : at + length (lineOf places k values) ≤ length out) where
+  of-line : length (lineOf places k values) ≡ length (digits 10 k []) + (length (shown places values []) + 1)
   unfolding lineOf
-  of-line = line-long (markedPlaces marks) k (held values)
+  of-line = line-long places k (held values)
 
   pub number-room : at + length (digits 10 k []) ≤ length out
   number-room = let l = of-line in omega arith
 
   module _ {o₁ : List ℕ} {p : ℕ} (a : Placed out at (digits 10 k []) o₁ p) where
-    pub points-room : p + length (shown (markedPlaces marks) values []) ≤ length o₁
+    pub points-room : p + length (shown places values []) ≤ length o₁
     points-room = let l = of-line in let e = a .ends in let s = placed-length a in omega arith
 
-    module _ {o₂ : List ℕ} {q : ℕ} (b : Placed o₁ p (shown (markedPlaces marks) values []) o₂ q) where
+    module _ {o₂ : List ℕ} {q : ℕ} (b : Placed o₁ p (shown places values []) o₂ q) where
       pub end-room : q + 1 ≤ length o₂
       end-room =
           let l = of-line in let e = a .ends in let s = placed-length a in let f = b .ends in let t = placed-length b in
           omega arith
 
-      pub line-placed : {o₃ : List ℕ} {u : ℕ} → Placed o₂ q (10 ∷ []) o₃ u → Placed out at (lineOf marks k values) o₃ u
+      pub line-placed : {o₃ : List ℕ} {u : ℕ} → Placed o₂ q (10 ∷ []) o₃ u → Placed out at (lineOf places k values) o₃ u
       unfolding lineOf
-      line-placed c = renamed (sym (line-is (markedPlaces marks) k (held values))) (placed-then a (placed-then b c))
+      line-placed c = renamed (sym (line-is places k (held values))) (placed-then a (placed-then b c))
 
 pub ruleset line-laws = (number-room, points-room, end-room, line-placed, placed-length)

@@ -1,28 +1,24 @@
--- The lines of a recording: how long they are together, and the line of one more scan.
+-- The driven points as the code lists them, and how long the lines of a recording are together.
 use Prim.Native.Nat.{ℕ, zero, suc, _+_, _≤_, _<_}
 use mathlib.Core.Path.{_≡_, refl, ap, _∙_, sym, subst}
 use mathlib.Core.Bool.{Bool, true, false}
-use mathlib.Core.List.{List, [], _∷_, _++_, append-assoc, append-nil}
+use mathlib.Core.List.{List, [], _∷_}
 use native.Mathlib.Omega.{arith}
 use lib.Dec.{eqb}
-use lib.ListN.{length, getD, drop, length-append}
-use lib.Seq.{sets-eq}
+use lib.ListN.{length, getD, take, length-append}
 use Rattle.model.specs.Choice.{if_then_else_}
 use Rattle.model.specs.Limits.{lastPoint}
 use Rattle.model.specs.Objects.{point}
 use Rattle.model.specs.Trees.{Tree, datum}
-use Rattle.model.specs.Jobs.{digits, isAmong}
+use Rattle.model.specs.Jobs.{isAmong}
 use Rattle.requests.specs.Panel.{driven}
 use Rattle.requests.specs.Recording.{Change}
 use Rattle.requests.specs.Scanning.{State, atStart, valueOf, valueOfAtom, scan, scans}
 use Rattle.requests.specs.ScanJob.{shown, lineAfter, ascending, drivenPlaces, linesFrom, joined, textOf}
-use Rattle.requests.proofs.Lines.{lines-of-both}
 use Rattle.requests.proofs.Binary.{Binary, BinaryState, BinaryScans, value-binary, scans-binary}
-use Rattle.text.specs.Placing.{Placed}
-use Rattle.text.proofs.Placing.{placed-then}
 use Rattle.text.proofs.Decimal.{one-digit}
 use Rattle.bits.specs.Meeting.{points}
-use Rattle.scan_lines.specs.Lines.{Marks, held, marked, markedPlaces, pointShown, lineOf}
+use Rattle.scan_lines.specs.Lines.{Marks, Lists, held, marked, markedPlaces, pointShown, lineOf}
 use Rattle.scan_lines.specs.Lengths.{numberLength, placesLength, fixedLength, linesLength}
 use Rattle.scan_lines.proofs.Showing.{shown-first, point-long, line-long}
 
@@ -43,19 +39,14 @@ module _ {d marks : List ℕ} (m : Marks d marks) where
   unfolding markedPlaces
   places-are = marked-are points 0 (omega arith)
 
-  -- the line that the code puts is the definition's
-  pub line-of : (k : ℕ) (s : State) → lineOf marks k (s .points) ≡ lineAfter (ascending points 0 d) k s
-  unfolding lineOf lineAfter
-  line-of k s = ap (λ (l : List ℕ). digits 10 k (shown l (s .points) (10 ∷ []))) places-are
-
 module _ (t : Tree) {marks : List ℕ} (m : Marks (driven t) marks) where
   pub driven-are : markedPlaces marks ≡ drivenPlaces t
   unfolding drivenPlaces lastPoint
   driven-are = places-are m
 
-  pub line-of-program : (k : ℕ) (s : State) → lineOf marks k (s .points) ≡ lineAfter (drivenPlaces t) k s
-  unfolding drivenPlaces lastPoint
-  line-of-program k s = line-of m k s
+  -- what is listed is what the definition's line shows
+  pub listed-are : {places : List ℕ} {r : ℕ} → Lists marks places r → take r places ≡ drivenPlaces t
+  listed-are w = w .is ∙ driven-are
 
 -- ---- how long
 
@@ -79,9 +70,9 @@ unfolding numberLength
 line-length places k s h = let e = line-long places k s in let p = shown-long s h places in omega arith
 
 -- the same of the code's line, where each value is 0 or 1
-pub line-of-length : (marks : List ℕ) (k : ℕ) (values : List ℕ) → Binary values → length (lineOf marks k values) ≡ numberLength k + fixedLength marks
-unfolding lineOf fixedLength
-line-of-length marks k values b = line-length (markedPlaces marks) k (held values) (record { points = b; bits = tt })
+pub line-of-length : (places : List ℕ) (k : ℕ) (values : List ℕ) → Binary values → length (lineOf places k values) ≡ numberLength k + suc (placesLength places)
+unfolding lineOf
+line-of-length places k values b = line-length places k (held values) (record { points = b; bits = tt })
 
 module _ (t : Tree) where
   lines-length : (r : List (List Change)) (k : ℕ) (s : State) → BinaryScans r → BinaryState s
@@ -105,50 +96,3 @@ module _ (t : Tree) where
   unfolding textOf
   text-length {marks} m r b h =
       subst (λ (n : ℕ). length (joined (linesFrom t 1 (atStart t) r)) ≡ linesLength 1 (length r) n) (sym (fixed-is m)) (lines-length r 1 (atStart t) b h)
-
--- ---- one more scan
-
-joined-both : (a b : List (List ℕ)) → joined (a ++ b) ≡ joined a ++ joined b
-unfolding joined
-joined-both [] b = refl
-joined-both (x ∷ a) b = ap (λ (l : List ℕ). x ++ l) (joined-both a b) ∙ sym (append-assoc x (joined a) (joined b))
-
-pub scans-more : (t : Tree) (a : List (List Change)) (c : List Change) (s : State) → scans t (a ++ (c ∷ [])) s ≡ scan t c (scans t a s)
-unfolding scans
-scans-more t [] c s = refl
-scans-more t (x ∷ a) c s = scans-more t a c (scan t x s)
-
-module _ (t : Tree) (a : List (List Change)) (c : List Change) where
-  text-from : (b : List (List Change)) → textOf t (a ++ (c ∷ b)) ≡ textOf t a ++ (lineAfter (drivenPlaces t) (length a + 1) (scan t c (scans t a (atStart t)))
-      ++ joined (linesFrom t (suc (length a + 1)) (scan t c (scans t a (atStart t))) b))
-  unfolding textOf joined linesFrom
-  text-from b = ap joined (lines-of-both t 1 (atStart t) a (c ∷ b)) ∙ joined-both (linesFrom t 1 (atStart t) a) (linesFrom t (length a + 1) (scans t a (atStart t)) (c ∷ b))
-
-  -- the text so far and the line of the next scan are the text of one more scan
-  pub text-more : textOf t (a ++ (c ∷ [])) ≡ textOf t a ++ lineAfter (drivenPlaces t) (length a + 1) (scan t c (scans t a (atStart t)))
-  unfolding joined linesFrom
-  text-more =
-      text-from [] ∙ ap (λ (l : List ℕ). textOf t a ++ l) (append-nil (lineAfter (drivenPlaces t) (length a + 1) (scan t c (scans t a (atStart t)))))
-
-  -- where there is room for the whole text there is for the next line
-  pub line-room : (b : List (List Change)) {room : ℕ} → length (textOf t (a ++ (c ∷ b))) ≤ room
-      → length (textOf t a) + length (lineAfter (drivenPlaces t) (length a + 1) (scan t c (scans t a (atStart t)))) ≤ room
-  line-room b h =
-      let line = lineAfter (drivenPlaces t) (length a + 1) (scan t c (scans t a (atStart t))) in
-      let others = joined (linesFrom t (suc (length a + 1)) (scan t c (scans t a (atStart t))) b) in
-      let e = ap length (text-from b) in let l = length-append (textOf t a) (line ++ others) in let m = length-append line others in
-      omega arith
-
-  -- so with the text so far in the output, the code's next line makes it that of one more scan
-  pub text-placed : {marks values out o₁ o₂ : List ℕ} {p q : ℕ} → Marks (driven t) marks → values ≡ (scan t c (scans t a (atStart t))) .points
-      → Placed out 0 (textOf t a) o₁ p → Placed o₁ p (lineOf marks (length a + 1) values) o₂ q → Placed out 0 (textOf t (a ++ (c ∷ []))) o₂ q
-  text-placed {marks} {values} {out} {o₁} {o₂} {p} {q} m v w l =
-      let s = scan t c (scans t a (atStart t)) in
-      subst (λ (z : List ℕ). Placed out 0 z o₂ q) (sym text-more)
-      (placed-then w (subst (λ (z : List ℕ). Placed o₁ p z o₂ q) (ap (lineOf marks (length a + 1)) v ∙ line-of-program t m (length a + 1) s) l))
-
--- what is behind a text that was placed from the front on is as it was
-pub text-in-front : {out bytes out′ : List ℕ} {past : ℕ} → length bytes ≤ length out → Placed out 0 bytes out′ past → out′ ≡ bytes ++ drop (length bytes) out
-text-in-front {out} {bytes} h w =
-    let z : 0 + length bytes ≡ length bytes = omega arith in
-    w .is ∙ sets-eq bytes out 0 (omega arith) ∙ ap (λ (n : ℕ). bytes ++ drop n out) z

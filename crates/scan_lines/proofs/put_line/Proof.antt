@@ -3,8 +3,8 @@ use borrow.Author.Needs.{needs}
 use Rattle.scan_lines.proofs.put_line.Statement.{statement}
 use Rattle.scan_lines.proofs.put_line.Tie as tie
 
-put-digits-requires : tie.Need-put-digits-requires
-put-digits-requires c κs = search (line-laws, needs)
+put-number-requires : tie.Need-put-number-requires
+put-number-requires c κs = search (line-laws, needs)
 
 put-points-requires : tie.Need-put-points-requires
 put-points-requires c κs = search (line-laws, needs)
@@ -25,7 +25,7 @@ pub put-line-spec : {M : Type 1} → statement M
 put-line-spec =
     tie.close
     (tie.spec
-    put-digits-requires
+    put-number-requires
     put-points-requires
     slice-aggregate-put-text
     put-text-requires

@@ -9,8 +9,8 @@ slice-aggregate-put-text c = search (point-laws, needs)
 put-text-requires : tie.Need-put-text-requires
 put-text-requires c κs = search (point-laws, needs)
 
-put-digits-requires : tie.Need-put-digits-requires
-put-digits-requires c κs = search (point-laws, needs)
+put-number-requires : tie.Need-put-number-requires
+put-number-requires c κs = search (point-laws, needs)
 
 slice-aggregate-put-text-2 : tie.Need-slice-aggregate-put-text-2
 slice-aggregate-put-text-2 c = search (point-laws, needs)
@@ -18,8 +18,8 @@ slice-aggregate-put-text-2 c = search (point-laws, needs)
 put-text-requires-2 : tie.Need-put-text-requires-2
 put-text-requires-2 c κs = search (point-laws, needs)
 
-put-digits-requires-2 : tie.Need-put-digits-requires-2
-put-digits-requires-2 c κs = search (point-laws, needs)
+put-number-requires-2 : tie.Need-put-number-requires-2
+put-number-requires-2 c κs = search (point-laws, needs)
 
 same-length : tie.Need-same-length
 same-length c = search (point-laws, needs)
@@ -33,9 +33,9 @@ put-point-spec =
     (tie.spec
     slice-aggregate-put-text
     put-text-requires
-    put-digits-requires
+    put-number-requires
     slice-aggregate-put-text-2
     put-text-requires-2
-    put-digits-requires-2
+    put-number-requires-2
     same-length
     returns)

@@ -1,30 +1,36 @@
-use Rattle.scan_lines.proofs.Showing.{Showing, showing-laws}
 use Prim.Native.Nat.{_-_}
-use Rattle.bits.specs.Meeting.{points}
+use lib.ListN.{length}
+use Rattle.scan_lines.proofs.Showing.{Showing, showing-laws}
 use borrow.Author.Needs.{needs}
 use Rattle.scan_lines.proofs.put_points.Statement.{statement}
 use Rattle.scan_lines.proofs.put_points.Tie as tie
 
 abbrev Inv-loop : tie.InvT-loop
-Inv-loop out₀ at marks values to₀ i₀ out to i = Showing out₀ at marks values out to i
+Inv-loop out₀ at places values to₀ i₀ out to i = Showing out₀ at places values out to i
 
 abbrev μ-loop : tie.MeasureT-loop
-μ-loop out₀ at marks values to₀ i₀ out to i = points - i
+μ-loop out₀ at places values to₀ i₀ out to i = length places - i
 
 loop-holds : tie.Need-loop-holds Inv-loop μ-loop
 loop-holds c = search (showing-laws, needs)
 
-shared-slice-read-put-marked : tie.Need-shared-slice-read-put-marked Inv-loop μ-loop
-shared-slice-read-put-marked c = search (showing-laws, needs)
+mul-place : tie.Need-mul-place Inv-loop μ-loop
+mul-place c = search (showing-laws, needs)
 
-cast-put-marked : tie.Need-cast-put-marked Inv-loop μ-loop
-cast-put-marked c = search (showing-laws, needs)
+shared-slice-read-place : tie.Need-shared-slice-read-place Inv-loop μ-loop
+shared-slice-read-place c = search (showing-laws, needs)
 
-shared-slice-read-put-marked-2 : tie.Need-shared-slice-read-put-marked-2 Inv-loop μ-loop
-shared-slice-read-put-marked-2 c = search (showing-laws, needs)
+cast-place : tie.Need-cast-place Inv-loop μ-loop
+cast-place c = search (showing-laws, needs)
 
-put-marked-requires : tie.Need-put-marked-requires Inv-loop μ-loop
-put-marked-requires c κs = search (showing-laws, needs)
+cast-put-point : tie.Need-cast-put-point Inv-loop μ-loop
+cast-put-point c = search (showing-laws, needs)
+
+shared-slice-read-put-point : tie.Need-shared-slice-read-put-point Inv-loop μ-loop
+shared-slice-read-put-point c = search (showing-laws, needs)
+
+put-point-requires : tie.Need-put-point-requires Inv-loop μ-loop
+put-point-requires c κs = search (showing-laws, needs)
 
 add-i : tie.Need-add-i Inv-loop μ-loop
 add-i c = search (showing-laws, needs)
@@ -48,10 +54,12 @@ put-points-spec =
     Inv-loop
     μ-loop
     loop-holds
-    shared-slice-read-put-marked
-    cast-put-marked
-    shared-slice-read-put-marked-2
-    put-marked-requires
+    mul-place
+    shared-slice-read-place
+    cast-place
+    cast-put-point
+    shared-slice-read-put-point
+    put-point-requires
     add-i
     loop-less
     loop-again
