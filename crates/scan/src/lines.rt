@@ -1,6 +1,7 @@
 // The lines of all scans, one at a time.
+use bits::Gathered;
 use numbers::Cursor;
-use scan_lines::lengths;
+use scan_lines::listing;
 use scan_runner::preparation;
 use scan_runner::preparation::Preparation;
 use scan_runner::preparation::Prepared;
@@ -25,12 +26,12 @@ fn print_scans(
     first: Cursor,
     scans: u32,
     code: &[u16],
-    marks: &[u8],
+    places: &[u16],
     points: &mut [u8],
     bits: &mut [u8],
     line: &mut [u8],
 )
-    requires { ⌜ Printable (now recording) (first .at) scans (now code) (now marks) (now points) (now bits) (now line) ⌝ }
+    requires { ⌜ Printable (now recording) (first .at) scans (now code) (now places) (now points) (now bits) (now line) ⌝ }
 {
     let front = Cursor { at: 0 };
     let mut here = first;
@@ -38,7 +39,7 @@ fn print_scans(
     while done < scans {
         let s = front.after(recording, here);
         here = step::scan_once(here, s, code, points, bits);
-        let end = scan_lines::put_line(line, 0, done + 1, marks, points);
+        let end = scan_lines::put_line(line, 0, done + 1, places, points);
         io::write_all(OUT, &line[..end]);
         done += 1;
     }
@@ -56,15 +57,16 @@ fn print_prepared(
     requires stands { ⌜ Standing (now recording) (now marks) (now code) (now points) (now bits) p ⌝ }
     requires room { ⌜ mostLine ≤ length (now line) ⌝ }
 {
-    lengths::fixed_length(marks);
     let words = p.words as usize;
     let n = p.bits as usize;
+    let mut places = [0u16; Gathered::POINTS];
+    let driven = listing::list_points(marks, &mut places);
     print_scans(
         recording,
         p.first,
         p.scans,
         &code[..words],
-        marks,
+        &places[..driven],
         points,
         &mut bits[..n],
         line,

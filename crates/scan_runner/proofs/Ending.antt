@@ -21,8 +21,10 @@ use Rattle.bits.specs.Meeting as meeting
 use Rattle.bits.proofs.Gathering.{no-marks}
 use Rattle.panel_check.proofs.Names.{names-long}
 use Rattle.ladder.specs.Running.{Fits, instructionsOf}
+use Rattle.scan_lines.specs.Lines.{Lists}
 use Rattle.scan_lines.specs.Lengths.{mostScans, fixedLength, linesLength}
-use Rattle.scan_lines.proofs.Texts.{text-length}
+use Rattle.scan_lines.proofs.Driven.{listed-points}
+use Rattle.scan_lines.proofs.Texts.{listed-are, text-length}
 use Rattle.scan_runner.specs.declared.refusal.ScanRefusal.{ScanRefusal}
 use Rattle.scan_runner.specs.declared.refusal.ScanRefusal.the-variants.{Panel}
 use Rattle.scan_runner.specs.declared.preparation.Prepared.{Prepared}
@@ -53,10 +55,10 @@ module _ {recording marks code bits : List ℕ} {p : Prepared} {text : List ℕ}
       ∙ text-length (s .tree) (s .programmed .marked) (s .changes) (scans-binary (p .scans) (drop (p .first .at) recording) (s .changes) (r .reads)) start-binary
       ∙ ap (λ (n : ℕ). linesLength 1 n (fixedLength marks)) (scans-many (p .scans) (drop (p .first .at) recording) (s .changes) (r .reads))
 
-  pub due-first : {points : List ℕ} → meeting.points ≤ length marks → points ≡ replicate meeting.points 0
-      → Due recording (p .first .at) (p .scans) 0 (take (p .words) code) marks points (take (p .bits) bits) text
+  pub due-first : {points places : List ℕ} {r : ℕ} → Lists marks places r → points ≡ replicate meeting.points 0
+      → Due recording (p .first .at) (p .scans) 0 (take (p .words) code) (take r places) points (take (p .bits) bits) text
   unfolding textOf atStart lastPoint
-  due-first {points} l e =
+  due-first {points} w e =
       let g = s .programmed in
       let t = s .tree in
       let same : record { points = points; bits = take (p .bits) bits } ≡ atStart t = λ i. record { points = e i; bits = g .bits-are i } in
@@ -65,8 +67,8 @@ module _ {recording marks code bits : List ℕ} {p : Prepared} {text : List ℕ}
       record {
         tree = t;
         code-of = g .code-of;
-        marked = g .marked;
-        marks-long = l;
+        listed = listed-are t (g .marked) w;
+        points-listed = listed-points w;
         ready = record {
           points-room = let k = ap length e ∙ length-replicate {A = ℕ} meeting.points 0 in omega arith;
           points-binary = b .points;
@@ -98,6 +100,9 @@ module _ {recording marks code points bits : List ℕ} {p : Prepared} (s : Stand
   pub bits-taken : length (take (p .bits) bits) ≡ p .bits
   bits-taken = length-take-le (p .bits) bits bits-within
 
+  pub places-taken : {places : List ℕ} {r : ℕ} → Lists marks places r → length (take r places) ≡ r
+  places-taken {places} {r} w = length-take-le r places (w .within)
+
   module _ {fixed total : ℕ} (f : fixed ≡ fixedLength marks) (n : total ≡ linesLength 1 (p .scans) fixed) where
     total-is : {text : List ℕ} → Stands recording marks code bits p text → length text ≡ total
     total-is k = text-long k ∙ ap (linesLength 1 (p .scans)) (sym f) ∙ sym n
@@ -111,18 +116,18 @@ module _ {recording marks code points bits : List ℕ} {p : Prepared} (s : Stand
             let l : length out < length text = omega arith in
             record { answer = rw (lt-leb (length text) (length out) l); left = rw (lt-leb (length text) (length out) l) }
 
-    module _ {out : List ℕ} (h : total ≤ length out) where
-      pub prepared-runnable : Runnable recording (p .first .at) (p .scans) (take (p .words) code) marks points (take (p .bits) bits) out
+    module _ {out : List ℕ} (h : total ≤ length out) {places : List ℕ} {r : ℕ} (w : Lists marks places r) where
+      pub prepared-runnable : Runnable recording (p .first .at) (p .scans) (take (p .words) code) (take r places) points (take (p .bits) bits) out
       prepared-runnable = record {
         text = s .text;
-        due = due-first (s .stands) (s .marks-long) (s .points-are);
+        due = due-first (s .stands) w (s .points-are);
         room = let e = total-is (s .stands) in omega arith;
       }
 
-      pub prepared-ran : {out′ : List ℕ} → Ran recording (p .first .at) (p .scans) (take (p .words) code) marks points (take (p .bits) bits) out out′
+      pub prepared-ran : {out′ : List ℕ} → Ran recording (p .first .at) (p .scans) (take (p .words) code) (take r places) points (take (p .bits) bits) out out′
           → RunsPrepared recording marks code bits p out out′ (Printed total)
       unfolding scanRoom scanAnswer outputAfterScans
-      prepared-ran {out′} r = record { ends = λ text k. by text (total-is k) (r .is text (due-first k (s .marks-long) (s .points-are))) }
+      prepared-ran {out′} q = record { ends = λ text k. by text (total-is k) (q .is text (due-first k w (s .points-are))) }
         where
           by : (text : List ℕ) → length text ≡ total → out′ ≡ sets out 0 text → Ends (scanRoom (length out) (printed text)) out out′ (Printed total)
           by text e q =
@@ -154,4 +159,7 @@ module _ {image recording marks code bits : List ℕ} {k : Preparation} (h : Pre
 pub code-room : 32768 ≤ length (replicate {A = ℕ} 32768 0)
 code-room = let e : length (replicate {A = ℕ} 32768 0) ≡ 32768 = length-replicate {A = ℕ} 32768 0 in omega arith
 
-pub ruleset job-laws = (no-marks, names-long, code-room, few-scans, words-within, bits-within, words-taken, bits-taken, prepared-too-long, prepared-runnable, prepared-ran, job-refused, job-standing, job-ran)
+pub places-room : meeting.points ≤ length (replicate {A = ℕ} 1024 0)
+places-room = let e : length (replicate {A = ℕ} 1024 0) ≡ 1024 = length-replicate {A = ℕ} 1024 0 in omega arith
+
+pub ruleset job-laws = (no-marks, names-long, code-room, few-scans, words-within, bits-within, words-taken, bits-taken, places-taken, places-room, prepared-too-long, prepared-runnable, prepared-ran, job-refused, job-standing, job-ran)

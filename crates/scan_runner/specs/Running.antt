@@ -7,13 +7,12 @@ use lib.Seq.{sets}
 use Rattle.model.specs.Trees.{Tree}
 use Rattle.model.specs.Reading.{got}
 use Rattle.model.specs.Jobs.{Answer}
-use Rattle.requests.specs.Panel.{driven}
 use Rattle.requests.specs.Recording.{Change, readScans}
-use Rattle.requests.specs.ScanJob.{linesFrom, joined, ScanEnding, printed, scanCode, scanOf, scanRoom, scanAnswer, outputAfterScans}
+use Rattle.requests.specs.ScanJob.{drivenPlaces, linesFrom, joined, ScanEnding, printed, scanCode, scanOf, scanRoom, scanAnswer, outputAfterScans}
 use Rattle.numbers.specs.Limits.{mostImage}
 use Rattle.bits.specs.Meeting as meeting
 use Rattle.ladder.specs.Places.{Ready}
-use Rattle.scan_lines.specs.Lines.{Marks}
+use Rattle.scan_lines.specs.Lines.{Points}
 use Rattle.scan_runner.specs.declared.preparation.Prepared.{Prepared}
 use Rattle.scan_runner.specs.declared.job.Printing.{Printing}
 use Rattle.scan_runner.specs.declared.job.Printing.the-variants.{Printed, Refused}
@@ -22,11 +21,11 @@ use Rattle.scan_runner.specs.Stepping.{CodeOf}
 use Rattle.scan_runner.specs.Preparing.{Stands}
 
 -- n scans are left of a recording at the place `at`, behind as many as are done, and `text` is their lines
-pub record Due (recording : List ℕ) (at n done : ℕ) (code marks points bits text : List ℕ) : Type 0 where
+pub record Due (recording : List ℕ) (at n done : ℕ) (code places points bits text : List ℕ) : Type 0 where
   pub tree : Tree
   pub code-of : CodeOf tree code
-  pub marked : Marks (driven tree) marks
-  pub marks-long : meeting.points ≤ length marks
+  pub listed : places ≡ drivenPlaces tree
+  pub points-listed : Points places
   pub ready : Ready code points bits
   pub short : length recording ≤ mostImage
   pub within : at ≤ length recording
@@ -34,13 +33,13 @@ pub record Due (recording : List ℕ) (at n done : ℕ) (code marks points bits 
   pub reads : readScans n (drop at recording) ≡ got changes []
   pub text-is : text ≡ joined (linesFrom tree (suc done) (record { points = points; bits = bits }) changes)
 
-pub record Runnable (recording : List ℕ) (first scans : ℕ) (code marks points bits out : List ℕ) : Type 0 where
+pub record Runnable (recording : List ℕ) (first scans : ℕ) (code places points bits out : List ℕ) : Type 0 where
   pub text : List ℕ
-  pub due : Due recording first scans 0 code marks points bits text
+  pub due : Due recording first scans 0 code places points bits text
   pub room : length text ≤ length out
 
-pub record Ran (recording : List ℕ) (first scans : ℕ) (code marks points bits out out′ : List ℕ) : Type 0 where
-  pub is : (text : List ℕ) → Due recording first scans 0 code marks points bits text → out′ ≡ sets out 0 text
+pub record Ran (recording : List ℕ) (first scans : ℕ) (code places points bits out out′ : List ℕ) : Type 0 where
+  pub is : (text : List ℕ) → Due recording first scans 0 code places points bits text → out′ ≡ sets out 0 text
 
 -- ---- what was prepared, and points at 0
 
@@ -51,8 +50,8 @@ pub record Standing (recording marks code points bits : List ℕ) (p : Prepared)
   pub points-are : points ≡ replicate meeting.points 0
 
 abbrev pub answerFor : Printing → Answer
-answerFor (Printed n) = record { code = 0; units = 0; name = 0; len = n }
-answerFor (Refused f) = record { code = scanCode (scanRefusalOf f); units = 0; name = 0; len = 0 }
+answerFor (Printed n) = record { code = 0; units = 0; name = 0; len = n; first = 0; second = 0 }
+answerFor (Refused f) = record { code = scanCode (scanRefusalOf f); units = 0; name = 0; len = 0; first = 0; second = 0 }
 
 -- an ending, as the code answers it and leaves the bytes lent
 pub record Ends (e : ScanEnding) (out out′ : List ℕ) (r : Printing) : Type 0 where

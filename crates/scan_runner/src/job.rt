@@ -8,6 +8,7 @@ use numbers::Cursor;
 use panel_check::refusal::PanelRefusal;
 use refusals::Refusal;
 use scan_lines::lengths;
+use scan_lines::listing;
 use wiring::Wired;
 ghost use mathlib.Core.Path.{_≡_};
 ghost use Prim.Native.Nat.{_≤_};
@@ -28,13 +29,13 @@ fn run_scans(
     first: Cursor,
     scans: u32,
     code: &[u16],
-    marks: &[u8],
+    places: &[u16],
     points: &mut [u8],
     bits: &mut [u8],
     out: &mut [u8],
 )
-    requires { ⌜ Runnable (now recording) (first .at) scans (now code) (now marks) (now points) (now bits) (now out) ⌝ }
-    ensures { λ _. ⌜ Ran (now (recording .entry)) (first .at) scans (now (code .entry)) (now (marks .entry)) (now (points .entry)) (now (bits .entry)) (now (out .entry)) (now (out .exit)) ⌝ }
+    requires { ⌜ Runnable (now recording) (first .at) scans (now code) (now places) (now points) (now bits) (now out) ⌝ }
+    ensures { λ _. ⌜ Ran (now (recording .entry)) (first .at) scans (now (code .entry)) (now (places .entry)) (now (points .entry)) (now (bits .entry)) (now (out .entry)) (now (out .exit)) ⌝ }
 {
     let front = Cursor { at: 0 };
     let mut here = first;
@@ -43,7 +44,7 @@ fn run_scans(
     while done < scans {
         let s = front.after(recording, here);
         here = step::scan_once(here, s, code, points, bits);
-        at = scan_lines::put_line(out, at, done + 1, marks, points);
+        at = scan_lines::put_line(out, at, done + 1, places, points);
         done += 1;
     }
 }
@@ -68,12 +69,14 @@ fn run_prepared(
     }
     let words = p.words as usize;
     let n = p.bits as usize;
+    let mut places = [0u16; Gathered::POINTS];
+    let driven = listing::list_points(marks, &mut places);
     run_scans(
         recording,
         p.first,
         p.scans,
         &code[..words],
-        marks,
+        &places[..driven],
         points,
         &mut bits[..n],
         out,
