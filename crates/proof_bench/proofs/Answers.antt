@@ -10,6 +10,7 @@ use lib.Dec.{leb}
 use lib.ListN.{length, drop, replicate, length-append, length-drop, length-replicate}
 use Rattle.model.specs.Choice.{if_then_else_}
 use Rattle.model.specs.Refusals.{Refusal, layout, overLimit, unowned, wrongKind, smallTable, ambiguous, noMeaning, noRule, noSyntax, notApplicable, wrongArgument, noPhase, noNameLeft, noScopeLeft, noBindingLeft, tooDeep, tooManyEntries, overBudget, tooLong, codeOf}
+use Rattle.model.specs.Competing.{Rivals, noRivals}
 use Rattle.model.specs.Reading.{Read, got, fault, Image, readSyntax, readTreeImage, readImage}
 use Rattle.model.specs.Writing.{syntaxBytes, treeImageBytes}
 use Rattle.model.specs.Steps.{State, Out, ok, no}
@@ -21,12 +22,12 @@ use Rattle.addresses.proofs.Endings.{after-ending, untouched, lent-cases, expan
 -- ---- refusals
 
 -- every refusal leaves the output untouched and gives name 0 and length 0
-pub refusals-leave-the-output : (budget : ℕ) (table output : List ℕ) (r : Refusal) (u : ℕ)
-    → ((lent budget table output (refused r u)) .output ≡ output) × ((lent budget table output (refused r u)) .answer .name ≡ 0)
-    × ((lent budget table output (refused r u)) .answer .len ≡ 0)
+pub refusals-leave-the-output : (budget : ℕ) (table output : List ℕ) (r : Refusal) (p : Rivals) (u : ℕ)
+    → ((lent budget table output (refused r p u)) .output ≡ output) × ((lent budget table output (refused r p u)) .answer .name ≡ 0)
+    × ((lent budget table output (refused r p u)) .answer .len ≡ 0)
 unfolding answerOf outputAfter
-refusals-leave-the-output budget table output r u =
-    lent-cases (λ (z : Result). (z .output ≡ output) × (z .answer .name ≡ 0) × (z .answer .len ≡ 0)) budget table output (refused r u)
+refusals-leave-the-output budget table output r p u =
+    lent-cases (λ (z : Result). (z .output ≡ output) × (z .answer .name ≡ 0) × (z .answer .len ≡ 0)) budget table output (refused r p u)
     (refl, refl, refl) (refl, refl, refl)
 
 -- ---- number 16 is no refusal's, and no job answers it
@@ -54,19 +55,19 @@ no-refusal-has-16 tooLong e = omega arith
 
 ending-not-16 : (e : Ending) → (answerOf e) .code ≡ 16 → ⊥
 unfolding answerOf
-ending-not-16 (refused r u) q = no-refusal-has-16 r q
+ending-not-16 (refused r p u) q = no-refusal-has-16 r q
 ending-not-16 (named n u) q = omega arith
 ending-not-16 (written b u) q = omega arith
 
 pub no-job-answers-16 : (budget : ℕ) (table output : List ℕ) (e : Ending) → (lent budget table output e) .answer .code ≡ 16 → ⊥
 no-job-answers-16 budget table output e =
-    lent-cases (λ (z : Result). z .answer .code ≡ 16 → ⊥) budget table output e (ending-not-16 e) (ending-not-16 (refused smallTable 0))
+    lent-cases (λ (z : Result). z .answer .code ≡ 16 → ⊥) budget table output e (ending-not-16 e) (ending-not-16 (refused smallTable noRivals 0))
 
 -- ---- the table
 
 -- code 5: nothing is touched, whatever the job would have done
 pub code-5-touches-nothing : (budget : ℕ) (table output : List ℕ) (e : Ending) → budgetFits budget (length table) ≡ false
-    → lent budget table output e ≡ record { answer = record { code = 5; units = 0; name = 0; len = 0 }; output = output; table = table }
+    → lent budget table output e ≡ record { answer = record { code = 5; units = 0; name = 0; len = 0; first = 0; second = 0 }; output = output; table = table }
 unfolding lent answerOf
 code-5-touches-nothing budget table output e q = rw q
 
@@ -103,21 +104,21 @@ the-table-keeps-its-length budget table output e = go (budgetFits budget (length
 -- the image stands at the start of the output and no byte after it is touched
 pub success-writes-from-the-start : (budget : ℕ) (table output b : List ℕ) (u : ℕ) → budgetFits budget (length table) ≡ true
     → ((lent budget table output (written b u)) .output ≡ b ++ drop (length b) output)
-    × ((lent budget table output (written b u)) .answer ≡ record { code = 0; units = u; name = 0; len = length b })
+    × ((lent budget table output (written b u)) .answer ≡ record { code = 0; units = u; name = 0; len = length b; first = 0; second = 0 })
 unfolding lent answerOf outputAfter
 success-writes-from-the-start budget table output b u q = (rw q, rw q)
 
 -- ---- units never exceed the budget
 
 abbrev Within : ℕ → Ending → Type 0
-Within budget (refused r u) = u ≤ budget
+Within budget (refused r p u) = u ≤ budget
 Within budget (named n u) = u ≤ budget
 Within budget (written b u) = u ≤ budget
 
 worked-within : {A : Type 0} (budget : ℕ) (o : Out A) (f : A → State → Ending) → ((a : A) (s : State) → Within budget (f a s)) → Within budget (worked budget o f)
 unfolding worked
 worked-within budget (ok a s) f h = h a s
-worked-within budget (no r u) f h = sub-le budget u
+worked-within budget (no r p u) f h = sub-le budget u
 
 image-within : {R : Type 0} (budget : ℕ) (o : Read (Image R)) (f : Image R → Ending) → ((i : Image R) → Within budget (f i)) → Within budget (withImage o f)
 unfolding withImage
@@ -130,11 +131,11 @@ if-within budget false x y p q = q
 
 fitted-within : (budget room : ℕ) (b : List ℕ) (u : ℕ) → u ≤ budget → Within budget (fitted room b u)
 unfolding fitted
-fitted-within budget room b u h = if-within budget (leb (length b) room && leb (length b) 65536) (written b u) (refused tooLong u) h h
+fitted-within budget room b u h = if-within budget (leb (length b) room && leb (length b) 65536) (written b u) (refused tooLong noRivals u) h h
 
 phase-within : (budget ph : ℕ) (e : Ending) → Within budget e → Within budget (atPhase ph e)
 unfolding atPhase
-phase-within budget ph e h = if-within budget (leb ph 2) e (refused noPhase 0) h zero-le
+phase-within budget ph e h = if-within budget (leb ph 2) e (refused noPhase noRivals 0) h zero-le
 
 lent-within : (budget : ℕ) (table output : List ℕ) (e : Ending) → Within budget e → (lent budget table output e) .answer .units ≤ budget
 unfolding answerOf
@@ -142,7 +143,7 @@ lent-within budget table output e h =
     lent-cases (λ (z : Result). z .answer .units ≤ budget) budget table output e (units-of e h) zero-le
   where
     units-of : (e : Ending) → Within budget e → (answerOf e) .units ≤ budget
-    units-of (refused r u) q = q
+    units-of (refused r p u) q = q
     units-of (named n u) q = q
     units-of (written b u) q = q
 
@@ -179,6 +180,6 @@ evaluate-units-are-within-the-budget image budget table output =
     (lent-within budget table output (evaluateEnding image budget (length output))
     (subst (Within budget) (sym (evaluateEnding-is image budget (length output)))
     (image-within budget (readImage readTreeImage image) (evaluateWork budget (length output)) (λ i.
-    if-within budget (closed [] (i .root)) _ (refused unowned 0)
+    if-within budget (closed [] (i .root)) _ (refused unowned noRivals 0)
     (worked-within budget (evaluateRoot (i .root) (start budget i)) _ (λ r s.
     fitted-within budget (length output) (treeImageBytes (reached (i .head) s) r) (budget - s .left) (sub-le budget (s .left)))) zero-le))))

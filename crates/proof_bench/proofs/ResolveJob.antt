@@ -1,6 +1,6 @@
 -- Condition 2 on resolving, of the job: 'Once the image is read and its loading paid for, resolving an identifier answers with a binding
 -- exactly when one largest binding fits, and says ambiguous exactly when several fit and none contains the others.' What it says of an
--- answer is `ResolvesExactly`; the theorem is `resolving-is-exact`. It asks for no `Keys`: the bindings of an image that is read ascend.
+-- answer is `ResolvesExactly`; the theorem is `resolving-is-exact`. By request T-04 code 6 comes with the places of two that compete. It asks for no `Keys`: the bindings of an image that is read ascend.
 use mathlib.Core.Path.{_≡_, refl, sym, ap, _∙_, subst}
 use mathlib.Core.Logic.{_⊎_, inl, inr, _≢_, _↔_}
 use Prim.Native.Nat.{ℕ, _-_, _≤_, zero-le}
@@ -13,16 +13,20 @@ use Rattle.model.specs.Refusals.{ambiguous, overBudget}
 use Rattle.model.specs.Scopes.{Scopes, within}
 use Rattle.model.specs.Objects.{Sets, setAt, symbol, Stx, atom, size}
 use Rattle.model.specs.Resolving.{Bind, Found, means, several, candidates, resolve}
+use Rattle.model.specs.Competing.{Rivals, noRivals, rivals}
 use Rattle.model.specs.Reading.{got, Image, readSyntax, readImage}
 use Rattle.model.specs.Steps.{Out, no, charge, nameOf, resolveAt, identifier}
 use Rattle.model.specs.Jobs.{Ending, refused, named, Answer, answerOf, Result, budgetFits, lent, atPhase, withImage, start, worked, resolveRoot, resolveEnding, resolveJob}
 use borrow.Author.Tests.{le-leb}
+use Rattle.laws.specs.Ordered.{Sorted}
+use Rattle.laws.specs.Rivalry.{Compete}
 use Rattle.laws.proofs.ScopeSets.{within-refl, within-antisym}
-use Rattle.laws.proofs.ResolveRule.{In, Largest, Rule, free, found, unclear, resolve-is, candidates-sound}
+use Rattle.laws.proofs.ResolveRule.{In, Largest, Rule, free, found, unclear, resolve-is, candidates-sound, ContainsAll, MissesOne, contains-all-or-misses-one}
 use Rattle.laws.proofs.ResolveExactly.{Named, Unclear, symbol-where-none, target-of-largest, name-comes-of, ambiguous-exactly}
 use Rattle.laws.proofs.Stable.{Keys}
 use Rattle.laws.proofs.Order.{sorted-keys}
 use Rattle.laws.proofs.StepLaws.{spend}
+use Rattle.laws.proofs.TwoCompete.{two-compete}
 use Rattle.codec_laws.specs.WellFormed.{Bytes}
 use Rattle.codec_laws.proofs.ImageLaws.{syntax-read-keeps-limits, syntax-read-then-written, syntax-written-then-read}
 use Rattle.addresses.proofs.Endings.{resolveWork, resolveEnding-is, resolveJob-is, with-read, worked-no}
@@ -31,10 +35,14 @@ use Rattle.addresses.proofs.Endings.{resolveWork, resolveEnding-is, resolveJob-
 
 -- the answers that there are, each for the one unit that loading an identifier costs: a name, or ambiguous
 abbrev pub names : ℕ → Answer
-names n = record { code = 0; units = 1; name = n; len = 0 }
+names n = record { code = 0; units = 1; name = n; len = 0; first = 0; second = 0 }
 
-abbrev pub says-ambiguous : Answer
-says-ambiguous = record { code = 6; units = 1; name = 0; len = 0 }
+abbrev pub says-ambiguous : Rivals → Answer
+says-ambiguous p = record { code = 6; units = 1; name = 0; len = 0; first = p .first; second = p .second }
+
+-- the places in an answer
+abbrev pub places : Answer → Rivals
+places a = record { first = a .first; second = a .second }
 
 -- two of l differ
 pub record SeveralFit (l : List Bind) : Type 0 where
@@ -48,7 +56,7 @@ pub record SeveralFit (l : List Bind) : Type 0 where
 pub data Comes (x : ℕ) (s : Scopes) (bs : List Bind) (a : Answer) : Type 0 where
   of-the-largest : (b : Bind) → Largest b (candidates x s bs) → a ≡ names (b .target) → Comes x s bs a
   of-no-candidate : candidates x s bs ≡ [] → a ≡ names x → Comes x s bs a
-  of-none-largest : Unclear x s bs → a ≡ says-ambiguous → Comes x s bs a
+  of-none-largest : Unclear x s bs → a ≡ says-ambiguous (rivals x s bs) → Comes x s bs a
 
 -- the answer for symbol x with set s among the bindings bs. Those that fit are `candidates x s bs`: the bindings of x whose set is contained in
 -- s (`candidates-sound` and `candidates-complete`, laws/proofs/ResolveRule). `Largest`: one of these that contains all of them. `Unclear`: there
@@ -63,36 +71,18 @@ pub record ResolvesExactly (x : ℕ) (s : Scopes) (bs : List Bind) (a : Answer) 
   pub code-0-comes-of : a .code ≡ 0 → Named x s bs (a .name)
   -- code 6 exactly when some fit and none contains the others; those that fit are several then
   pub code-6-exactly : (a .code ≡ 6) ↔ Unclear x s bs
-  pub ambiguity-is-answered : Unclear x s bs → a ≡ says-ambiguous
+  pub ambiguity-is-answered : Unclear x s bs → a ≡ says-ambiguous (rivals x s bs)
   pub ambiguity-is-of-several : Unclear x s bs → SeveralFit (candidates x s bs)
+  -- with code 6 the two places are those of the first two that compete
+  pub code-6-names-two-that-compete : a .code ≡ 6 → Compete x s bs (places a)
   -- the answer is one of these three
   pub nothing-else : Comes x s bs a
 
 -- ---- what is found, as an answer
 
-abbrev answering : Found → Answer
-answering (means n) = names n
-answering several = says-ambiguous
-
--- b contains all of l; one of l is not contained in b
-abbrev ContainsAll : Bind → List Bind → Type 0
-ContainsAll b l = (c : Bind) → In c l → within (c .set) (b .set) ≡ true
-
-abbrev MissesOne : Bind → List Bind → Type 0
-MissesOne b l = (c : Bind) × In c l × (within (c .set) (b .set) ≡ false)
-
-contains-all-or-misses-one : (b : Bind) (l : List Bind) → ContainsAll b l ⊎ MissesOne b l
-contains-all-or-misses-one b [] = inl (λ c i. absurd i)
-contains-all-or-misses-one b (d ∷ l) = go (within (d .set) (b .set)) refl (contains-all-or-misses-one b l)
-  where
-    both : within (d .set) (b .set) ≡ true → ContainsAll b l → ContainsAll b (d ∷ l)
-    both e all c (inl p) = ap (λ (z : Bind). within (z .set) (b .set)) p ∙ e
-    both e all c (inr i) = all c i
-
-    go : (t : Bool) → within (d .set) (b .set) ≡ t → ContainsAll b l ⊎ MissesOne b l → ContainsAll b (d ∷ l) ⊎ MissesOne b (d ∷ l)
-    go true e (inl all) = inl (both e all)
-    go true e (inr (c, i, q)) = inr (c, inr i, q)
-    go false e r = inr (d, inl refl, e)
+abbrev answering : Rivals → Found → Answer
+answering p (means n) = names n
+answering p several = says-ambiguous p
 
 -- where none contains the others there are several: one alone contains itself
 none-largest-is-several : (l : List Bind) → l ≢ [] → ((b : Bind) → Largest b l → ⊥) → SeveralFit l
@@ -109,7 +99,10 @@ none-largest-is-several (b ∷ l) there none = go (contains-all-or-misses-one b 
       different = λ p. false≢true (sym q ∙ ap (λ (z : Bind). within (z .set) (b .set)) (sym p) ∙ within-refl (b .set));
     }
 
-module _ (x : ℕ) (s : Scopes) (bs : List Bind) (k : Keys bs) where
+module _ (x : ℕ) (s : Scopes) (bs : List Bind) (o : Sorted bs) where
+  k : Keys bs
+  k = sorted-keys bs o
+
   one-largest : (b c : Bind) → Largest b (candidates x s bs) → Largest c (candidates x s bs) → b ≡ c
   one-largest b c h g =
       let p = candidates-sound x s bs b (h .here) in
@@ -117,35 +110,42 @@ module _ (x : ℕ) (s : Scopes) (bs : List Bind) (k : Keys bs) where
       k b c (p .stored) (q .stored) (p .symbol-is ∙ sym (q .symbol-is))
       (within-antisym (b .set) (c .set) (g .above b (h .here)) (h .above c (g .here)))
 
-  found-by-code-0 : (f : Found) → resolve x s bs ≡ f → (answering f) .code ≡ 0 → Named x s bs ((answering f) .name)
+  found-by-code-0 : (f : Found) → resolve x s bs ≡ f → (answering (rivals x s bs) f) .code ≡ 0 → Named x s bs ((answering (rivals x s bs) f) .name)
   found-by-code-0 (means n) e q = name-comes-of x s bs n e
   found-by-code-0 several e q =
       let z : ⊥ = omega arith in
       absurd z
 
-  found-by-code-6 : (f : Found) → resolve x s bs ≡ f → (answering f) .code ≡ 6 → Unclear x s bs
+  found-by-code-6 : (f : Found) → resolve x s bs ≡ f → (answering (rivals x s bs) f) .code ≡ 6 → Unclear x s bs
   found-by-code-6 (means n) e q =
       let z : ⊥ = omega arith in
       absurd z
   found-by-code-6 several e q = ambiguous-exactly x s bs k .0 e
 
-  ambiguity : Unclear x s bs → answering (resolve x s bs) ≡ says-ambiguous
-  ambiguity u = ap answering (ambiguous-exactly x s bs k .1 u)
+  ambiguity : Unclear x s bs → answering (rivals x s bs) (resolve x s bs) ≡ says-ambiguous (rivals x s bs)
+  ambiguity u = ap (answering (rivals x s bs)) (ambiguous-exactly x s bs k .1 u)
 
-  comes : (f : Found) → Rule x (candidates x s bs) f → Comes x s bs (answering f)
+  found-two : (f : Found) → resolve x s bs ≡ f → (answering (rivals x s bs) f) .code ≡ 6 → Compete x s bs (places (answering (rivals x s bs) f))
+  found-two (means n) e q =
+      let z : ⊥ = omega arith in
+      absurd z
+  found-two several e q = two-compete x s bs o e
+
+  comes : (f : Found) → Rule x (candidates x s bs) f → Comes x s bs (answering (rivals x s bs) f)
   comes f (free e) = of-no-candidate e refl
   comes f (found b h) = of-the-largest b h refl
   comes f (unclear there none) = of-none-largest (record { there-are = there; no-largest = none }) refl
 
-  what-is-found-is-exact : ResolvesExactly x s bs (answering (resolve x s bs))
+  what-is-found-is-exact : ResolvesExactly x s bs (answering (rivals x s bs) (resolve x s bs))
   what-is-found-is-exact = record {
-    largest-is-answered = λ b h. ap answering (target-of-largest x s bs k b h);
+    largest-is-answered = λ b h. ap (answering (rivals x s bs)) (target-of-largest x s bs k b h);
     largest-is-one = one-largest;
-    symbol-is-answered = λ e. ap answering (symbol-where-none x s bs k e);
+    symbol-is-answered = λ e. ap (answering (rivals x s bs)) (symbol-where-none x s bs k e);
     code-0-comes-of = found-by-code-0 (resolve x s bs) refl;
     code-6-exactly = (found-by-code-6 (resolve x s bs) refl, λ u. ap (λ (a : Answer). a .code) (ambiguity u));
     ambiguity-is-answered = ambiguity;
     ambiguity-is-of-several = λ u. none-largest-is-several (candidates x s bs) (u .there-are) (u .no-largest);
+    code-6-names-two-that-compete = found-two (resolve x s bs) refl;
     nothing-else = comes (resolve x s bs) (resolve-is x s bs);
   }
 
@@ -155,37 +155,38 @@ at-a-phase : (ph : ℕ) (e : Ending) → ph ≤ 2 → atPhase ph e ≡ e
 unfolding atPhase
 at-a-phase ph e h = rw (le-leb ph 2 h)
 
-abbrev ending : Found → Ending
-ending (means n) = named n 1
-ending several = refused ambiguous 1
+abbrev ending : Rivals → Found → Ending
+ending p (means n) = named n 1
+ending p several = refused ambiguous p 1
 
 -- an identifier as root: one unit is charged, and then it is resolved
 identifier-is-resolved : (ph budget : ℕ) (i : Image Stx) (c : Sets) (x : ℕ) → 1 ≤ budget
-    → resolveRoot ph (atom c (symbol x)) (start budget i) ≡ nameOf (resolve x (setAt ph c) (i .binds)) (spend 1 (start budget i))
+    → resolveRoot ph (atom c (symbol x)) (start budget i)
+    ≡ nameOf (rivals x (setAt ph c) (i .binds)) (resolve x (setAt ph c) (i .binds)) (spend 1 (start budget i))
 unfolding resolveRoot charge size identifier resolveAt start spend
 identifier-is-resolved ph budget i c x h = rw (le-leb 1 budget h)
 
-identifier-is-not-paid : (ph : ℕ) (i : Image Stx) (c : Sets) (x : ℕ) → resolveRoot ph (atom c (symbol x)) (start 0 i) ≡ no overBudget 0
+identifier-is-not-paid : (ph : ℕ) (i : Image Stx) (c : Sets) (x : ℕ) → resolveRoot ph (atom c (symbol x)) (start 0 i) ≡ no overBudget noRivals 0
 unfolding resolveRoot charge size start
 identifier-is-not-paid ph i c x = refl
 
 one-unit : (budget : ℕ) → 1 ≤ budget → budget - (budget - 1) ≡ 1
 one-unit budget h = omega arith
 
-ends-after-one-unit : (budget : ℕ) (i : Image Stx) (f : Found) → 1 ≤ budget
-    → worked budget (nameOf f (spend 1 (start budget i))) (λ n s. named n (budget - s .left)) ≡ ending f
+ends-after-one-unit : (budget : ℕ) (i : Image Stx) (p : Rivals) (f : Found) → 1 ≤ budget
+    → worked budget (nameOf p f (spend 1 (start budget i))) (λ n s. named n (budget - s .left)) ≡ ending p f
 unfolding worked nameOf spend start
-ends-after-one-unit budget i (means n) h = ap (named n) (one-unit budget h)
-ends-after-one-unit budget i several h = ap (refused ambiguous) (one-unit budget h)
+ends-after-one-unit budget i p (means n) h = ap (named n) (one-unit budget h)
+ends-after-one-unit budget i p several h = ap (refused ambiguous p) (one-unit budget h)
 
 answers-its-ending : (budget : ℕ) (table : List ℕ) (e : Ending) → budgetFits budget (length table) ≡ true → (lent budget table [] e) .answer ≡ answerOf e
 unfolding lent
 answers-its-ending budget table e q = rw q
 
-answer-is : (f : Found) → answerOf (ending f) ≡ answering f
+answer-is : (p : Rivals) (f : Found) → answerOf (ending p f) ≡ answering p f
 unfolding answerOf
-answer-is (means n) = refl
-answer-is several = refl
+answer-is p (means n) = refl
+answer-is p several = refl
 
 module _ (image rest : List ℕ) (i : Image Stx) (c : Sets) (x : ℕ) (reads : readImage readSyntax image ≡ got i rest) (root-is : i .root ≡ atom c (symbol x)) where
   ends-with-its-work : (ph budget : ℕ) → ph ≤ 2 → resolveEnding image ph budget
@@ -196,19 +197,20 @@ module _ (image rest : List ℕ) (i : Image Stx) (c : Sets) (x : ℕ) (reads : r
       ∙ with-read (readImage readSyntax image) (resolveWork ph budget) i rest reads
       ∙ ap (λ (r : Stx). worked budget (resolveRoot ph r (start budget i)) (λ n s. named n (budget - s .left))) root-is
 
-  ends-with-what-is-found : (ph budget : ℕ) → ph ≤ 2 → 1 ≤ budget → resolveEnding image ph budget ≡ ending (resolve x (setAt ph c) (i .binds))
+  ends-with-what-is-found : (ph budget : ℕ) → ph ≤ 2 → 1 ≤ budget → resolveEnding image ph budget
+      ≡ ending (rivals x (setAt ph c) (i .binds)) (resolve x (setAt ph c) (i .binds))
   ends-with-what-is-found ph budget h p =
       ends-with-its-work ph budget h
       ∙ ap (λ (o : Out ℕ). worked budget o (λ n s. named n (budget - s .left))) (identifier-is-resolved ph budget i c x p)
-      ∙ ends-after-one-unit budget i (resolve x (setAt ph c) (i .binds)) p
+      ∙ ends-after-one-unit budget i (rivals x (setAt ph c) (i .binds)) (resolve x (setAt ph c) (i .binds)) p
 
   answers-what-is-found : (ph budget : ℕ) (table : List ℕ) → ph ≤ 2 → 1 ≤ budget → budgetFits budget (length table) ≡ true
-      → (resolveJob image ph budget table) .answer ≡ answering (resolve x (setAt ph c) (i .binds))
+      → (resolveJob image ph budget table) .answer ≡ answering (rivals x (setAt ph c) (i .binds)) (resolve x (setAt ph c) (i .binds))
   answers-what-is-found ph budget table h p q =
       ap (λ (r : Result). r .answer) (resolveJob-is image ph budget table)
       ∙ answers-its-ending budget table (resolveEnding image ph budget) q
       ∙ ap answerOf (ends-with-what-is-found ph budget h p)
-      ∙ answer-is (resolve x (setAt ph c) (i .binds))
+      ∙ answer-is (rivals x (setAt ph c) (i .binds)) (resolve x (setAt ph c) (i .binds))
 
 -- ---- the theorem
 
@@ -221,7 +223,7 @@ pub resolving-is-exact : (image rest : List ℕ) (i : Image Stx) (c : Sets) (x p
     → ResolvesExactly x (setAt ph c) (i .binds) ((resolveJob image ph budget table) .answer)
 resolving-is-exact image rest i c x ph budget table is-bytes reads root-is phase paid fits =
     subst (ResolvesExactly x (setAt ph c) (i .binds)) (sym (answers-what-is-found image rest i c x reads root-is ph budget table phase paid fits))
-    (what-is-found-is-exact x (setAt ph c) (i .binds) (sorted-keys (i .binds) (syntax-read-keeps-limits image rest i is-bytes reads .ascending)))
+    (what-is-found-is-exact x (setAt ph c) (i .binds) (syntax-read-keeps-limits image rest i is-bytes reads .ascending))
 
 -- ---- at its borders
 
@@ -242,7 +244,7 @@ a-read-image-is-whole image rest i is-bytes reads =
 -- with a budget of 0 loading is not paid for, whatever fits
 pub nothing-paid-is-code-19 : (image rest : List ℕ) (i : Image Stx) (c : Sets) (x ph : ℕ) (table : List ℕ)
     → readImage readSyntax image ≡ got i rest → i .root ≡ atom c (symbol x) → ph ≤ 2
-    → (resolveJob image ph 0 table) .answer ≡ record { code = 19; units = 0; name = 0; len = 0 }
+    → (resolveJob image ph 0 table) .answer ≡ record { code = 19; units = 0; name = 0; len = 0; first = 0; second = 0 }
 unfolding budgetFits answerOf
 nothing-paid-is-code-19 image rest i c x ph table reads root-is phase =
     ap (λ (r : Result). r .answer) (resolveJob-is image ph 0 table)
@@ -277,3 +279,8 @@ sample-3-is-exact =
 pub sample-3-is-unclear : Unclear 4 3 (sample-3-read .binds)
 unfolding resolveJob
 sample-3-is-unclear = sample-3-is-exact .code-6-exactly .0 refl
+
+-- and the first two that compete are its two bindings
+pub sample-3-competes : Compete 4 3 (sample-3-read .binds) (record { first = 1; second = 2 })
+unfolding resolveJob
+sample-3-competes = sample-3-is-exact .code-6-names-two-that-compete refl

@@ -6,6 +6,7 @@ use native.Mathlib.Omega.{arith}
 use mathlib.Core.List.{List}
 use lib.ListN.{length, drop}
 use Rattle.model.specs.Refusals.{noRule}
+use Rattle.model.specs.Competing.{noRivals}
 use Rattle.model.specs.Jobs.{refused, written, answerOf, outputAfter, Result, lent}
 use Rattle.addresses.specs.OneNameOneAddress.{imageWritten}
 use Rattle.addresses.proofs.Endings.{lent-cases, take-whole}
@@ -67,7 +68,7 @@ invented-units-are-rejected f units sham meets = clash (given seven 2 seven-call
 refuser-refuses : RefusesAll refuser
 unfolding refuser answerOf
 refuser-refuses image ph budget table output c =
-    lent-cases (λ (z : Result). z .answer .code ≡ 0 → ⊥) budget table output (refused noRule 0) (λ e. omega arith) (λ e. omega arith)
+    lent-cases (λ (z : Result). z .answer .code ≡ 0 → ⊥) budget table output (refused noRule noRivals 0) (λ e. omega arith) (λ e. omega arith)
 
 -- what is lent and written is there
 written-is : (budget : ℕ) (table output b : List ℕ) → (lent budget table output (written b 0)) .answer .code ≡ 0

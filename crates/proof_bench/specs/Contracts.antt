@@ -1,4 +1,4 @@
--- What it is to meet the contract of a job: for whatever a call can hand over, the answer (code, units, name, length), the output and the
+-- What it is to meet the contract of a job: for whatever a call can hand over, the answer (code, units, name, length and two places), the output and the
 -- table are those of the definition.
 use Prim.Native.Nat.{ℕ, _<_}
 use mathlib.Core.Path.{_≡_}

@@ -3,6 +3,7 @@ use Prim.Native.Nat.{ℕ}
 use mathlib.Core.Path.{_≡_}
 use mathlib.Core.List.{List}
 use Rattle.model.specs.Refusals.{noRule}
+use Rattle.model.specs.Competing.{noRivals}
 use Rattle.model.specs.Jobs.{refused, written, lent}
 use Rattle.addresses.specs.OneNameOneAddress.{imageWritten, OneNameOneAddress}
 use Rattle.proof_bench.specs.Contracts.{Call, Expanding}
@@ -29,7 +30,7 @@ ReturnsInput f =
 
 unfoldable pub refuser : Expanding
 unfolding lent
-refuser image ph budget table output = lent budget table output (refused noRule 0)
+refuser image ph budget table output = lent budget table output (refused noRule noRivals 0)
 
 unfoldable pub fixedTree : List ℕ → Expanding
 unfolding lent
