@@ -1,5 +1,5 @@
 -- Beside the samples: the program's line for the image shown whole, a wrong turn, the tags that no sample has, hygiene both ways round, and scope
--- numbers of two groups. Each call of a job is from image bytes to the whole answer: code, units, name, length, output and table.
+-- numbers of two groups. Each call of a job is from image bytes to the whole answer: code, units, name, length, places, output and table.
 use mathlib.Core.Path.{_≡_, refl}
 use Prim.Native.Nat.{ℕ}
 use mathlib.Core.List.{List, [], _∷_}
@@ -7,7 +7,7 @@ use Rattle.model.specs.Objects.{noSets, Stx, nil}
 use Rattle.model.specs.Writing.{setBytes, syntaxBytes}
 use Rattle.model.specs.Scopes.{only}
 use Rattle.model.specs.Jobs.{resolveJob, expandJob, parseJob, evaluateJob, program, lineBytes}
-use Rattle.cases.proofs.Notation.{id, ls, _▹_, lambda′, let-syntax′, syntax′, call, image-xmz, lentTable, lentOutput, refuses, writes, resolved, expanded, parsed, evaluated}
+use Rattle.cases.proofs.Notation.{id, ls, _▹_, lambda′, let-syntax′, syntax′, call, image-xmz, lentTable, lentOutput, rivals-at, writes, resolved, expanded, parsed, evaluated}
 use Rattle.cases.proofs.Images.{given-7, tree-12}
 
 -- ---- the image shown whole, (lambda x x) with no scopes, and the program's line `code 0 units 14`
@@ -31,8 +31,8 @@ given-most-scopes =
     ∷ 2 ∷ 4 ∷ 6 ∷ 2 ∷ 1 ∷ 2 ∷ 4 ∷ 7 ∷ 1 ∷ 3
     ∷ 0 ∷ 3 ∷ 1 ∷ 2 ∷ 3 ∷ 0 ∷ 0 ∷ 4 ∷ []
 
--- not the candidate with the most scopes
-most-scopes : resolved 0 given-most-scopes ≡ refuses 16 [] 6 1
+-- not the candidate with the most scopes: its two bindings compete
+most-scopes : resolved 0 given-most-scopes ≡ rivals-at 1 2 16 [] 1
 unfolding resolveJob lentTable
 most-scopes = refl
 

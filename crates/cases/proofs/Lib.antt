@@ -4,6 +4,7 @@ pub mod Samples
 pub mod InNotation
 pub mod Cases
 pub mod UseScope
+pub mod Rivals
 pub mod PanelPrograms
 pub mod Panel
 pub mod Scans

@@ -96,22 +96,27 @@ lentTable budget = replicate (40 * budget + 3) 2779096485
 unfoldable pub lentOutput : List ℕ
 lentOutput = replicate 100 90
 
--- ---- what comes back: code and units of a refusal, the units and name of a resolve, the units and image of the others
+-- ---- what comes back: code and units of a refusal, and of code 6 the two places, the units and name of a resolve, the units and image of the others
 
 -- the first 40 times budget words are zero and the rest untouched
 abbrev pub tableAfter : ℕ → List ℕ
 tableAfter budget = replicate (40 * budget) 0 ++ replicate 3 2779096485
 
 abbrev pub refuses : ℕ → List ℕ → ℕ → ℕ → Result
-refuses budget output c u = record { answer = record { code = c; units = u; name = 0; len = 0 }; output = output; table = tableAfter budget }
+refuses budget output c u =
+    record { answer = record { code = c; units = u; name = 0; len = 0; first = 0; second = 0 }; output = output; table = tableAfter budget }
+
+abbrev pub rivals-at : ℕ → ℕ → ℕ → List ℕ → ℕ → Result
+rivals-at a b budget output u =
+    record { answer = record { code = 6; units = u; name = 0; len = 0; first = a; second = b }; output = output; table = tableAfter budget }
 
 abbrev pub names : ℕ → ℕ → ℕ → Result
-names budget n u = record { answer = record { code = 0; units = u; name = n; len = 0 }; output = []; table = tableAfter budget }
+names budget n u = record { answer = record { code = 0; units = u; name = n; len = 0; first = 0; second = 0 }; output = []; table = tableAfter budget }
 
 abbrev pub writes : ℕ → ℕ → List ℕ → Result
 writes budget u b =
     record {
-      answer = record { code = 0; units = u; name = 0; len = length b };
+      answer = record { code = 0; units = u; name = 0; len = length b; first = 0; second = 0 };
       output = b ++ drop (length b) lentOutput;
       table = tableAfter budget;
     }

@@ -12,10 +12,10 @@ abbrev checked : Tree → PanelResult
 checked t = panelJob (image t) (9 ∷ 9 ∷ 9 ∷ [])
 
 abbrev refuses : ℕ → PanelResult
-refuses c = record { answer = record { code = c; units = 0; name = 0; len = 0 }; bits = 9 ∷ 9 ∷ 9 ∷ [] }
+refuses c = record { answer = record { code = c; units = 0; name = 0; len = 0; first = 0; second = 0 }; bits = 9 ∷ 9 ∷ 9 ∷ [] }
 
 abbrev lists : ℕ → List ℕ → PanelResult
-lists n l = record { answer = record { code = 0; units = 0; name = 0; len = n }; bits = l }
+lists n l = record { answer = record { code = 0; units = 0; name = 0; len = n; first = 0; second = 0 }; bits = l }
 
 -- ---- accepted
 

@@ -1,10 +1,10 @@
 -- Document 01, 'Sample rungs': every sample marked P, in one list and in the paper's order, each through its job, from image bytes to the whole
--- answer: code, units, name, length, output and table. The bytes are those of Images. After the budget `names` has the name and the units, `refuses`
--- the output, the code and the units, `writes` the units and the image.
+-- answer: code, units, name, length, places, output and table. The bytes are those of Images. After the budget `names` has the name and the units,
+-- `refuses` the output, the code and the units, `writes` the units and the image; `rivals-at` has the two places first.
 use mathlib.Core.Path.{_≡_, refl}
 use mathlib.Core.List.{[]}
 use Rattle.model.specs.Jobs.{resolveJob, expandJob, parseJob, evaluateJob}
-use Rattle.cases.proofs.Notation.{lentTable, lentOutput, refuses, names, writes, resolved, expanded, parsed, evaluated}
+use Rattle.cases.proofs.Notation.{lentTable, lentOutput, refuses, rivals-at, names, writes, resolved, expanded, parsed, evaluated}
 use Rattle.cases.proofs.Images.{given-1, given-2, given-3, given-4, given-5, given-6, given-7, image-7, tree-7, given-8, given-9, given-10, image-10, tree-10, given-11, given-12, image-12, tree-12, given-13, tree-13}
 
 pub record Samples : Type 0 where
@@ -13,7 +13,7 @@ pub record Samples : Type 0 where
   -- x{1,2}; x{} to 6, x{1} to 7
   pub case-2 : resolved 0 given-2 ≡ names 16 7 1
   -- x{1,2}; x{1} to 6, x{2} to 7
-  pub case-3 : resolved 0 given-3 ≡ refuses 16 [] 6 1
+  pub case-3 : resolved 0 given-3 ≡ rivals-at 1 2 16 [] 1
   -- as 3 with x{1,2} to 8
   pub case-4 : resolved 0 given-4 ≡ names 16 8 1
   -- x{2}; x{1} to 6

@@ -17,10 +17,10 @@ abbrev scanned : Tree → List ℕ → ScanResult
 scanned t recording = scanJob (image t) recording lent
 
 abbrev stops : ℕ → ScanResult
-stops c = record { answer = record { code = c; units = 0; name = 0; len = 0 }; output = lent }
+stops c = record { answer = record { code = c; units = 0; name = 0; len = 0; first = 0; second = 0 }; output = lent }
 
 abbrev prints : ℕ → List ℕ → ScanResult
-prints n l = record { answer = record { code = 0; units = 0; name = 0; len = n }; output = l ++ drop n lent }
+prints n l = record { answer = record { code = 0; units = 0; name = 0; len = n; first = 0; second = 0 }; output = l ++ drop n lent }
 
 -- `@12=0`, `@12=1`, `@8=1` .. with the space before it
 abbrev p12=0 : List ℕ
@@ -95,7 +95,7 @@ unfolding scanJob treeImageBytes
 last-point = refl
 
 -- 20 where the lines are longer than what is lent
-one-byte-short : scanJob (image (out (at 9) (at 1))) (2 ∷ 0 ∷ 0 ∷ []) (replicate 13 7) ≡ record { answer = record { code = 20; units = 0; name = 0; len = 0 }; output = replicate 13 7 }
+one-byte-short : scanJob (image (out (at 9) (at 1))) (2 ∷ 0 ∷ 0 ∷ []) (replicate 13 7) ≡ record { answer = record { code = 20; units = 0; name = 0; len = 0; first = 0; second = 0 }; output = replicate 13 7 }
 unfolding scanJob treeImageBytes
 one-byte-short = refl
 

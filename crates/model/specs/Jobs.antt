@@ -10,6 +10,7 @@ use Rattle.model.specs.Limits.{mostEntries, mostBudget, mostImage, lastP
 use Rattle.model.specs.Refusals.{Refusal, unowned, smallTable, noPhase, tooLong, codeOf}
 use Rattle.model.specs.Objects.{Name, Phase, Stx, size}
 use Rattle.model.specs.Trees.{Tree, var, app, fun, datum, lst, stx, Trees, tnil, tcons, loadSize}
+use Rattle.model.specs.Competing.{Rivals, noRivals}
 use Rattle.model.specs.Reading.{Read, got, fault, Head, Image, readSyntax, readTreeImage, readImage}
 use Rattle.model.specs.Writing.{syntaxBytes, treeImageBytes}
 use Rattle.model.specs.Steps.{Units, State, Out, ok, no, Step, _>>=_, _>>_, charge, resolveAt, identifier}
@@ -20,29 +21,32 @@ use Rattle.model.specs.Expanding.{ofRoot, expand}
 -- ---- how a job ends, each after so many units
 
 pub data Ending : Type 0 where
-  refused : Refusal → Units → Ending
+  -- with the bindings that compete, where it is 6
+  refused : Refusal → Rivals → Units → Ending
   -- resolve: the name
   named : Name → Units → Ending
   -- the others: the written image
   written : List ℕ → Units → Ending
 
--- ---- what comes back: each answer has code, units, name and length
+-- ---- what comes back: each answer has code, units, name and length, and since request T-04 the places of two bindings
 
 pub record Answer : Type 0 where
   pub code : ℕ
   pub units : Units
   pub name : Name
   pub len : ℕ
+  pub first : ℕ
+  pub second : ℕ
 
 unfoldable pub answerOf : Ending → Answer
 unfolding codeOf
-answerOf (refused r u) = record { code = codeOf r; units = u; name = 0; len = 0 }
-answerOf (named n u) = record { code = 0; units = u; name = n; len = 0 }
-answerOf (written b u) = record { code = 0; units = u; name = 0; len = length b }
+answerOf (refused r p u) = record { code = codeOf r; units = u; name = 0; len = 0; first = p .first; second = p .second }
+answerOf (named n u) = record { code = 0; units = u; name = n; len = 0; first = 0; second = 0 }
+answerOf (written b u) = record { code = 0; units = u; name = 0; len = length b; first = 0; second = 0 }
 
 -- every refusal leaves the output untouched; success writes from its start and touches no byte after the image
 unfoldable pub outputAfter : Ending → List ℕ → List ℕ
-outputAfter (refused r u) output = output
+outputAfter (refused r p u) output = output
 outputAfter (named n u) output = output
 outputAfter (written b u) output = b ++ drop (length b) output
 
@@ -68,17 +72,17 @@ unfolding budgetFits answerOf outputAfter cleared
 lent budget table output e =
     if budgetFits budget (length table)
     then record { answer = answerOf e; output = outputAfter e output; table = cleared budget table }
-    else record { answer = answerOf (refused smallTable 0); output = output; table = table }
+    else record { answer = answerOf (refused smallTable noRivals 0); output = output; table = table }
 
 -- ---- 2: the phase argument (12). 3: an image that is too long (2), and then from its front (1, 2, 4), with no units charged
 
 unfoldable pub atPhase : Phase → Ending → Ending
 unfolding lastPhase
-atPhase ph e = if leb ph lastPhase then e else refused noPhase 0
+atPhase ph e = if leb ph lastPhase then e else refused noPhase noRivals 0
 
 unfoldable pub withImage : {R : Type 0} → Read (Image R) → (Image R → Ending) → Ending
 withImage (got i s) f = f i
-withImage (fault r) f = refused r 0
+withImage (fault r) f = refused r noRivals 0
 
 unfoldable pub start : Units → {R : Type 0} → Image R → State
 start budget i = record { left = budget; names = i .head .names; scopes = i .head .scopes; binds = i .binds }
@@ -86,13 +90,13 @@ start budget i = record { left = budget; names = i .head .names; scopes = i .hea
 -- the work's result and last state, or its refusal with the units charged before it
 unfoldable pub worked : {A : Type 0} → Units → Out A → (A → State → Ending) → Ending
 worked budget (ok a s) f = f a s
-worked budget (no r left) f = refused r (budget - left)
+worked budget (no r p left) f = refused r p (budget - left)
 
 -- ---- 7, the last: the result's length (20), for an output of `room` bytes
 
 unfoldable pub fitted : ℕ → List ℕ → Units → Ending
 unfolding mostImage
-fitted room b u = if leb (length b) room && leb (length b) mostImage then written b u else refused tooLong u
+fitted room b u = if leb (length b) room && leb (length b) mostImage then written b u else refused tooLong noRivals u
 
 -- the words read, the counts of names and scopes reached
 unfoldable pub reached : Head → State → Head
@@ -174,7 +178,7 @@ evaluateEnding image budget room =
     if closed [] (i .root)
     then worked budget (evaluateRoot (i .root) (start budget i)) (λ r s.
     fitted room (treeImageBytes (reached (i .head) s) r) (budget - s .left))
-    else refused unowned 0)
+    else refused unowned noRivals 0)
 
 -- ---- the four jobs, of what is lent: image, phase, budget, the table's contents and the output's contents
 
@@ -203,14 +207,14 @@ pub record Line : Type 0 where
 
 unfoldable pub lineOf : Units → Ending → Line
 unfolding codeOf
-lineOf before (refused r u) = record { code = codeOf r; units = before + u }
+lineOf before (refused r p u) = record { code = codeOf r; units = before + u }
 lineOf before (named n u) = record { code = 0; units = before + u }
 lineOf before (written b u) = record { code = 0; units = before + u }
 
 -- if expanding is refused, the line shows its code and units only
 unfoldable pub thenParsed : Ending → Line
 unfolding lineOf parseEnding programBudget mostImage
-thenParsed (refused r u) = lineOf 0 (refused r u)
+thenParsed (refused r p u) = lineOf 0 (refused r p u)
 thenParsed (named n u) = lineOf 0 (named n u)
 thenParsed (written b u) = lineOf u (parseEnding b programBudget mostImage)
 

@@ -8,6 +8,7 @@ pub mod Scopes
 pub mod Objects
 pub mod Trees
 pub mod Resolving
+pub mod Competing
 pub mod Reading
 pub mod Writing
 pub mod Steps

@@ -12,6 +12,7 @@ use Rattle.model.specs.Scopes.{Scope, Scopes}
 use Rattle.model.specs.Objects.{Name, Symbol, Phase, Sets, setAt, Atom, symbol, Stx, atom, list, Stxs, nil, cons, size, nesting, addScope, flipScope, pruneScopes}
 use Rattle.model.specs.Trees.{Tree, tnesting}
 use Rattle.model.specs.Resolving.{Bind, insert, Found, means, several, resolve}
+use Rattle.model.specs.Competing.{Rivals, noRivals, rivals}
 
 abbrev pub Units : Type 0
 Units = ℕ
@@ -28,17 +29,17 @@ pub record State : Type 0 where
   pub scopes : ℕ
   pub binds : List Bind
 
--- a value and the new state, or a refusal and the units not charged
+-- a value and the new state, or a refusal, the bindings that compete where it is 6, and the units not charged
 pub data Out (A : Type 0) : Type 0 where
   ok : A → State → Out A
-  no : Refusal → Units → Out A
+  no : Refusal → Rivals → Units → Out A
 
 abbrev pub Step : Type 0 → Type 0
 Step A = State → Out A
 
 abbrev pub after : {A B : Type 0} → Out A → (A → Step B) → Out B
 after (ok a s) f = f a s
-after (no c u) f = no c u
+after (no c p u) f = no c p u
 
 infixl 10 _>>=_
 infixl 10 _>>_
@@ -52,7 +53,7 @@ abbrev pub done : {A : Type 0} → A → Step A
 done a = λ s. ok a s
 
 abbrev pub refuse : {A : Type 0} → Refusal → Step A
-refuse c = λ s. no c (s .left)
+refuse c = λ s. no c noRivals (s .left)
 
 -- refusal c unless the test holds
 abbrev pub unless : Refusal → Bool → Step (Unit {0})
@@ -65,7 +66,7 @@ unfoldable pub charge : Units → Step (Unit {0})
 charge n = λ s.
     if leb n (s .left)
     then ok tt (record { left = s .left - n; names = s .names; scopes = s .scopes; binds = s .binds })
-    else no overBudget (s .left)
+    else no overBudget noRivals (s .left)
 
 -- ---- what is made is tested
 
@@ -109,14 +110,14 @@ unfolding mostNames
 freshName = λ s.
     if ltb (s .names) mostNames
     then ok (s .names) (record { left = s .left; names = s .names + 1; scopes = s .scopes; binds = s .binds })
-    else no noNameLeft (s .left)
+    else no noNameLeft noRivals (s .left)
 
 unfoldable pub freshScope : Step Scope
 unfolding mostScopes
 freshScope = λ s.
     if ltb (s .scopes) mostScopes
     then ok (s .scopes + 1) (record { left = s .left; names = s .names; scopes = s .scopes + 1; binds = s .binds })
-    else no noScopeLeft (s .left)
+    else no noScopeLeft noRivals (s .left)
 
 -- ---- bindings
 
@@ -126,16 +127,17 @@ unfolding mostBindings insert
 bind b = λ s.
     if ltb (length (s .binds)) mostBindings
     then ok tt (record { left = s .left; names = s .names; scopes = s .scopes; binds = insert b (s .binds) })
-    else no noBindingLeft (s .left)
+    else no noBindingLeft noRivals (s .left)
 
-unfoldable pub nameOf : Found → Step Name
-nameOf (means n) = done n
-nameOf several = refuse ambiguous
+-- where several fit and none contains the others, p competes
+unfoldable pub nameOf : Rivals → Found → Step Name
+nameOf p (means n) = done n
+nameOf p several = λ s. no ambiguous p (s .left)
 
 -- the name of the identifier with symbol x and sets c
 unfoldable pub resolveAt : Phase → Sets → Symbol → Step Name
-unfolding nameOf resolve setAt
-resolveAt ph c x = λ s. nameOf (resolve x (setAt ph c) (s .binds)) s
+unfolding nameOf resolve rivals setAt
+resolveAt ph c x = λ s. nameOf (rivals x (setAt ph c) (s .binds)) (resolve x (setAt ph c) (s .binds)) s
 
 -- ---- shapes: refusal 8 unless the list has exactly so many parts, or the object is an identifier
 
