@@ -6,7 +6,9 @@ pub mod ResolveExactly
 pub mod Order
 pub mod Members
 pub mod Store
+pub mod TwoCompete
 pub mod StepLaws
 pub mod Walk
 pub mod Units
+pub mod CodeSix
 pub mod Sizes

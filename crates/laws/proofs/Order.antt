@@ -85,7 +85,7 @@ before-other a b q p r = go (less-cases (a .symb) (b .symb) (setBefore (a .set) 
 
 -- ---- ascending stores
 
-all-after : (b : Bind) (l : List Bind) → Ascending b l → (c : Bind) → In c l → bindBefore b c ≡ true
+pub all-after : (b : Bind) (l : List Bind) → Ascending b l → (c : Bind) → In c l → bindBefore b c ≡ true
 all-after b [] a c i = absurd i
 all-after b (d ∷ l) a c (inl p) = ap (bindBefore b) p ∙ a .0
 all-after b (d ∷ l) a c (inr i) = before-trans b d c (a .0) (all-after d l (a .1) c i)

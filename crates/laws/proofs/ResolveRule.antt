@@ -23,6 +23,26 @@ pub record Largest (b : Bind) (l : List Bind) : Type 0 where
   pub here : In b l
   pub above : (c : Bind) → In c l → within (c .set) (b .set) ≡ true
 
+-- b contains all of l; one of l is not contained in b
+abbrev pub ContainsAll : Bind → List Bind → Type 0
+ContainsAll b l = (c : Bind) → In c l → within (c .set) (b .set) ≡ true
+
+abbrev pub MissesOne : Bind → List Bind → Type 0
+MissesOne b l = (c : Bind) × In c l × (within (c .set) (b .set) ≡ false)
+
+pub contains-all-or-misses-one : (b : Bind) (l : List Bind) → ContainsAll b l ⊎ MissesOne b l
+contains-all-or-misses-one b [] = inl (λ c i. absurd i)
+contains-all-or-misses-one b (d ∷ l) = go (within (d .set) (b .set)) refl (contains-all-or-misses-one b l)
+  where
+    both : within (d .set) (b .set) ≡ true → ContainsAll b l → ContainsAll b (d ∷ l)
+    both e all c (inl p) = ap (λ (z : Bind). within (z .set) (b .set)) p ∙ e
+    both e all c (inr i) = all c i
+
+    go : (t : Bool) → within (d .set) (b .set) ≡ t → ContainsAll b l ⊎ MissesOne b l → ContainsAll b (d ∷ l) ⊎ MissesOne b (d ∷ l)
+    go true e (inl all) = inl (both e all)
+    go true e (inr (c, i, q)) = inr (c, inr i, q)
+    go false e r = inr (d, inl refl, e)
+
 -- what the rule says of candidates l of the symbol x
 pub data Rule (x : ℕ) (l : List Bind) : Found → Type 0 where
   free : l ≡ [] → Rule x l (means x)

@@ -1,45 +1,66 @@
 -- One walk over the rules: what holds of each step that they are made of, and of two in turn where it holds of both, holds of evaluating, parsing
--- and expanding. `Units` walks it twice.
+-- and expanding. `Units` walks it twice, `CodeSix` three times.
+use mathlib.Core.Path.{_≡_}
 use Prim.Native.Nat.{ℕ, zero, suc, _+_, _-_}
+use native.Mathlib.Omega.{arith}
 use mathlib.Core.Bool.{Bool, true, false}
 use mathlib.Core.Option.{Option, none, some}
 use lib.Dec.{leb}
-use Rattle.model.specs.Limits.{mostNesting, lastPhase}
-use Rattle.model.specs.Refusals.{Refusal, noRule, noPhase, tooManyEntries, notApplicable, tooDeep}
+use Rattle.model.specs.Limits.{mostEntries, mostNesting, lastPhase}
+use Rattle.model.specs.Refusals.{Refusal, unowned, noMeaning, noRule, noSyntax, notApplicable, wrongArgument, noPhase, tooDeep, tooManyEntries, codeOf}
 use Rattle.model.specs.Scopes.{Scopes, add}
 use Rattle.model.specs.Objects.{symbol, number, point, prim, rung, Sets, setAt, changeAt, Stx, atom, list, Stxs, nil, cons, size, nesting}
-use Rattle.model.specs.Trees.{Tree, var, app, fun, datum, lst, stx, Trees, tnil, tcons, tcount, tsize, tnesting, substitute, asStx, strip}
+use Rattle.model.specs.Trees.{Tree, var, app, fun, datum, lst, stx, Trees, tnil, tcons, tcount, tsize, tnesting, substitute, asStx, strip, loadSize}
 use Rattle.model.specs.Resolving.{Bind}
 use Rattle.model.specs.Steps.{Step, after, done, refuse, unless, charge, made, madeTree, addTo, flipIn, pruneFrom, freshName, freshScope, bind, resolveAt, parts1, parts2, parts3, identifier}
 use Rattle.model.specs.Evaluating.{Primitive, primitiveOf, primitive, applicable, eachTree, argument, orWrongKind, applyPrimitive, apply, evalEntry, evaluate}
 use Rattle.model.specs.Parsing.{Form, lambda, letSyntax, quote, syntax, formOf, headForm, parseAll, parseForm, parseEntry, parse}
-use Rattle.model.specs.Expanding.{Meaning, core, variable, macro, unknown, Env, meaning, headMeaning, expandName, bindFresh, Surroundings, ofRightHandSide, ofBody, ofResult, Expander, expandAll, expandApplication, expandFunction, expandLambda, expandSyntax, expandBinding, expandLetSyntax, orNoSyntax, expandMacro, expandForm, expandEntry, expand}
+use Rattle.model.specs.Expanding.{Meaning, core, variable, macro, unknown, Env, meaning, headMeaning, expandName, bindFresh, Surroundings, ofRoot, ofRightHandSide, ofBody, ofResult, Expander, expandAll, expandApplication, expandFunction, expandLambda, expandSyntax, expandBinding, expandLetSyntax, orNoSyntax, expandMacro, expandForm, expandEntry, expand}
+use Rattle.model.specs.Jobs.{resolveRoot, expandRoot, parseRoot, evaluateRoot}
 
--- a claim about steps that the walk carries from the single steps to the rules
+-- a claim about steps that the walk carries from the single steps to the rules. Evaluating is made of these; it is never refused by 6
 pub record Walkable (P : (A : Type 0) → Step A → Type 0) : Type 1 where
   pub in-turn : {A B : Type 0} (m : Step A) (f : A → Step B) → P A m → ((a : A) → P B (f a)) → P B (λ s. after (m s) f)
   pub of-done : {A : Type 0} (a : A) → P A (done a)
-  pub of-refuse : {A : Type 0} (r : Refusal) → P A (refuse r)
+  pub of-refuse : {A : Type 0} (r : Refusal) → (codeOf r ≡ 6 → ⊥) → P A (refuse r)
   pub of-charge : (n : ℕ) → P (Unit {0}) (charge n)
+
+-- parsing resolves as well
+abbrev pub Resolves : ((A : Type 0) → Step A → Type 0) → Type 0
+Resolves P = (ph : ℕ) (c : Sets) (x : ℕ) → P ℕ (resolveAt ph c x)
+
+-- and expanding makes names, scopes and bindings
+pub record Makes (P : (A : Type 0) → Step A → Type 0) : Type 0 where
   pub of-freshName : P ℕ freshName
   pub of-freshScope : P ℕ freshScope
   pub of-bind : (b : Bind) → P (Unit {0}) (bind b)
-  pub of-resolveAt : (ph : ℕ) (c : Sets) (x : ℕ) → P ℕ (resolveAt ph c x)
 
 module _ (P : (A : Type 0) → Step A → Type 0) (walk : Walkable P) where
-  unless-walks : (r : Refusal) (b : Bool) → P _ (unless r b)
-  unless-walks r true = walk .of-done tt
-  unless-walks r false = walk .of-refuse r
+  unless-walks : (r : Refusal) → (codeOf r ≡ 6 → ⊥) → (b : Bool) → P _ (unless r b)
+  unless-walks r h true = walk .of-done tt
+  unless-walks r h false = walk .of-refuse r h
+
+  noRule-walks : {A : Type 0} → P A (refuse noRule)
+  noRule-walks = walk .of-refuse noRule (λ e. omega arith)
+
+  notApplicable-walks : {A : Type 0} → P A (refuse notApplicable)
+  notApplicable-walks = walk .of-refuse notApplicable (λ e. omega arith)
+
+  tooManyEntries-walks : {A : Type 0} → P A (refuse tooManyEntries)
+  tooManyEntries-walks = walk .of-refuse tooManyEntries (λ e. omega arith)
+
+  tooDeep-walks : (b : Bool) → P _ (unless tooDeep b)
+  tooDeep-walks b = unless-walks tooDeep (λ e. omega arith) b
 
   made-walks : (x : Stx) → P _ (made x)
   unfolding made
   made-walks x =
-      walk .in-turn (unless tooDeep (leb (nesting x) mostNesting)) (λ u. done x) (unless-walks tooDeep (leb (nesting x) mostNesting)) (λ u. walk .of-done x)
+      walk .in-turn (unless tooDeep (leb (nesting x) mostNesting)) (λ u. done x) (tooDeep-walks (leb (nesting x) mostNesting)) (λ u. walk .of-done x)
 
   madeTree-walks : (t : Tree) → P _ (madeTree t)
   unfolding madeTree
   madeTree-walks t =
-      walk .in-turn (unless tooDeep (leb (tnesting t) mostNesting)) (λ u. done t) (unless-walks tooDeep (leb (tnesting t) mostNesting)) (λ u. walk .of-done t)
+      walk .in-turn (unless tooDeep (leb (tnesting t) mostNesting)) (λ u. done t) (tooDeep-walks (leb (tnesting t) mostNesting)) (λ u. walk .of-done t)
 
   -- a charge, then what is computed
   charged-walks : {A : Type 0} (n : ℕ) (a : A) → P _ (λ s. after (charge n s) (λ u. done a))
@@ -61,33 +82,33 @@ module _ (P : (A : Type 0) → Step A → Type 0) (walk : Walkable P) where
 
   parts1-walks : {A : Type 0} (l : Stxs) (f : Stx → Step A) → ((a : Stx) → P _ (f a)) → P _ (parts1 l f)
   unfolding parts1
-  parts1-walks nil f h = walk .of-refuse noRule
+  parts1-walks nil f h = noRule-walks
   parts1-walks (cons a nil) f h = h a
-  parts1-walks (cons a (cons b l)) f h = walk .of-refuse noRule
+  parts1-walks (cons a (cons b l)) f h = noRule-walks
 
   parts2-walks : {A : Type 0} (l : Stxs) (f : Stx → Stx → Step A) → ((a b : Stx) → P _ (f a b)) → P _ (parts2 l f)
   unfolding parts2
-  parts2-walks nil f h = walk .of-refuse noRule
-  parts2-walks (cons a nil) f h = walk .of-refuse noRule
+  parts2-walks nil f h = noRule-walks
+  parts2-walks (cons a nil) f h = noRule-walks
   parts2-walks (cons a (cons b nil)) f h = h a b
-  parts2-walks (cons a (cons b (cons c l))) f h = walk .of-refuse noRule
+  parts2-walks (cons a (cons b (cons c l))) f h = noRule-walks
 
   parts3-walks : {A : Type 0} (l : Stxs) (f : Stx → Stx → Stx → Step A) → ((a b c : Stx) → P _ (f a b c)) → P _ (parts3 l f)
   unfolding parts3
-  parts3-walks nil f h = walk .of-refuse noRule
-  parts3-walks (cons a nil) f h = walk .of-refuse noRule
-  parts3-walks (cons a (cons b nil)) f h = walk .of-refuse noRule
+  parts3-walks nil f h = noRule-walks
+  parts3-walks (cons a nil) f h = noRule-walks
+  parts3-walks (cons a (cons b nil)) f h = noRule-walks
   parts3-walks (cons a (cons b (cons c nil))) f h = h a b c
-  parts3-walks (cons a (cons b (cons c (cons d l)))) f h = walk .of-refuse noRule
+  parts3-walks (cons a (cons b (cons c (cons d l)))) f h = noRule-walks
 
   identifier-walks : {A : Type 0} (x : Stx) (f : Sets → ℕ → Step A) → ((c : Sets) (n : ℕ) → P _ (f c n)) → P _ (identifier x f)
   unfolding identifier
   identifier-walks (atom c (symbol x)) f h = h c x
-  identifier-walks (atom c (number x)) f h = walk .of-refuse noRule
-  identifier-walks (atom c (point x)) f h = walk .of-refuse noRule
-  identifier-walks (atom c (prim x)) f h = walk .of-refuse noRule
-  identifier-walks (atom c (rung x)) f h = walk .of-refuse noRule
-  identifier-walks (list c l) f h = walk .of-refuse noRule
+  identifier-walks (atom c (number x)) f h = noRule-walks
+  identifier-walks (atom c (point x)) f h = noRule-walks
+  identifier-walks (atom c (prim x)) f h = noRule-walks
+  identifier-walks (atom c (rung x)) f h = noRule-walks
+  identifier-walks (list c l) f h = noRule-walks
 
   -- ---- evaluating
 
@@ -99,36 +120,36 @@ module _ (P : (A : Type 0) → Step A → Type 0) (walk : Walkable P) where
 
   orWrongKind-walks : (o : Option Tree) → P _ (orWrongKind o)
   unfolding orWrongKind
-  orWrongKind-walks none = walk .of-refuse _
+  orWrongKind-walks none = walk .of-refuse wrongArgument (λ e. omega arith)
   orWrongKind-walks (some v) = madeTree-walks v
 
   primitive-walks : (o : Option Primitive) (l : Trees) → P _ (applyPrimitive o l)
   unfolding applyPrimitive
-  primitive-walks none l = walk .of-refuse notApplicable
+  primitive-walks none l = notApplicable-walks
   primitive-walks (some p) l =
       walk .in-turn (charge 1) _ (walk .of-charge 1) (λ u. orWrongKind-walks (primitive p (argument l 0) (argument l 1) (argument l 2)))
 
   apply-walks : (self : Tree → Step Tree) → ((t : Tree) → P _ (self t)) → (f : Tree) (l : Trees) → P _ (apply self f l)
   unfolding apply
-  apply-walks self h (var m) l = walk .of-refuse notApplicable
-  apply-walks self h (app f k) l = walk .of-refuse notApplicable
+  apply-walks self h (var m) l = notApplicable-walks
+  apply-walks self h (app f k) l = notApplicable-walks
   apply-walks self h (fun n b) l =
       walk .in-turn (charge (tsize b)) _ (walk .of-charge (tsize b)) (λ u.
       walk .in-turn (madeTree (substitute n (argument l 0) b)) self (madeTree-walks (substitute n (argument l 0) b)) h)
-  apply-walks self h (datum (symbol x)) l = walk .of-refuse notApplicable
-  apply-walks self h (datum (number x)) l = walk .of-refuse notApplicable
-  apply-walks self h (datum (point x)) l = walk .of-refuse notApplicable
+  apply-walks self h (datum (symbol x)) l = notApplicable-walks
+  apply-walks self h (datum (number x)) l = notApplicable-walks
+  apply-walks self h (datum (point x)) l = notApplicable-walks
   apply-walks self h (datum (prim p)) l = primitive-walks (primitiveOf p) l
-  apply-walks self h (datum (rung x)) l = walk .of-refuse notApplicable
-  apply-walks self h (lst k) l = walk .of-refuse notApplicable
-  apply-walks self h (stx s) l = walk .of-refuse notApplicable
+  apply-walks self h (datum (rung x)) l = notApplicable-walks
+  apply-walks self h (lst k) l = notApplicable-walks
+  apply-walks self h (stx s) l = notApplicable-walks
 
   pub evalEntry-walks : (self : Tree → Step Tree) → ((t : Tree) → P _ (self t)) → (t : Tree) → P _ (evalEntry self t)
   unfolding evalEntry
-  evalEntry-walks self h (var n) = walk .of-refuse _
+  evalEntry-walks self h (var n) = walk .of-refuse unowned (λ e. omega arith)
   evalEntry-walks self h (app f l) =
       walk .in-turn (self f) _ (h f) (λ v.
-      walk .in-turn (unless notApplicable (applicable v (tcount l))) _ (unless-walks notApplicable (applicable v (tcount l))) (λ u.
+      walk .in-turn (unless notApplicable (applicable v (tcount l))) _ (unless-walks notApplicable (λ e. omega arith) (applicable v (tcount l))) (λ u.
       walk .in-turn (eachTree self l) _ (each-walks self h l) (λ vs. apply-walks self h v vs)))
   evalEntry-walks self h (fun n b) = walk .of-done (fun n b)
   evalEntry-walks self h (datum a) = walk .of-done (datum a)
@@ -137,159 +158,178 @@ module _ (P : (A : Type 0) → Step A → Type 0) (walk : Walkable P) where
 
   pub evaluate-walks : (d : ℕ) (t : Tree) → P _ (evaluate d t)
   unfolding evaluate
-  evaluate-walks zero t = walk .of-refuse tooManyEntries
+  evaluate-walks zero t = tooManyEntries-walks
   evaluate-walks (suc d) t =
       walk .in-turn (charge 1) _ (walk .of-charge 1) (λ u. evalEntry-walks (λ x. evaluate d x) (λ x. evaluate-walks d x) t)
 
-  -- ---- parsing
+  pub evaluateRoot-walks : (t : Tree) → P _ (evaluateRoot t)
+  unfolding evaluateRoot
+  evaluateRoot-walks t = walk .in-turn (charge (loadSize t)) _ (walk .of-charge (loadSize t)) (λ u. evaluate-walks mostEntries t)
 
-  headForm-walks : (ph : ℕ) (h : Stx) → P _ (headForm ph h)
-  unfolding headForm
-  headForm-walks ph (atom c (symbol x)) = walk .in-turn (resolveAt ph c x) _ (walk .of-resolveAt ph c x) (λ n. walk .of-done (formOf n))
-  headForm-walks ph (atom c (number x)) = walk .of-done none
-  headForm-walks ph (atom c (point x)) = walk .of-done none
-  headForm-walks ph (atom c (prim x)) = walk .of-done none
-  headForm-walks ph (atom c (rung x)) = walk .of-done none
-  headForm-walks ph (list c l) = walk .of-done none
+  -- ---- resolving and parsing
 
-  parseAll-walks : (self : Stx → Step Tree) → ((x : Stx) → P _ (self x)) → (l : Stxs) → P _ (parseAll self l)
-  unfolding parseAll
-  parseAll-walks self h nil = walk .of-done tnil
-  parseAll-walks self h (cons x l) =
-      walk .in-turn (self x) _ (h x) (λ t. walk .in-turn (parseAll self l) _ (parseAll-walks self h l) (λ r. walk .of-done (tcons t r)))
+  module _ (resolves : Resolves P) where
+    pub resolveRoot-walks : (ph : ℕ) (x : Stx) → P _ (resolveRoot ph x)
+    unfolding resolveRoot
+    resolveRoot-walks ph x =
+        walk .in-turn (charge (size x)) _ (walk .of-charge (size x)) (λ u. identifier-walks x _ (λ c n. resolves ph c n))
 
-  parseForm-walks : (self : Stx → Step Tree) → ((x : Stx) → P _ (self x)) → (ph : ℕ) (f : Option Form) (h : Stx) (l : Stxs) → P _ (parseForm self ph f h l)
-  unfolding parseForm
-  parseForm-walks self k ph (some lambda) h l =
-      parts2-walks l _ (λ i body. identifier-walks i _ (λ c x.
-      walk .in-turn (resolveAt ph c x) _ (walk .of-resolveAt ph c x) (λ n.
-      walk .in-turn (self body) _ (k body) (λ b. walk .of-done (fun n b)))))
-  parseForm-walks self k ph (some letSyntax) h l = walk .of-refuse noRule
-  parseForm-walks self k ph (some quote) h l = parts1-walks l _ (λ x. charged-walks (size x) (strip x))
-  parseForm-walks self k ph (some syntax) h l = parts1-walks l _ (λ x. walk .of-done (stx x))
-  parseForm-walks self k ph none h l =
-      walk .in-turn (self h) _ (k h) (λ f. walk .in-turn (parseAll self l) _ (parseAll-walks self k l) (λ r. walk .of-done (app f r)))
+    headForm-walks : (ph : ℕ) (h : Stx) → P _ (headForm ph h)
+    unfolding headForm
+    headForm-walks ph (atom c (symbol x)) = walk .in-turn (resolveAt ph c x) _ (resolves ph c x) (λ n. walk .of-done (formOf n))
+    headForm-walks ph (atom c (number x)) = walk .of-done none
+    headForm-walks ph (atom c (point x)) = walk .of-done none
+    headForm-walks ph (atom c (prim x)) = walk .of-done none
+    headForm-walks ph (atom c (rung x)) = walk .of-done none
+    headForm-walks ph (list c l) = walk .of-done none
 
-  pub parseEntry-walks : (self : Stx → Step Tree) → ((x : Stx) → P _ (self x)) → (ph : ℕ) (x : Stx) → P _ (parseEntry self ph x)
-  unfolding parseEntry
-  parseEntry-walks self k ph (atom c (symbol x)) = walk .in-turn (resolveAt ph c x) _ (walk .of-resolveAt ph c x) (λ n. walk .of-done (var n))
-  parseEntry-walks self k ph (atom c (number x)) = walk .of-done (datum (number x))
-  parseEntry-walks self k ph (atom c (point x)) = walk .of-done (datum (point x))
-  parseEntry-walks self k ph (atom c (prim x)) = walk .of-done (datum (prim x))
-  parseEntry-walks self k ph (atom c (rung x)) = walk .of-done (datum (rung x))
-  parseEntry-walks self k ph (list c nil) = walk .of-refuse noRule
-  parseEntry-walks self k ph (list c (cons h l)) =
-      walk .in-turn (headForm ph h) _ (headForm-walks ph h) (λ f. parseForm-walks self k ph f h l)
+    parseAll-walks : (self : Stx → Step Tree) → ((x : Stx) → P _ (self x)) → (l : Stxs) → P _ (parseAll self l)
+    unfolding parseAll
+    parseAll-walks self h nil = walk .of-done tnil
+    parseAll-walks self h (cons x l) =
+        walk .in-turn (self x) _ (h x) (λ t. walk .in-turn (parseAll self l) _ (parseAll-walks self h l) (λ r. walk .of-done (tcons t r)))
 
-  pub parse-walks : (d ph : ℕ) (x : Stx) → P _ (parse d ph x)
-  unfolding parse
-  parse-walks zero ph x = walk .of-refuse tooManyEntries
-  parse-walks (suc d) ph x =
-      walk .in-turn (charge 1) _ (walk .of-charge 1) (λ u. parseEntry-walks (λ y. parse d ph y) (λ y. parse-walks d ph y) ph x)
+    parseForm-walks : (self : Stx → Step Tree) → ((x : Stx) → P _ (self x)) → (ph : ℕ) (f : Option Form) (h : Stx) (l : Stxs) → P _ (parseForm self ph f h l)
+    unfolding parseForm
+    parseForm-walks self k ph (some lambda) h l =
+        parts2-walks l _ (λ i body. identifier-walks i _ (λ c x.
+        walk .in-turn (resolveAt ph c x) _ (resolves ph c x) (λ n.
+        walk .in-turn (self body) _ (k body) (λ b. walk .of-done (fun n b)))))
+    parseForm-walks self k ph (some letSyntax) h l = noRule-walks
+    parseForm-walks self k ph (some quote) h l = parts1-walks l _ (λ x. charged-walks (size x) (strip x))
+    parseForm-walks self k ph (some syntax) h l = parts1-walks l _ (λ x. walk .of-done (stx x))
+    parseForm-walks self k ph none h l =
+        walk .in-turn (self h) _ (k h) (λ f. walk .in-turn (parseAll self l) _ (parseAll-walks self k l) (λ r. walk .of-done (app f r)))
 
-  -- ---- expanding
+    pub parseEntry-walks : (self : Stx → Step Tree) → ((x : Stx) → P _ (self x)) → (ph : ℕ) (x : Stx) → P _ (parseEntry self ph x)
+    unfolding parseEntry
+    parseEntry-walks self k ph (atom c (symbol x)) = walk .in-turn (resolveAt ph c x) _ (resolves ph c x) (λ n. walk .of-done (var n))
+    parseEntry-walks self k ph (atom c (number x)) = walk .of-done (datum (number x))
+    parseEntry-walks self k ph (atom c (point x)) = walk .of-done (datum (point x))
+    parseEntry-walks self k ph (atom c (prim x)) = walk .of-done (datum (prim x))
+    parseEntry-walks self k ph (atom c (rung x)) = walk .of-done (datum (rung x))
+    parseEntry-walks self k ph (list c nil) = noRule-walks
+    parseEntry-walks self k ph (list c (cons h l)) =
+        walk .in-turn (headForm ph h) _ (headForm-walks ph h) (λ f. parseForm-walks self k ph f h l)
 
-  headMeaning-walks : (ph : ℕ) (e : Env) (h : Stx) → P _ (headMeaning ph e h)
-  unfolding headMeaning
-  headMeaning-walks ph e (atom c (symbol x)) = walk .in-turn (resolveAt ph c x) _ (walk .of-resolveAt ph c x) (λ n. walk .of-done (meaning n e))
-  headMeaning-walks ph e (atom c (number x)) = walk .of-done unknown
-  headMeaning-walks ph e (atom c (point x)) = walk .of-done unknown
-  headMeaning-walks ph e (atom c (prim x)) = walk .of-done unknown
-  headMeaning-walks ph e (atom c (rung x)) = walk .of-done unknown
-  headMeaning-walks ph e (list c l) = walk .of-done unknown
+    pub parse-walks : (d ph : ℕ) (x : Stx) → P _ (parse d ph x)
+    unfolding parse
+    parse-walks zero ph x = tooManyEntries-walks
+    parse-walks (suc d) ph x =
+        walk .in-turn (charge 1) _ (walk .of-charge 1) (λ u. parseEntry-walks (λ y. parse d ph y) (λ y. parse-walks d ph y) ph x)
 
-  expandName-walks : (m : Meaning) → P _ (expandName m)
-  unfolding expandName
-  expandName-walks (core f) = walk .of-refuse noRule
-  expandName-walks (variable c x) = walk .of-done (atom c (symbol x))
-  expandName-walks (macro v) = walk .of-refuse noRule
-  expandName-walks unknown = walk .of-refuse _
+    pub parseRoot-walks : (x : Stx) → P _ (parseRoot x)
+    unfolding parseRoot
+    parseRoot-walks x = walk .in-turn (charge (size x)) _ (walk .of-charge (size x)) (λ u. parse-walks mostEntries 0 x)
 
-  bindFresh-walks : (ph : ℕ) (c : Sets) (x : ℕ) → P _ (bindFresh ph c x)
-  unfolding bindFresh
-  bindFresh-walks ph c x =
-      walk .in-turn freshName _ (walk .of-freshName) (λ n.
-      walk .in-turn freshScope _ (walk .of-freshScope) (λ k.
-      walk .in-turn (charge 1) _ (walk .of-charge 1) (λ u.
-      walk .in-turn (bind (record { symb = x; target = n; set = setAt ph (changeAt (add k) ph c) })) _ (walk .of-bind _) (λ v.
-      walk .of-done (record { name = n; scope = k; sets = changeAt (add k) ph c })))))
+    -- ---- expanding
 
-  orNoSyntax-walks : (o : Option Stx) → P _ (orNoSyntax o)
-  unfolding orNoSyntax
-  orNoSyntax-walks none = walk .of-refuse _
-  orNoSyntax-walks (some s) = walk .of-done s
+    module _ (makes : Makes P) where
+      headMeaning-walks : (ph : ℕ) (e : Env) (h : Stx) → P _ (headMeaning ph e h)
+      unfolding headMeaning
+      headMeaning-walks ph e (atom c (symbol x)) = walk .in-turn (resolveAt ph c x) _ (resolves ph c x) (λ n. walk .of-done (meaning n e))
+      headMeaning-walks ph e (atom c (number x)) = walk .of-done unknown
+      headMeaning-walks ph e (atom c (point x)) = walk .of-done unknown
+      headMeaning-walks ph e (atom c (prim x)) = walk .of-done unknown
+      headMeaning-walks ph e (atom c (rung x)) = walk .of-done unknown
+      headMeaning-walks ph e (list c l) = walk .of-done unknown
 
-  abbrev Steady : Expander → Type 0
-  Steady self = (here : Surroundings) (x : Stx) → P _ (self here x)
+      expandName-walks : (m : Meaning) → P _ (expandName m)
+      unfolding expandName
+      expandName-walks (core f) = noRule-walks
+      expandName-walks (variable c x) = walk .of-done (atom c (symbol x))
+      expandName-walks (macro v) = noRule-walks
+      expandName-walks unknown = walk .of-refuse noMeaning (λ e. omega arith)
 
-  expandAll-walks : (self : Stx → Step Stx) → ((x : Stx) → P _ (self x)) → (l : Stxs) → P _ (expandAll self l)
-  unfolding expandAll
-  expandAll-walks self h nil = walk .of-done nil
-  expandAll-walks self h (cons x l) =
-      walk .in-turn (self x) _ (h x) (λ t. walk .in-turn (expandAll self l) _ (expandAll-walks self h l) (λ r. walk .of-done (cons t r)))
+      bindFresh-walks : (ph : ℕ) (c : Sets) (x : ℕ) → P _ (bindFresh ph c x)
+      unfolding bindFresh
+      bindFresh-walks ph c x =
+          walk .in-turn freshName _ (makes .of-freshName) (λ n.
+          walk .in-turn freshScope _ (makes .of-freshScope) (λ k.
+          walk .in-turn (charge 1) _ (walk .of-charge 1) (λ u.
+          walk .in-turn (bind (record { symb = x; target = n; set = setAt ph (changeAt (add k) ph c) })) _ (makes .of-bind _) (λ v.
+          walk .of-done (record { name = n; scope = k; sets = changeAt (add k) ph c })))))
 
-  module _ (self : Expander) (steady : Steady self) where
-    application-walks : (here : Surroundings) (c : Sets) (l : Stxs) → P _ (expandApplication self here c l)
-    unfolding expandApplication
-    application-walks here c l =
-        walk .in-turn (expandAll (self here) l) _ (expandAll-walks (self here) (steady here) l) (λ r. made-walks (list c r))
+      orNoSyntax-walks : (o : Option Stx) → P _ (orNoSyntax o)
+      unfolding orNoSyntax
+      orNoSyntax-walks none = walk .of-refuse noSyntax (λ e. omega arith)
+      orNoSyntax-walks (some s) = walk .of-done s
 
-    function-walks : (here : Surroundings) (c : Sets) (h : Stx) (ci : Sets) (x : ℕ) (body : Stx) → P _ (expandFunction self here c h ci x body)
-    unfolding expandFunction
-    function-walks here c h ci x body =
-        walk .in-turn (bindFresh (here .phase) ci x) _ (bindFresh-walks (here .phase) ci x) (λ b.
-        walk .in-turn (addTo (b .scope) (here .phase) body) _ (addTo-walks (b .scope) (here .phase) body) (λ i.
-        walk .in-turn (self (ofBody b (variable (b .sets) x) here) i) _ (steady _ i) (λ o. made-walks (list c (cons h (cons (atom (b .sets) (symbol x)) (cons o nil)))))))
+      abbrev Steady : Expander → Type 0
+      Steady self = (here : Surroundings) (x : Stx) → P _ (self here x)
 
-    binding-walks : (d : ℕ) (here : Surroundings) (ci : Sets) (x : ℕ) (rhs body : Stx) → P _ (expandBinding self d here ci x rhs body)
-    unfolding expandBinding
-    binding-walks d here ci x rhs body =
-        walk .in-turn (bindFresh (here .phase) ci x) _ (bindFresh-walks (here .phase) ci x) (λ b.
-        walk .in-turn (unless noPhase (leb (here .phase + 1) lastPhase)) _ (unless-walks noPhase (leb (here .phase + 1) lastPhase)) (λ u.
-        walk .in-turn (self (ofRightHandSide here) rhs) _ (steady (ofRightHandSide here) rhs) (λ r.
-        walk .in-turn (parse d (here .phase + 1) r) _ (parse-walks d (here .phase + 1) r) (λ t.
-        walk .in-turn (evaluate d t) _ (evaluate-walks d t) (λ v.
-        walk .in-turn (addTo (b .scope) (here .phase) body) _ (addTo-walks (b .scope) (here .phase) body) (λ i. steady _ i))))))
+      expandAll-walks : (self : Stx → Step Stx) → ((x : Stx) → P _ (self x)) → (l : Stxs) → P _ (expandAll self l)
+      unfolding expandAll
+      expandAll-walks self h nil = walk .of-done nil
+      expandAll-walks self h (cons x l) =
+          walk .in-turn (self x) _ (h x) (λ t. walk .in-turn (expandAll self l) _ (expandAll-walks self h l) (λ r. walk .of-done (cons t r)))
 
-    macro-walks : (d : ℕ) (here : Surroundings) (v : Tree) (form : Stx) → P _ (expandMacro self d here v form)
-    unfolding expandMacro
-    macro-walks d here v form =
-        walk .in-turn freshScope _ (walk .of-freshScope) (λ outer.
-        walk .in-turn freshScope _ (walk .of-freshScope) (λ intro.
-        walk .in-turn (addTo outer (here .phase) form) _ (addTo-walks outer (here .phase) form) (λ used.
-        walk .in-turn (flipIn intro (here .phase) used) _ (flipIn-walks intro (here .phase) used) (λ marked.
-        walk .in-turn (evaluate d (app v (tcons (stx marked) tnil))) _ (evaluate-walks d _) (λ r.
-        walk .in-turn (orNoSyntax (asStx r)) _ (orNoSyntax-walks (asStx r)) (λ s.
-        walk .in-turn (flipIn intro (here .phase) s) _ (flipIn-walks intro (here .phase) s) (λ back. steady (ofResult outer here) back)))))))
+      module _ (self : Expander) (steady : Steady self) where
+        application-walks : (here : Surroundings) (c : Sets) (l : Stxs) → P _ (expandApplication self here c l)
+        unfolding expandApplication
+        application-walks here c l =
+            walk .in-turn (expandAll (self here) l) _ (expandAll-walks (self here) (steady here) l) (λ r. made-walks (list c r))
 
-    form-walks : (d : ℕ) (here : Surroundings) (c : Sets) (h : Stx) (l : Stxs) (m : Meaning) → P _ (expandForm self d here c h l m)
-    unfolding expandForm expandLambda expandLetSyntax expandSyntax
-    form-walks d here c h l (core lambda) =
-        parts2-walks l _ (λ i body. identifier-walks i _ (λ ci x. function-walks here c h ci x body))
-    form-walks d here c h l (core letSyntax) =
-        parts3-walks l _ (λ i rhs body. identifier-walks i _ (λ ci x. binding-walks d here ci x rhs body))
-    form-walks d here c h l (core quote) = parts1-walks l _ (λ s. walk .of-done (list c (cons h l)))
-    form-walks d here c h l (core syntax) =
-        parts1-walks l _ (λ s. walk .in-turn (pruneFrom (here .prunable) (here .phase) s) _ (pruneFrom-walks (here .prunable) (here .phase) s) (λ t. walk .of-done _))
-    form-walks d here c h l (variable b x) = application-walks here c (cons h l)
-    form-walks d here c h l (macro v) = macro-walks d here v (list c (cons h l))
-    form-walks d here c h l unknown = application-walks here c (cons h l)
+        function-walks : (here : Surroundings) (c : Sets) (h : Stx) (ci : Sets) (x : ℕ) (body : Stx) → P _ (expandFunction self here c h ci x body)
+        unfolding expandFunction
+        function-walks here c h ci x body =
+            walk .in-turn (bindFresh (here .phase) ci x) _ (bindFresh-walks (here .phase) ci x) (λ b.
+            walk .in-turn (addTo (b .scope) (here .phase) body) _ (addTo-walks (b .scope) (here .phase) body) (λ i.
+            walk .in-turn (self (ofBody b (variable (b .sets) x) here) i) _ (steady _ i) (λ o. made-walks (list c (cons h (cons (atom (b .sets) (symbol x)) (cons o nil)))))))
 
-    pub expandEntry-walks : (d : ℕ) (here : Surroundings) (x : Stx) → P _ (expandEntry self d here x)
-    unfolding expandEntry
-    expandEntry-walks d here (atom c (symbol x)) =
-        walk .in-turn (resolveAt (here .phase) c x) _ (walk .of-resolveAt (here .phase) c x) (λ n. expandName-walks (meaning n (here .meanings)))
-    expandEntry-walks d here (atom c (number x)) = walk .of-done _
-    expandEntry-walks d here (atom c (point x)) = walk .of-done _
-    expandEntry-walks d here (atom c (prim x)) = walk .of-done _
-    expandEntry-walks d here (atom c (rung x)) = walk .of-done _
-    expandEntry-walks d here (list c nil) = walk .of-refuse noRule
-    expandEntry-walks d here (list c (cons h l)) =
-        walk .in-turn (headMeaning (here .phase) (here .meanings) h) _ (headMeaning-walks (here .phase) (here .meanings) h) (λ m. form-walks d here c h l m)
+        binding-walks : (d : ℕ) (here : Surroundings) (ci : Sets) (x : ℕ) (rhs body : Stx) → P _ (expandBinding self d here ci x rhs body)
+        unfolding expandBinding
+        binding-walks d here ci x rhs body =
+            walk .in-turn (bindFresh (here .phase) ci x) _ (bindFresh-walks (here .phase) ci x) (λ b.
+            walk .in-turn (unless noPhase (leb (here .phase + 1) lastPhase)) _ (unless-walks noPhase (λ e. omega arith) (leb (here .phase + 1) lastPhase)) (λ u.
+            walk .in-turn (self (ofRightHandSide here) rhs) _ (steady (ofRightHandSide here) rhs) (λ r.
+            walk .in-turn (parse d (here .phase + 1) r) _ (parse-walks d (here .phase + 1) r) (λ t.
+            walk .in-turn (evaluate d t) _ (evaluate-walks d t) (λ v.
+            walk .in-turn (addTo (b .scope) (here .phase) body) _ (addTo-walks (b .scope) (here .phase) body) (λ i. steady _ i))))))
 
-  pub expand-walks : (d : ℕ) (here : Surroundings) (x : Stx) → P _ (expand d here x)
-  unfolding expand
-  expand-walks zero here x = walk .of-refuse tooManyEntries
-  expand-walks (suc d) here x =
-      walk .in-turn (charge 1) _ (walk .of-charge 1) (λ u.
-      expandEntry-walks (λ there y. expand d there y) (λ there y. expand-walks d there y) d here x)
+        macro-walks : (d : ℕ) (here : Surroundings) (v : Tree) (form : Stx) → P _ (expandMacro self d here v form)
+        unfolding expandMacro
+        macro-walks d here v form =
+            walk .in-turn freshScope _ (makes .of-freshScope) (λ outer.
+            walk .in-turn freshScope _ (makes .of-freshScope) (λ intro.
+            walk .in-turn (addTo outer (here .phase) form) _ (addTo-walks outer (here .phase) form) (λ used.
+            walk .in-turn (flipIn intro (here .phase) used) _ (flipIn-walks intro (here .phase) used) (λ marked.
+            walk .in-turn (evaluate d (app v (tcons (stx marked) tnil))) _ (evaluate-walks d _) (λ r.
+            walk .in-turn (orNoSyntax (asStx r)) _ (orNoSyntax-walks (asStx r)) (λ s.
+            walk .in-turn (flipIn intro (here .phase) s) _ (flipIn-walks intro (here .phase) s) (λ back. steady (ofResult outer here) back)))))))
+
+        form-walks : (d : ℕ) (here : Surroundings) (c : Sets) (h : Stx) (l : Stxs) (m : Meaning) → P _ (expandForm self d here c h l m)
+        unfolding expandForm expandLambda expandLetSyntax expandSyntax
+        form-walks d here c h l (core lambda) =
+            parts2-walks l _ (λ i body. identifier-walks i _ (λ ci x. function-walks here c h ci x body))
+        form-walks d here c h l (core letSyntax) =
+            parts3-walks l _ (λ i rhs body. identifier-walks i _ (λ ci x. binding-walks d here ci x rhs body))
+        form-walks d here c h l (core quote) = parts1-walks l _ (λ s. walk .of-done (list c (cons h l)))
+        form-walks d here c h l (core syntax) =
+            parts1-walks l _ (λ s. walk .in-turn (pruneFrom (here .prunable) (here .phase) s) _ (pruneFrom-walks (here .prunable) (here .phase) s) (λ t. walk .of-done _))
+        form-walks d here c h l (variable b x) = application-walks here c (cons h l)
+        form-walks d here c h l (macro v) = macro-walks d here v (list c (cons h l))
+        form-walks d here c h l unknown = application-walks here c (cons h l)
+
+        pub expandEntry-walks : (d : ℕ) (here : Surroundings) (x : Stx) → P _ (expandEntry self d here x)
+        unfolding expandEntry
+        expandEntry-walks d here (atom c (symbol x)) =
+            walk .in-turn (resolveAt (here .phase) c x) _ (resolves (here .phase) c x) (λ n. expandName-walks (meaning n (here .meanings)))
+        expandEntry-walks d here (atom c (number x)) = walk .of-done _
+        expandEntry-walks d here (atom c (point x)) = walk .of-done _
+        expandEntry-walks d here (atom c (prim x)) = walk .of-done _
+        expandEntry-walks d here (atom c (rung x)) = walk .of-done _
+        expandEntry-walks d here (list c nil) = noRule-walks
+        expandEntry-walks d here (list c (cons h l)) =
+            walk .in-turn (headMeaning (here .phase) (here .meanings) h) _ (headMeaning-walks (here .phase) (here .meanings) h) (λ m. form-walks d here c h l m)
+
+      pub expand-walks : (d : ℕ) (here : Surroundings) (x : Stx) → P _ (expand d here x)
+      unfolding expand
+      expand-walks zero here x = tooManyEntries-walks
+      expand-walks (suc d) here x =
+          walk .in-turn (charge 1) _ (walk .of-charge 1) (λ u.
+          expandEntry-walks (λ there y. expand d there y) (λ there y. expand-walks d there y) d here x)
+
+      pub expandRoot-walks : (ph : ℕ) (x : Stx) → P _ (expandRoot ph x)
+      unfolding expandRoot
+      expandRoot-walks ph x = walk .in-turn (charge (size x)) _ (walk .of-charge (size x)) (λ u. expand-walks mostEntries (ofRoot ph) x)
