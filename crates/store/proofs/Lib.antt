@@ -2,3 +2,4 @@ pub mod Keys
 pub mod Runs
 pub mod Pass
 pub mod Taking
+pub mod Competing

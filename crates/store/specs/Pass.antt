@@ -8,16 +8,9 @@ use Rattle.model.specs.Scopes.{Scopes, within}
 use Rattle.model.specs.Resolving as model
 use Rattle.model.specs.Resolving.{Bind, candidate, means, several}
 use Rattle.scopes.specs.Sets.{scopesOf}
-use Rattle.store.specs.declared.resolving.Found.{Found}
-use Rattle.store.specs.declared.resolving.Found.the-variants.{Means, Several}
 use Rattle.store.specs.declared.resolving.Standing.{Standing}
 use Rattle.store.specs.declared.resolving.Standing.the-variants.{Free, Clear, Unclear}
 use Rattle.store.specs.declared.resolving.Resolving.{Resolving}
-
--- the code's answer as document 01's
-abbrev pub foundOf : Found → model.Found
-foundOf (Means n) = means (n .0)
-foundOf Several = several
 
 -- how the candidates seen stand to each other: there is none; one with this target contains every other; none does
 pub data Order : Type 0 where

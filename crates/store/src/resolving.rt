@@ -1,22 +1,24 @@
 // Resolving an identifier in one pass over the store.
 use crate::bindings;
 use crate::bindings::Binding;
+use crate::rivals::Rivals;
 use scopes::Name;
 use scopes::ScopeSet;
 use scopes::Symbol;
 ghost use mathlib.Core.Path.{_≡_};
 ghost use Prim.Native.Nat.{_*_, _≤_};
 ghost use lib.ListN.{length};
-ghost use Rattle.model.specs.Resolving as model;
+ghost use Rattle.model.specs.Competing.{rivals};
 ghost use Rattle.scopes.specs.Sets.{scopesOf};
 ghost use Rattle.store.specs.Words.{bindOf, bindsOf};
-ghost use Rattle.store.specs.Pass.{seenOf, noneSeen, alone, joined, beyondAll, taking, seeing, meaning, foundOf};
+ghost use Rattle.store.specs.Pass.{seenOf, noneSeen, alone, joined, beyondAll, taking, seeing, meaning};
+ghost use Rattle.store.specs.Rivalry.{decision, decided, foundOf};
 ghost use Rattle.store.specs.Sizes.{bindingSize};
 
-// A name, or several candidates none of which contains every other.
+// A name, or several candidates none of which contains every other: the two that compete.
 pub enum Found {
     Means(Name),
-    Several,
+    Several(Rivals),
 }
 
 // How the candidates seen so far stand to each other.
@@ -118,29 +120,31 @@ impl Resolving {
     }
 
     // No candidate: the name is the symbol itself.
-    fn found(self, x: Symbol) -> Found
-        ensures { λ r. ⌜ foundOf r ≡ meaning (x .0) (seenOf self) ⌝ }
+    fn found(self, store: &[u64], count: u32, x: Symbol, s: ScopeSet) -> Found
+        requires { ⌜ count * bindingSize ≤ length (now store) ⌝ }
+        ensures { λ r. ⌜ foundOf r ≡ decision (rivals (x .0) (scopesOf s) (bindsOf (now (store .entry)) count)) (meaning (x .0) (seenOf self)) ⌝ }
     {
         let standing = self.standing;
         match standing {
             Standing::Free => Found::Means(Name(x.0)),
             Standing::Clear(target) => Found::Means(target),
-            Standing::Unclear => Found::Several,
+            Standing::Unclear => Found::Several(crate::rivals::first_two(store, count, x, s)),
         }
     }
 }
 
 // The name of the identifier with symbol x and set s, by the first count bindings of the store.
-pub fn resolve(store: &[u64], count: usize, x: Symbol, s: ScopeSet) -> Found
+pub fn resolve(store: &[u64], count: u32, x: Symbol, s: ScopeSet) -> Found
     requires { ⌜ count * bindingSize ≤ length (now store) ⌝ }
-    ensures { λ r. ⌜ foundOf r ≡ model.resolve (x .0) (scopesOf s) (bindsOf (now (store .entry)) count) ⌝ }
+    ensures { λ r. ⌜ foundOf r ≡ decided (x .0) (scopesOf s) (bindsOf (now (store .entry)) count) ⌝ }
 {
+    let n = count as usize;
     let mut seen = Resolving::start();
     let mut i = 0;
-    while i < count {
+    while i < n {
         let b = bindings::get(store, i);
         seen = seen.see(b, x, s);
         i += 1;
     }
-    seen.found(x)
+    seen.found(store, count, x, s)
 }
