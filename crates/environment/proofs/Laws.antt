@@ -12,9 +12,8 @@ use Rattle.model.specs.Choice.{if_then_else_}
 use Rattle.model.specs.Refusals.{ambiguous}
 use Rattle.model.specs.Objects.{Atom, symbol, number, point, prim, rung, Sets, setAt, Stx, atom, list}
 use Rattle.model.specs.Trees.{Tree, stx}
-use Rattle.model.specs.Resolving as res
-use Rattle.model.specs.Resolving.{Found, several, resolve}
-use Rattle.model.specs.Steps.{State, ok, no, nameOf, resolveAt}
+use Rattle.model.specs.Competing as k
+use Rattle.model.specs.Steps.{State, ok, no}
 use Rattle.model.specs.Parsing as p
 use Rattle.model.specs.Parsing.{formOf}
 use Rattle.model.specs.Expanding as m
@@ -24,6 +23,10 @@ use Rattle.table.specs.declared.Entry.{Entry}
 use Rattle.table.proofs.Laws.{putEntry-below, get-putEntry}
 use Rattle.scopes.specs.declared.Name.{Name}
 use Rattle.store.specs.Words.{bindsOf}
+use Rattle.store.specs.Rivalry as d
+use Rattle.store.specs.Rivalry.{Decision, several, rivalsOf, decided}
+use Rattle.store.specs.declared.rivals.Rivals.{Rivals}
+use Rattle.store.proofs.Competing.{resolveAt-decided}
 use Rattle.things.specs.Rep.{Rep}
 use Rattle.things.specs.Making.{Roomy}
 use Rattle.things.specs.Measuring.{Seen}
@@ -34,8 +37,8 @@ use Rattle.forms.specs.declared.Form.{Form}
 use Rattle.forms.specs.declared.Form.the-variants as form
 use Rattle.forms.specs.declared.Naming.{Naming}
 use Rattle.forms.specs.declared.Naming.the-variants.{Named, Unclear, Unnamed}
-use Rattle.forms.proofs.Names.{some-is, on-named, on-unclear, on-unnamed}
-use Rattle.environment.specs.Meanings.{Meant, meant-variable, meant-macro, RepE, is-core, is-entry, Known, Extended, VariableAt, MacroAt, meaningAs, MeaningIs, CoreMeans, Means, meaningFound, MeansAt}
+use Rattle.forms.proofs.Names.{on-named, on-unclear, on-unnamed}
+use Rattle.environment.specs.Meanings.{Meant, meant-variable, meant-macro, RepE, is-core, is-entry, Known, Extended, VariableAt, MacroAt, meaningAs, MeaningIs, CoreMeans, Means, HeadMeaning, has, unclear, meaningFound, MeansAt}
 use Rattle.environment.specs.declared.Meaning.{Meaning}
 use Rattle.environment.specs.declared.Meaning.the-variants as meant
 use Rattle.environment.proofs.Frame.{upM, upE, carryM, staysE}
@@ -56,7 +59,7 @@ extended {l} {l1} {top} {n} {kind} {i} {next} r e =
 -- ---- a name's meaning
 
 module _ (n : ℕ) (f : Form) (h : formed f ≡ formOf n) where
-  core-by : (r : Meaning) → ((l : List ℕ) (top : ℕ) → MeaningIs l top (some (coreMeaning (formed f))) r) → CoreMeans n r
+  core-by : (r : Meaning) → ((l : List ℕ) (top : ℕ) → MeaningIs l top (has (coreMeaning (formed f))) r) → CoreMeans n r
   core-by r g = record { means = λ l top. rw (sym h) (g l top) }
 
   pub core-lambda : f ≡ form.Lambda → CoreMeans n meant.Lambda
@@ -131,12 +134,12 @@ further : (k n : ℕ) (w : m.Meaning) (env : Env) → ¬ (k ≡ n) → m.meaning
 unfolding m.meaning
 further k n w env z = rw (ne-eqb n k (λ y. z (sym y))) refl
 
-as-meant-variable : {l : List ℕ} {top kind i : ℕ} {w : m.Meaning} → Meant l top kind i w → kind ≡ 0 → MeaningIs l top (some w) (meant.Variable i)
+as-meant-variable : {l : List ℕ} {top kind i : ℕ} {w : m.Meaning} → Meant l top kind i w → kind ≡ 0 → MeaningIs l top (has w) (meant.Variable i)
 unfolding meaningAs
 as-meant-variable (meant-variable {i = i} {x = x} {c = c} r) z = record { told = record { sets = c; symb = x; is = refl; shown = r } }
 as-meant-variable (meant-macro r) z = absurd (omega arith)
 
-as-meant-macro : {l : List ℕ} {top kind i : ℕ} {w : m.Meaning} → Meant l top kind i w → ¬ (kind ≡ 0) → MeaningIs l top (some w) (meant.Macro i)
+as-meant-macro : {l : List ℕ} {top kind i : ℕ} {w : m.Meaning} → Meant l top kind i w → ¬ (kind ≡ 0) → MeaningIs l top (has w) (meant.Macro i)
 unfolding meaningAs
 as-meant-macro (meant-variable r) z = absurd (z refl)
 as-meant-macro (meant-macro {i = i} {v = v} r) z = record { told = record { value = v; is = refl; shown = r } }
@@ -160,7 +163,7 @@ module _ {l : List ℕ} {e : ℕ} {x : Entry} (h : ¬ (e ≡ 0)) (k : x ≡ getE
 -- ---- the meaning of an object
 
 module _ {ph n : ℕ} {l st : List ℕ} {i : ℕ} {v : Naming} (p : Names ph st n l i v) where
-  pub at-unclear : {e : ℕ} → v ≡ Unclear → MeansAt ph st n l i e meant.Unclear
+  pub at-unclear : {e : ℕ} {k : Rivals} → v ≡ Unclear k → MeansAt ph st n l i e (meant.Unclear k)
   unfolding meaningFound meaningAs
   at-unclear z = record { means = λ top x env w y. rw (on-unclear p w z) (record { told = refl }) }
 
@@ -176,10 +179,10 @@ pub ruleset laws = (room-add, room-fits, extended, core-lambda, core-let-syntax,
 
 -- ---- what a caller knows
 
-told-as : {l : List ℕ} {top : ℕ} {q : Option m.Meaning} {r s : Meaning} → MeaningIs l top q r → r ≡ s → meaningAs l top s q
+told-as : {l : List ℕ} {top : ℕ} {q : HeadMeaning} {r s : Meaning} → MeaningIs l top q r → r ≡ s → meaningAs l top s q
 told-as a e = rw e at (a .told)
 
-module _ {l : List ℕ} {top : ℕ} {q : Option m.Meaning} {r : Meaning} (a : MeaningIs l top q r) where
+module _ {l : List ℕ} {top : ℕ} {q : HeadMeaning} {r : Meaning} (a : MeaningIs l top q r) where
   pub on-variable : {i : ℕ} → r ≡ meant.Variable i → VariableAt l top i q
   unfolding meaningAs
   on-variable e = told-as a e
@@ -188,55 +191,62 @@ module _ {l : List ℕ} {top : ℕ} {q : Option m.Meaning} {r : Meaning} (a : Me
   unfolding meaningAs
   on-macro e = told-as a e
 
-  pub on-lambda : r ≡ meant.Lambda → q ≡ some (core p.lambda)
+  pub on-lambda : r ≡ meant.Lambda → q ≡ has (core p.lambda)
   unfolding meaningAs
   on-lambda e = told-as a e
 
-  pub on-let-syntax : r ≡ meant.LetSyntax → q ≡ some (core p.letSyntax)
+  pub on-let-syntax : r ≡ meant.LetSyntax → q ≡ has (core p.letSyntax)
   unfolding meaningAs
   on-let-syntax e = told-as a e
 
-  pub on-quote : r ≡ meant.Quote → q ≡ some (core p.quote)
+  pub on-quote : r ≡ meant.Quote → q ≡ has (core p.quote)
   unfolding meaningAs
   on-quote e = told-as a e
 
-  pub on-syntax : r ≡ meant.Syntax → q ≡ some (core p.syntax)
+  pub on-syntax : r ≡ meant.Syntax → q ≡ has (core p.syntax)
   unfolding meaningAs
   on-syntax e = told-as a e
 
-  pub on-unknown : r ≡ meant.Unknown → q ≡ some unknown
+  pub on-unknown : r ≡ meant.Unknown → q ≡ has unknown
   unfolding meaningAs
   on-unknown e = told-as a e
 
-  pub on-meaning-unclear : r ≡ meant.Unclear → q ≡ none
+  pub on-meaning-unclear : {k : Rivals} → r ≡ meant.Unclear k → q ≡ unclear (rivalsOf k)
   unfolding meaningAs
   on-meaning-unclear e = told-as a e
 
-by-found : (ph : ℕ) (env : Env) (y : State) (c : Sets) (x : ℕ) (f : Found) {w : m.Meaning} → resolve x (setAt ph c) (y .binds) ≡ f → meaningFound (some f) env ≡ some w
-    → headMeaning ph env (atom c (symbol x)) y ≡ ok w y
-unfolding headMeaning meaningFound resolveAt nameOf
-by-found ph env y c x (res.means n) e h = rw e (ap (λ (k : m.Meaning). ok k y) (some-is h))
-by-found ph env y c x several e h = let z : _≡_ {A = ℕ} 0 1 = cc in absurd (omega arith)
+has-is : {a b : m.Meaning} → has a ≡ has b → a ≡ b
+has-is e = cc
 
-by-several : (ph : ℕ) (env : Env) (y : State) (c : Sets) (x : ℕ) (f : Found) → resolve x (setAt ph c) (y .binds) ≡ f → meaningFound (some f) env ≡ none
-    → headMeaning ph env (atom c (symbol x)) y ≡ no ambiguous (y .left)
-unfolding headMeaning meaningFound resolveAt nameOf
-by-several ph env y c x (res.means n) e h = let z : _≡_ {A = ℕ} 0 1 = cc in absurd (omega arith)
-by-several ph env y c x several e h = rw e refl
+unclear-is : {a b : k.Rivals} → unclear a ≡ unclear b → a ≡ b
+unclear-is e = cc
+
+module _ (ph : ℕ) (env : Env) (y : State) (c : Sets) (x : ℕ) where
+  by-found : (f : Decision) {w : m.Meaning} → decided x (setAt ph c) (y .binds) ≡ f → meaningFound (some f) env ≡ has w
+      → headMeaning ph env (atom c (symbol x)) y ≡ ok w y
+  unfolding headMeaning meaningFound
+  by-found (d.means n) e h = rw (resolveAt-decided ph c x y, e) (ap (λ (k : m.Meaning). ok k y) (has-is h))
+  by-found (several p) e h = let z : _≡_ {A = ℕ} 0 1 = cc in absurd (omega arith)
+
+  by-several : (f : Decision) {p : k.Rivals} → decided x (setAt ph c) (y .binds) ≡ f → meaningFound (some f) env ≡ unclear p
+      → headMeaning ph env (atom c (symbol x)) y ≡ no ambiguous p (y .left)
+  unfolding headMeaning meaningFound
+  by-several (d.means n) e h = let z : _≡_ {A = ℕ} 0 1 = cc in absurd (omega arith)
+  by-several (several q) e h = rw (resolveAt-decided ph c x y, e) (ap (λ (z : k.Rivals). no ambiguous z (y .left)) (unclear-is h))
 
 module _ (ph : ℕ) (env : Env) (y : State) where
-  pub head-means : (x : Stx) {w : m.Meaning} → meaningFound (nameFound ph (y .binds) x) env ≡ some w → headMeaning ph env x y ≡ ok w y
+  pub head-means : (x : Stx) {w : m.Meaning} → meaningFound (nameFound ph (y .binds) x) env ≡ has w → headMeaning ph env x y ≡ ok w y
   unfolding headMeaning nameFound meaningFound
-  head-means (atom c (symbol x)) h = by-found ph env y c x (resolve x (setAt ph c) (y .binds)) refl h
-  head-means (atom c (number x)) h = ap (λ (k : m.Meaning). ok k y) (some-is h)
-  head-means (atom c (point x)) h = ap (λ (k : m.Meaning). ok k y) (some-is h)
-  head-means (atom c (prim x)) h = ap (λ (k : m.Meaning). ok k y) (some-is h)
-  head-means (atom c (rung x)) h = ap (λ (k : m.Meaning). ok k y) (some-is h)
-  head-means (list c l) h = ap (λ (k : m.Meaning). ok k y) (some-is h)
+  head-means (atom c (symbol x)) h = by-found ph env y c x (decided x (setAt ph c) (y .binds)) refl h
+  head-means (atom c (number x)) h = ap (λ (k : m.Meaning). ok k y) (has-is h)
+  head-means (atom c (point x)) h = ap (λ (k : m.Meaning). ok k y) (has-is h)
+  head-means (atom c (prim x)) h = ap (λ (k : m.Meaning). ok k y) (has-is h)
+  head-means (atom c (rung x)) h = ap (λ (k : m.Meaning). ok k y) (has-is h)
+  head-means (list c l) h = ap (λ (k : m.Meaning). ok k y) (has-is h)
 
-  pub head-unclear : (x : Stx) → meaningFound (nameFound ph (y .binds) x) env ≡ none → headMeaning ph env x y ≡ no ambiguous (y .left)
+  pub head-unclear : (x : Stx) {p : k.Rivals} → meaningFound (nameFound ph (y .binds) x) env ≡ unclear p → headMeaning ph env x y ≡ no ambiguous p (y .left)
   unfolding headMeaning nameFound meaningFound
-  head-unclear (atom c (symbol x)) h = by-several ph env y c x (resolve x (setAt ph c) (y .binds)) refl h
+  head-unclear (atom c (symbol x)) h = by-several ph env y c x (decided x (setAt ph c) (y .binds)) refl h
   head-unclear (atom c (number x)) h = let z : _≡_ {A = ℕ} 0 1 = cc in absurd (omega arith)
   head-unclear (atom c (point x)) h = let z : _≡_ {A = ℕ} 0 1 = cc in absurd (omega arith)
   head-unclear (atom c (prim x)) h = let z : _≡_ {A = ℕ} 0 1 = cc in absurd (omega arith)

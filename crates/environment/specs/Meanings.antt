@@ -6,13 +6,14 @@ use Prim.Native.Nat.{ℕ, _+_, _≤_, _<_}
 use lib.ListN.{length}
 use Rattle.model.specs.Objects.{Sets, symbol, Stx, atom}
 use Rattle.model.specs.Trees.{Tree, stx}
-use Rattle.model.specs.Resolving as res
-use Rattle.model.specs.Resolving.{Bind, Found, several}
+use Rattle.model.specs.Competing.{Rivals}
 use Rattle.model.specs.Parsing.{lambda, letSyntax, quote, syntax, formOf}
 use Rattle.model.specs.Expanding as m
 use Rattle.model.specs.Expanding.{core, variable, macro, unknown, Env, coreOnly, coreMeaning}
 use Rattle.table.specs.Words.{getEntry, Same}
 use Rattle.store.specs.Words.{bindsOf}
+use Rattle.store.specs.Rivalry as d
+use Rattle.store.specs.Rivalry.{Decision, several, rivalsOf}
 use Rattle.things.specs.Rep.{Rep}
 use Rattle.forms.specs.Names.{nameFound}
 use Rattle.environment.specs.declared.Meaning.{Meaning}
@@ -43,43 +44,48 @@ pub record Extended (l l′ : List ℕ) (top n kind i next at top′ : ℕ) : Ty
   pub grows : top′ ≡ top + entrySize
   pub means : (w : m.Meaning) (env : Env) → Meant l top kind i w → RepE l top next env → RepE l′ top′ at (m.extend n w env)
 
+-- what a head means, or which bindings compete for it
+pub data HeadMeaning : Type 0 where
+  has : m.Meaning → HeadMeaning
+  unclear : Rivals → HeadMeaning
+
 -- the binder at i is the variable's
-pub record VariableAt (l : List ℕ) (top i : ℕ) (q : Option m.Meaning) : Type 0 where
+pub record VariableAt (l : List ℕ) (top i : ℕ) (q : HeadMeaning) : Type 0 where
   pub sets : Sets
   pub symb : ℕ
-  pub is : q ≡ some (variable sets symb)
+  pub is : q ≡ has (variable sets symb)
   pub shown : Rep l top i (stx (atom sets (symbol symb)))
 
 -- the value at i is the macro's
-pub record MacroAt (l : List ℕ) (top i : ℕ) (q : Option m.Meaning) : Type 0 where
+pub record MacroAt (l : List ℕ) (top i : ℕ) (q : HeadMeaning) : Type 0 where
   pub value : Tree
-  pub is : q ≡ some (macro value)
+  pub is : q ≡ has (macro value)
   pub shown : Rep l top i value
 
--- what each case says of the rules' meaning q, which is none where the name is unclear
-unfoldable pub meaningAs : List ℕ → ℕ → Meaning → Option m.Meaning → Type 0
-meaningAs l top Lambda q = q ≡ some (core lambda)
-meaningAs l top LetSyntax q = q ≡ some (core letSyntax)
-meaningAs l top Quote q = q ≡ some (core quote)
-meaningAs l top Syntax q = q ≡ some (core syntax)
+-- what each case says of the rules' meaning q
+unfoldable pub meaningAs : List ℕ → ℕ → Meaning → HeadMeaning → Type 0
+meaningAs l top Lambda q = q ≡ has (core lambda)
+meaningAs l top LetSyntax q = q ≡ has (core letSyntax)
+meaningAs l top Quote q = q ≡ has (core quote)
+meaningAs l top Syntax q = q ≡ has (core syntax)
 meaningAs l top (Variable i) q = VariableAt l top i q
 meaningAs l top (Macro i) q = MacroAt l top i q
-meaningAs l top Unknown q = q ≡ some unknown
-meaningAs l top Unclear q = q ≡ none
+meaningAs l top Unknown q = q ≡ has unknown
+meaningAs l top (Unclear p) q = q ≡ unclear (rivalsOf p)
 
-pub record MeaningIs (l : List ℕ) (top : ℕ) (q : Option m.Meaning) (r : Meaning) : Type 0 where
+pub record MeaningIs (l : List ℕ) (top : ℕ) (q : HeadMeaning) (r : Meaning) : Type 0 where
   pub told : meaningAs l top r q
 
 pub record CoreMeans (n : ℕ) (r : Meaning) : Type 0 where
-  pub means : (l : List ℕ) (top : ℕ) → MeaningIs l top (some (coreMeaning (formOf n))) r
+  pub means : (l : List ℕ) (top : ℕ) → MeaningIs l top (has (coreMeaning (formOf n))) r
 
 pub record Means (l : List ℕ) (e n : ℕ) (r : Meaning) : Type 0 where
-  pub means : (top : ℕ) (env : Env) → RepE l top e env → MeaningIs l top (some (m.meaning n env)) r
+  pub means : (top : ℕ) (env : Env) → RepE l top e env → MeaningIs l top (has (m.meaning n env)) r
 
-unfoldable pub meaningFound : Option Found → Env → Option m.Meaning
-meaningFound none env = some unknown
-meaningFound (some (res.means n)) env = some (m.meaning n env)
-meaningFound (some several) env = none
+unfoldable pub meaningFound : Option Decision → Env → HeadMeaning
+meaningFound none env = has unknown
+meaningFound (some (d.means n)) env = has (m.meaning n env)
+meaningFound (some (several p)) env = unclear p
 
 -- of the object at i
 pub record MeansAt (ph : ℕ) (st : List ℕ) (n : ℕ) (l : List ℕ) (i e : ℕ) (r : Meaning) : Type 0 where

@@ -3,6 +3,7 @@
 use forms::Form;
 use forms::Naming;
 use scopes::Name;
+use store::rivals::Rivals;
 use table::Entry;
 use things::Made;
 ghost use mathlib.Core.Path.{_≡_};
@@ -25,8 +26,8 @@ pub enum Meaning {
     // Where its value lies.
     Macro(u32),
     Unknown,
-    // Of an identifier with several candidates, none of which contains every other.
-    Unclear,
+    // Of an identifier with several candidates, none of which contains every other: the two that compete.
+    Unclear(Rivals),
 }
 
 impl Meaning {
@@ -93,7 +94,7 @@ pub fn meaning_of(table: &[u32], store: &[u64], count: u32, i: u32, phase: u32, 
     ensures { λ r. ⌜ MeansAt phase (now (store .entry)) count (now (table .entry)) i e r ⌝ }
 {
     match forms::name_of(table, store, count, i, phase) {
-        Naming::Unclear => Meaning::Unclear,
+        Naming::Unclear(rivals) => Meaning::Unclear(rivals),
         Naming::Unnamed => Meaning::Unknown,
         Naming::Named(n) => lookup(table, e, n),
     }

@@ -79,12 +79,12 @@ each-rest : (vs : Trees) (y : m.State) (v : Tree) (o : m.Out Trees) (n : ℕ) �
     → after o (λ r. λ z. ok (tcons v r) z) ≡ ok vs y → tcount vs ≡ suc n
 unfolding tcount
 each-rest vs y v (ok r z) n k h = let w : vs ≡ tcons v r = cc in rw w (ap suc (k r z refl))
-each-rest vs y v (no c u) n k h = let w : _≡_ {A = ℕ} 0 1 = cc in absurd (omega arith)
+each-rest vs y v (no c p u) n k h = let w : _≡_ {A = ℕ} 0 1 = cc in absurd (omega arith)
 
 each-first : (self : Tree → Step Tree) (l vs : Trees) (y : m.State) (o : m.Out Tree) (n : ℕ) → ((r : Trees) (w z : m.State) → eachTree self l w ≡ ok r z → tcount r ≡ n)
     → after o (λ v. λ w. after (eachTree self l w) (λ r. λ z. ok (tcons v r) z)) ≡ ok vs y → tcount vs ≡ suc n
 each-first self l vs y (ok v w) n k h = each-rest vs y v (eachTree self l w) n (λ r z. k r w z) h
-each-first self l vs y (no c u) n k h = let w : _≡_ {A = ℕ} 0 1 = cc in absurd (omega arith)
+each-first self l vs y (no c p u) n k h = let w : _≡_ {A = ℕ} 0 1 = cc in absurd (omega arith)
 
 each-count : (self : Tree → Step Tree) (ts vs : Trees) (x y : m.State) → eachTree self ts x ≡ ok vs y → tcount vs ≡ tcount ts
 unfolding eachTree tcount

@@ -16,6 +16,7 @@ use Rattle.steps.specs.Agreement.{Later, Ready, stops}
 use borrow.Author.Tests.{le-leb, lt-leb}
 use Rattle.model.specs.Limits.{mostNesting}
 use Rattle.model.specs.Refusals.{tooDeep}
+use Rattle.model.specs.Competing.{noRivals}
 use Rattle.model.specs.Steps as m
 use Rattle.model.specs.Steps.{no, madeTree}
 use Rattle.model.specs.Trees.{Tree, tsize, tnesting, substitute}
@@ -95,7 +96,7 @@ module _ {l : List ℕ} {s u : State} {x : ℕ} {body : Body} {g : Charged} (r :
                 stops (stopOf TooDeep u)
                 (then-ok _ (charge-ok (tsize t) s b (omega (arith, went .enough, low, z)))
                 ∙ then-no _ (then-no _ (unless-no tooDeep (stateOf (paid (tsize t) s) b) (lt-leb (tnesting (substitute n v t)) 64 deep)))
-                ∙ ap (λ (j : ℕ). no tooDeep j) (omega (arith, went .enough, low, z, left-is)));
+                ∙ ap (λ (j : ℕ). no tooDeep noRivals j) (omega (arith, went .enough, low, z, left-is)));
           })
 
       module _ (flat : ex .nesting ≤ 64) where

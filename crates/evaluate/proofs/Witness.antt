@@ -6,6 +6,7 @@ use lib.Dec.{lit≤, lit<}
 use lib.ListN.{replicate}
 use Rattle.model.specs.Objects.{number, tagOf, contentOf}
 use Rattle.model.specs.Refusals.{overBudget}
+use Rattle.model.specs.Competing.{noRivals}
 use Rattle.model.specs.Steps.{ok, no}
 use Rattle.model.specs.Trees.{Tree, tnil, tcons, var, app, fun, datum, tsize, tsizesBy, tnesting, tnestings}
 use Rattle.model.specs.Evaluating.{evaluate}
@@ -50,6 +51,6 @@ pub nine : evaluate 128 sample (stateOf (start 5) noStore) ≡ ok (datum (number
 unfolding evaluate
 nine = refl
 
-pub short : evaluate 128 sample (stateOf (start 4) noStore) ≡ no overBudget 0
+pub short : evaluate 128 sample (stateOf (start 4) noStore) ≡ no overBudget noRivals 0
 unfolding evaluate
 short = refl

@@ -17,6 +17,7 @@ use mathlib.Core.Option.{Option, none, some}
 use borrow.Author.Tests.{le-leb, lt-leb}
 use Rattle.model.specs.Limits.{mostNesting}
 use Rattle.model.specs.Refusals.{wrongArgument, tooDeep}
+use Rattle.model.specs.Competing.{noRivals}
 use Rattle.model.specs.Steps as m
 use Rattle.model.specs.Steps.{ok, no, madeTree}
 use Rattle.model.specs.Trees.{Tree, tcount, tnesting}
@@ -94,7 +95,7 @@ module _ {l : List ℕ} {s u : State} {p x y z : ℕ} {g : Charged} (r : ReadyPr
               (stops (stopOf WrongArgument u)
               (then-ok _ (charge-ok 1 s b (went .enough))
               ∙ ap (λ (v : Option Tree). orWrongKind v (stateOf (paid 1 s) b)) (on-wrong (worked .means (o .which) (o .is) ts a (o .able)) k)
-              ∙ ap (λ (n : ℕ). no wrongArgument n) (sym left-is)));
+              ∙ ap (λ (n : ℕ). no wrongArgument noRivals n) (sym left-is)));
         })
 
     module _ {j : Made} (k : w ≡ Piece j) where
@@ -124,7 +125,7 @@ module _ {l : List ℕ} {s u : State} {p x y z : ℕ} {g : Charged} (r : ReadyPr
                   (then-ok _ (charge-ok 1 s b (went .enough))
                   ∙ ap (λ (t : Option Tree). orWrongKind t (stateOf (paid 1 s) b)) (v .is)
                   ∙ then-no _ (unless-no tooDeep (stateOf (paid 1 s) b) (lt-leb (tnesting (v .value)) 64 deep))
-                  ∙ ap (λ (i : ℕ). no tooDeep i) (sym left-is)));
+                  ∙ ap (λ (i : ℕ). no tooDeep noRivals i) (sym left-is)));
             })
 
         pub primitive-done : ex .nesting ≤ 64 → DoesPrimitive l l1 s p x y z (Done (record { at = j .at; state = raisedTo (j .top) u }))

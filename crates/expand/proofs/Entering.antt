@@ -10,7 +10,7 @@ use Rattle.model.specs.Trees.{Tree, stx}
 use Rattle.model.specs.Steps as ms
 use Rattle.model.specs.Steps.{ok}
 use Rattle.model.specs.Expanding.{Env, expandMacro, expandEntry}
-use Rattle.refusals.specs.declared.Refusal.the-variants.{Ambiguous, NoRule}
+use Rattle.refusals.specs.declared.Refusal.the-variants.{NoRule}
 use Rattle.table.specs.Tags.{listTag}
 use Rattle.table.specs.Words.{getNode, getCell}
 use Rattle.table.specs.declared.Node.{Node}
@@ -19,7 +19,8 @@ use Rattle.things.specs.Rep.{Rep, is-atom, is-list}
 use Rattle.things.specs.Measuring.{Seen}
 use Rattle.things.proofs.Frame.{below}
 use Rattle.things.proofs.ByTag.{tag-is, atom-at, list-at, stx-tag, same-object}
-use Rattle.steps.specs.States.{stopOf, Store, storeOf, Held, stateOf, enterOf}
+use Rattle.store.specs.declared.rivals.Rivals.{Rivals}
+use Rattle.steps.specs.States.{stopOf, ambiguousOf, Store, storeOf, Held, stateOf, enterOf}
 use Rattle.steps.specs.Agreement.{Ended, ended, Agrees, gives, stops}
 use Rattle.steps.specs.declared.State.{State}
 use Rattle.steps.specs.declared.Stop.{Stop}
@@ -267,7 +268,7 @@ module _ {st l : List ℕ} (s : State) {i c : ℕ} {at : Surroundings} where
                 (a .means (storeOf st) g k (q .first) (q .others) (rw (q .is) at u) (q .cell .shown) (q .cell .shown-others));
           }
 
-      pub list-is-unclear : {r : Answer} → w ≡ meant.Unclear → r ≡ Refused (stopOf Ambiguous s) → ExpandedList at st st l l s i c r
+      pub list-is-unclear : {r : Answer} {v : Rivals} → w ≡ meant.Unclear v → r ≡ Refused (ambiguousOf v s) → ExpandedList at st st l l s i c r
       list-is-unclear z same =
           rw same (record {
             means = λ k ps g u v y.

@@ -12,7 +12,7 @@ use Rattle.model.specs.Evaluating.{evaluate}
 use Rattle.model.specs.Parsing.{parse}
 use Rattle.model.specs.Expanding as m
 use Rattle.model.specs.Expanding.{headMeaning, expandName, expandSyntax, orNoSyntax}
-use Rattle.refusals.specs.declared.Refusal.the-variants.{Ambiguous, NoMeaning, NoRule, NoSyntax}
+use Rattle.refusals.specs.declared.Refusal.the-variants.{NoMeaning, NoRule, NoSyntax}
 use Rattle.scopes.specs.Sets.{scopesOf}
 use Rattle.store.specs.Words.{bindsOf}
 use Rattle.table.specs.Tags.{listTag}
@@ -22,7 +22,8 @@ use Rattle.things.specs.Rep.{Rep, is-var, is-app, is-fun, is-lst, is-datum, is-
 use Rattle.things.specs.Measuring.{Seen, SeenP}
 use Rattle.things.proofs.Frame.{below, carry}
 use Rattle.things.proofs.ByTag.{tag-is, not-syntax}
-use Rattle.steps.specs.States.{stopOf, Store, storeOf, noStore, stateOf}
+use Rattle.store.specs.declared.rivals.Rivals.{Rivals}
+use Rattle.steps.specs.States.{stopOf, ambiguousOf, Store, storeOf, noStore, stateOf}
 use Rattle.steps.specs.Agreement as agr
 use Rattle.steps.specs.Agreement.{Later, ended, Gave, Agrees, gives, stops}
 use Rattle.steps.specs.declared.State.{State}
@@ -109,7 +110,7 @@ module _ {l st : List ℕ} (s : State) {i : ℕ} {at : Surroundings} (r : ReadyN
     name-unknown z same =
         rw same (record { means = λ c x e u k. stops _ (name-split (around e at) c x (stateOf s (storeOf st)) ∙ then-ok _ (head-means (at .phase) e (stateOf s (storeOf st)) (atom c (symbol x)) (on-unknown (p .means (s .top) (atom c (symbol x)) e u k) z))) })
 
-    pub name-unclear : {r : Answer} → w ≡ meant.Unclear → r ≡ Refused (stopOf Ambiguous s) → ExpandedName at st l s i r
+    pub name-unclear : {r : Answer} {v : Rivals} → w ≡ meant.Unclear v → r ≡ Refused (ambiguousOf v s) → ExpandedName at st l s i r
     name-unclear z same =
         rw same (record { means = λ c x e u k. stops _ (name-split (around e at) c x (stateOf s (storeOf st)) ∙ then-no _ (head-unclear (at .phase) e (stateOf s (storeOf st)) (atom c (symbol x)) (on-meaning-unclear (p .means (s .top) (atom c (symbol x)) e u k) z))) })
 

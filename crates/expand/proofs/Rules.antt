@@ -1,18 +1,18 @@
 -- The rules of expanding, each in the shape that a way out of the code asks for.
 use mathlib.Core.Path.{_≡_, refl, sym, _∙_}
-use mathlib.Core.Option.{none, some}
 use Prim.Native.Nat.{ℕ, _+_}
 use lib.Dec.{leb}
 use Rattle.model.specs.Limits.{lastPhase}
 use Rattle.model.specs.Refusals.{ambiguous, noRule, noPhase}
 use Rattle.model.specs.Objects.{Atom, symbol, number, point, prim, rung, tagOf, Sets, Stx, atom, list, Stxs, nil, cons}
 use Rattle.model.specs.Trees.{Tree, app, stx, tnil, tcons, asStx}
+use Rattle.model.specs.Competing.{Rivals, noRivals}
 use Rattle.model.specs.Evaluating.{evaluate}
 use Rattle.model.specs.Steps.{State, ok, no, after, Step, addTo, flipIn, unless, freshScope}
 use Rattle.model.specs.Parsing as p
 use Rattle.model.specs.Expanding as m
 use Rattle.model.specs.Expanding.{core, variable, macro, unknown, Expander, expandApplication, expandFunction, expandLambda, expandSyntax, expandBinding, expandLetSyntax, expandMacro, expandForm, expandEntry, expand, bindFresh, ofRightHandSide, ofBody, ofResult, orNoSyntax}
-use Rattle.environment.specs.Meanings.{meaningFound}
+use Rattle.environment.specs.Meanings.{has, unclear, meaningFound}
 use Rattle.environment.proofs.Laws.{head-means, head-unclear}
 use Rattle.forms.specs.Names.{nameFound}
 use Rattle.steps.proofs.Laws.{Entry, then-ok, then-no}
@@ -43,16 +43,16 @@ module _ (self : Expander) (d : ℕ) (here : m.Surroundings) (y : State) where
   unfolding expandEntry nameRule
   entry-symbol c n = refl
 
-  pub entry-empty : (c : Sets) → expandEntry self d here (list c nil) y ≡ no noRule (y .left)
+  pub entry-empty : (c : Sets) → expandEntry self d here (list c nil) y ≡ no noRule noRivals (y .left)
   unfolding expandEntry
   entry-empty c = refl
 
   module _ (c : Sets) (h : Stx) (ps : Stxs) where
-    pub list-means : {w : m.Meaning} → meaningFound (nameFound (here .phase) (y .binds) h) (here .meanings) ≡ some w → expandEntry self d here (list c (cons h ps)) y ≡ expandForm self d here c h ps w y
+    pub list-means : {w : m.Meaning} → meaningFound (nameFound (here .phase) (y .binds) h) (here .meanings) ≡ has w → expandEntry self d here (list c (cons h ps)) y ≡ expandForm self d here c h ps w y
     unfolding expandEntry
     list-means z = then-ok _ (head-means (here .phase) (here .meanings) y h z)
 
-    pub list-unclear : meaningFound (nameFound (here .phase) (y .binds) h) (here .meanings) ≡ none → expandEntry self d here (list c (cons h ps)) y ≡ no ambiguous (y .left)
+    pub list-unclear : {p : Rivals} → meaningFound (nameFound (here .phase) (y .binds) h) (here .meanings) ≡ unclear p → expandEntry self d here (list c (cons h ps)) y ≡ no ambiguous p (y .left)
     unfolding expandEntry
     list-unclear z = then-no _ (head-unclear (here .phase) (here .meanings) y h z)
 

@@ -106,7 +106,7 @@ fn list(table: &mut [u32], store: &mut [u64], s: State, i: u32, c: u32, at: Surr
         Meaning::Variable(_) => application(table, store, s, i, c, at),
         Meaning::Macro(v) => macro_use(table, store, s, i, v, at),
         Meaning::Unknown => application(table, store, s, i, c, at),
-        Meaning::Unclear => s.refuse(Refusal::Ambiguous),
+        Meaning::Unclear(rivals) => s.ambiguous(rivals),
     }
 }
 

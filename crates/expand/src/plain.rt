@@ -18,7 +18,7 @@ pub fn reference(table: &[u32], store: &[u64], s: State, i: u32, at: Surrounding
     match environment::meaning_of(table, store, s.bindings, i, at.phase, at.meanings) {
         Meaning::Variable(v) => Answer::Done(Out { at: v, state: s }),
         Meaning::Unknown => s.refuse(Refusal::NoMeaning),
-        Meaning::Unclear => s.refuse(Refusal::Ambiguous),
+        Meaning::Unclear(rivals) => s.ambiguous(rivals),
         Meaning::Lambda => s.refuse(Refusal::NoRule),
         Meaning::LetSyntax => s.refuse(Refusal::NoRule),
         Meaning::Quote => s.refuse(Refusal::NoRule),

@@ -13,16 +13,23 @@ use Rattle.model.specs.Limits.{mostImage}
 use Rattle.model.specs.Refusals.{tooLong}
 use Rattle.model.specs.Jobs as m
 use Rattle.model.specs.Jobs.{fitted, outputAfter}
+use Rattle.model.specs.Competing.{noRivals}
 use Rattle.refusals.specs.Refusing.{refusalOf}
+use Rattle.store.specs.declared.rivals.Rivals.{Rivals}
+use Rattle.store.specs.Rivalry.{rivalsOf}
 use Rattle.refusals.specs.declared.Refusal.{Refusal}
 use Rattle.refusals.specs.declared.Refusal.the-variants as refusal
-use Rattle.finish.specs.declared.Ending.the-variants.{Refused, Written}
+use Rattle.finish.specs.declared.Ending.the-variants.{Refused, Stopped, Written}
 use Rattle.finish.specs.Ends.{EndsAs}
 
 -- a refusal leaves the output untouched
-pub ends-refused : {e : m.Ending} {f : Refusal} {u : ℕ} (out : List ℕ) → e ≡ m.refused (refusalOf f) u → EndsAs e out out (Refused f u)
+pub ends-refused : {e : m.Ending} {f : Refusal} {u : ℕ} (out : List ℕ) → e ≡ m.refused (refusalOf f) noRivals u → EndsAs e out out (Refused f u)
 unfolding outputAfter
 ends-refused out q = record { is = sym q; left = sym (ap (λ (x : m.Ending). outputAfter x out) q); inside = omega arith; short = omega arith }
+
+pub ends-stopped : {e : m.Ending} {f : Refusal} {p : Rivals} {u : ℕ} (out : List ℕ) → e ≡ m.refused (refusalOf f) (rivalsOf p) u → EndsAs e out out (Stopped f p u)
+unfolding outputAfter
+ends-stopped out q = record { is = sym q; left = sym (ap (λ (x : m.Ending). outputAfter x out) q); inside = omega arith; short = omega arith }
 
 pub and-no : (a : Bool) → (a && false) ≡ false
 and-no true = refl
@@ -33,7 +40,7 @@ module _ (b out : List ℕ) (u : ℕ) where
   unfolding fitted mostImage
   fitted-is h k = rw (le-leb (length b) (length out) h, le-leb (length b) 65536 k)
 
-  fitted-not : (length out < length b) ⊎ (65536 < length b) → fitted (length out) b u ≡ m.refused tooLong u
+  fitted-not : (length out < length b) ⊎ (65536 < length b) → fitted (length out) b u ≡ m.refused tooLong noRivals u
   unfolding fitted mostImage
   fitted-not (inl h) = rw (lt-leb (length b) (length out) h)
   fitted-not (inr h) = rw (lt-leb (length b) 65536 h, and-no (leb (length b) (length out)))

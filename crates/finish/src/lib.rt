@@ -8,6 +8,7 @@ use refusals::Refusal;
 use scopes::Name;
 use steps::Out;
 use steps::State;
+use store::rivals::Rivals;
 ghost use mathlib.Core.Path.{_≡_};
 ghost use Prim.Native.Nat.{ℕ, _+_, _≤_, min};
 ghost use Rattle.steps.specs.States.{Held};
@@ -15,9 +16,11 @@ ghost use Rattle.store.specs.Words.{bindsOf};
 ghost use Rattle.finish.specs.Finishing.{treeImages, syntaxImages, syntaxFront, Came, Fits, PutsImage, Finishes, FrontReady, FrontLength};
 ghost use Rattle.numbers.specs.Limits.{mostImage};
 
-// How a job ends, each after so many units: a refusal, a name, or an image of so many bytes.
+// How a job ends, each after so many units: refused before the work or behind it, stopped in the work, with the bindings that compete where
+// that is code 6, a name, or an image of so many bytes.
 pub enum Ending {
     Refused(Refusal, u32),
+    Stopped(Refusal, Rivals, u32),
     Named(Name, u32),
     Written(usize, u32),
 }

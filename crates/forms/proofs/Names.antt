@@ -9,15 +9,18 @@ use Rattle.model.specs.Refusals.{noRule, ambiguous}
 use Rattle.model.specs.Objects as m
 use Rattle.model.specs.Objects.{Atom, symbol, number, point, prim, rung, tagOf, contentOf, Stx, atom, list, setAt}
 use Rattle.model.specs.Trees.{stx}
-use Rattle.model.specs.Resolving as res
-use Rattle.model.specs.Resolving.{Bind, several, resolve}
-use Rattle.model.specs.Steps.{State, Step, ok, no, after, nameOf, resolveAt, identifier}
+use Rattle.model.specs.Competing as c
+use Rattle.model.specs.Competing.{noRivals}
+use Rattle.model.specs.Steps.{State, Step, ok, no, after, resolveAt, identifier}
 use Rattle.model.specs.Parsing as p
 use Rattle.model.specs.Parsing.{formOf}
 use Rattle.scopes.specs.Sets.{scopesOf}
 use Rattle.scopes.specs.declared.ScopeSet.{ScopeSet}
 use Rattle.store.specs.Words.{bindsOf}
-use Rattle.store.specs.Pass.{foundOf}
+use Rattle.store.specs.Rivalry as d
+use Rattle.store.specs.Rivalry.{several, rivalsOf, decided, foundOf}
+use Rattle.store.specs.declared.rivals.Rivals.{Rivals}
+use Rattle.store.proofs.Competing.{resolveAt-decided}
 use Rattle.store.specs.declared.resolving.Found.{Found}
 use Rattle.store.specs.declared.resolving.Found.the-variants.{Means, Several}
 use Rattle.scopes.specs.declared.Name.{Name}
@@ -65,7 +68,7 @@ module _ {l : List ℕ} (st : List ℕ) (n ph : ℕ) {i : ℕ} {o : Node} (e : o
       by (is-list a q y r) = refl
 
   module _ (h : o .tag ≡ 0) {c : Sets} (f : c ≡ getSets l i) {z : ℕ} (g : z ≡ setAt ph (setsOf c)) (w : Found)
-      (k : foundOf w ≡ resolve (o .content) z (bindsOf st n)) where
+      (k : foundOf w ≡ decided (o .content) z (bindsOf st n)) where
     found-is : (top : ℕ) (x : Stx) → Rep l top i (stx x) → nameFound ph (bindsOf st n) x ≡ some (foundOf w)
     unfolding nameFound tagOf contentOf
     found-is top x r = by r
@@ -73,8 +76,8 @@ module _ {l : List ℕ} (st : List ℕ) (n ph : ℕ) {i : ℕ} {o : Node} (e : o
         by : {x : Stx} → Rep l top i (stx x) → nameFound ph (bindsOf st n) x ≡ some (foundOf w)
         by (is-atom {s = s} {a = symbol j} a q y) =
             let set : z ≡ setAt ph s = g ∙ ap (λ (d : Sets). setAt ph (setsOf d)) f ∙ ap (setAt ph) y in
-            let same : resolve (o .content) z (bindsOf st n) ≡ resolve j (setAt ph s) (bindsOf st n) =
-            ap₂ (λ (u : ℕ) (v : ℕ). resolve u v (bindsOf st n)) (content-is e q) set in
+            let same : decided (o .content) z (bindsOf st n) ≡ decided j (setAt ph s) (bindsOf st n) =
+            ap₂ (λ (u : ℕ) (v : ℕ). decided u v (bindsOf st n)) (content-is e q) set in
             ap some (sym (k ∙ same))
         by (is-atom {a = number j} a q y) = absurd (omega (arith, tag-is e q, h))
         by (is-atom {a = point j} a q y) = absurd (omega (arith, tag-is e q, h))
@@ -85,16 +88,16 @@ module _ {l : List ℕ} (st : List ℕ) (n ph : ℕ) {i : ℕ} {o : Node} (e : o
     pub named : {v : Name} → w ≡ Means v → Names ph st n l i (Named v)
     named j = record { means = λ top x r. sym (found-is top x r ∙ ap (λ (u : Found). some (foundOf u)) j) }
 
-    pub unclear : w ≡ Several → Names ph st n l i Unclear
+    pub unclear : {v : Rivals} → w ≡ Several v → Names ph st n l i (Unclear v)
     unclear j = record { means = λ top x r. sym (found-is top x r ∙ ap (λ (u : Found). some (foundOf u)) j) }
 
 -- ---- what a caller knows
 
 module _ {ph n : ℕ} {l st : List ℕ} {i top : ℕ} {x : Stx} {r : Naming} (p : Names ph st n l i r) (q : Rep l top i (stx x)) where
-  pub on-named : {v : Name} → r ≡ Named v → nameFound ph (bindsOf st n) x ≡ some (res.means (v .0))
+  pub on-named : {v : Name} → r ≡ Named v → nameFound ph (bindsOf st n) x ≡ some (d.means (v .0))
   on-named e = sym (p .means top x q) ∙ ap namingOf e
 
-  pub on-unclear : r ≡ Unclear → nameFound ph (bindsOf st n) x ≡ some several
+  pub on-unclear : {v : Rivals} → r ≡ Unclear v → nameFound ph (bindsOf st n) x ≡ some (several (rivalsOf v))
   on-unclear e = sym (p .means top x q) ∙ ap namingOf e
 
   pub on-unnamed : r ≡ Unnamed → nameFound ph (bindsOf st n) x ≡ none
@@ -106,25 +109,25 @@ some-is e = cc
 -- resolving an identifier that the rules look at
 module _ (ph : ℕ) (y : State) where
   module _ {A : Type 0} (f : ℕ → Step A) where
-    pub identifier-named : (x : Stx) {k : ℕ} → nameFound ph (y .binds) x ≡ some (res.means k) → identifier x (λ c s z. after (resolveAt ph c s z) f) y ≡ f k y
-    unfolding nameFound identifier resolveAt nameOf
-    identifier-named (atom c (symbol s)) h = rw (some-is h) refl
+    pub identifier-named : (x : Stx) {k : ℕ} → nameFound ph (y .binds) x ≡ some (d.means k) → identifier x (λ c s z. after (resolveAt ph c s z) f) y ≡ f k y
+    unfolding nameFound identifier
+    identifier-named (atom c (symbol s)) h = rw (resolveAt-decided ph c s y, some-is h) refl
     identifier-named (atom c (number s)) h = let z : _≡_ {A = ℕ} 0 1 = cc in absurd (omega arith)
     identifier-named (atom c (point s)) h = let z : _≡_ {A = ℕ} 0 1 = cc in absurd (omega arith)
     identifier-named (atom c (prim s)) h = let z : _≡_ {A = ℕ} 0 1 = cc in absurd (omega arith)
     identifier-named (atom c (rung s)) h = let z : _≡_ {A = ℕ} 0 1 = cc in absurd (omega arith)
     identifier-named (list c s) h = let z : _≡_ {A = ℕ} 0 1 = cc in absurd (omega arith)
 
-    pub identifier-unclear : (x : Stx) → nameFound ph (y .binds) x ≡ some several → identifier x (λ c s z. after (resolveAt ph c s z) f) y ≡ no ambiguous (y .left)
-    unfolding nameFound identifier resolveAt nameOf
-    identifier-unclear (atom c (symbol s)) h = rw (some-is h) refl
+    pub identifier-unclear : (x : Stx) {p : c.Rivals} → nameFound ph (y .binds) x ≡ some (several p) → identifier x (λ c s z. after (resolveAt ph c s z) f) y ≡ no ambiguous p (y .left)
+    unfolding nameFound identifier
+    identifier-unclear (atom c (symbol s)) h = rw (resolveAt-decided ph c s y, some-is h) refl
     identifier-unclear (atom c (number s)) h = let z : _≡_ {A = ℕ} 0 1 = cc in absurd (omega arith)
     identifier-unclear (atom c (point s)) h = let z : _≡_ {A = ℕ} 0 1 = cc in absurd (omega arith)
     identifier-unclear (atom c (prim s)) h = let z : _≡_ {A = ℕ} 0 1 = cc in absurd (omega arith)
     identifier-unclear (atom c (rung s)) h = let z : _≡_ {A = ℕ} 0 1 = cc in absurd (omega arith)
     identifier-unclear (list c s) h = let z : _≡_ {A = ℕ} 0 1 = cc in absurd (omega arith)
 
-  pub identifier-unnamed : {A : Type 0} (x : Stx) (f : m.Sets → ℕ → Step A) → nameFound ph (y .binds) x ≡ none → identifier x f y ≡ no noRule (y .left)
+  pub identifier-unnamed : {A : Type 0} (x : Stx) (f : m.Sets → ℕ → Step A) → nameFound ph (y .binds) x ≡ none → identifier x f y ≡ no noRule noRivals (y .left)
   unfolding nameFound identifier
   identifier-unnamed (atom c (symbol s)) f h = let z : _≡_ {A = ℕ} 0 1 = cc in absurd (omega arith)
   identifier-unnamed (atom c (number s)) f h = refl

@@ -11,6 +11,7 @@ use Rattle.model.specs.Refusals.{noRule}
 use Rattle.model.specs.Objects as m
 use Rattle.model.specs.Objects.{Atom, symbol, number, point, prim, rung, tagOf, contentOf, Sets, Stx, atom, list, Stxs, nil, cons, count}
 use Rattle.model.specs.Trees.{Tree, stx, fromStxs, tcons}
+use Rattle.model.specs.Competing.{noRivals}
 use Rattle.model.specs.Steps.{State, Step, no, parts1, parts2, parts3, identifier}
 use Rattle.table.specs.Words.{getNode, getCell}
 use Rattle.table.specs.declared.Node.{Node}
@@ -158,20 +159,20 @@ module _ {l : List ℕ} {c : ℕ} {x : Cell} (h : ¬ (c ≡ 0)) (e : x ≡ getCe
 
 -- ---- refusals
 
-pub not-parts1 : {A : Type 0} (ps : Stxs) (f : Stx → Step A) (y : State) → ¬ (count ps ≡ 1) → parts1 ps f y ≡ no noRule (y .left)
+pub not-parts1 : {A : Type 0} (ps : Stxs) (f : Stx → Step A) (y : State) → ¬ (count ps ≡ 1) → parts1 ps f y ≡ no noRule noRivals (y .left)
 unfolding parts1 count
 not-parts1 nil f y h = refl
 not-parts1 (cons a nil) f y h = absurd (h refl)
 not-parts1 (cons a (cons b l)) f y h = refl
 
-pub not-parts2 : {A : Type 0} (ps : Stxs) (f : Stx → Stx → Step A) (y : State) → ¬ (count ps ≡ 2) → parts2 ps f y ≡ no noRule (y .left)
+pub not-parts2 : {A : Type 0} (ps : Stxs) (f : Stx → Stx → Step A) (y : State) → ¬ (count ps ≡ 2) → parts2 ps f y ≡ no noRule noRivals (y .left)
 unfolding parts2 count
 not-parts2 nil f y h = refl
 not-parts2 (cons a nil) f y h = refl
 not-parts2 (cons a (cons b nil)) f y h = absurd (h refl)
 not-parts2 (cons a (cons b (cons c l))) f y h = refl
 
-pub not-parts3 : {A : Type 0} (ps : Stxs) (f : Stx → Stx → Stx → Step A) (y : State) → ¬ (count ps ≡ 3) → parts3 ps f y ≡ no noRule (y .left)
+pub not-parts3 : {A : Type 0} (ps : Stxs) (f : Stx → Stx → Stx → Step A) (y : State) → ¬ (count ps ≡ 3) → parts3 ps f y ≡ no noRule noRivals (y .left)
 unfolding parts3 count
 not-parts3 nil f y h = refl
 not-parts3 (cons a nil) f y h = refl
@@ -193,7 +194,7 @@ identified {l} {i} {o} e = record { means = λ top x r. by r }
     by (is-atom {a = rung n} a q y) = ne-eqb (o .tag) 0 (λ z. omega (arith, tag-is e q, z))
     by (is-list a q y r) = ne-eqb (o .tag) 0 (λ z. omega (arith, tag-is e q, z))
 
-pub not-identifier : {A : Type 0} (x : Stx) (f : Sets → ℕ → Step A) (y : State) → isIdentifier x ≡ false → identifier x f y ≡ no noRule (y .left)
+pub not-identifier : {A : Type 0} (x : Stx) (f : Sets → ℕ → Step A) (y : State) → isIdentifier x ≡ false → identifier x f y ≡ no noRule noRivals (y .left)
 unfolding identifier isIdentifier
 not-identifier (atom c (symbol n)) f y h = let z : _≡_ {A = ℕ} 0 1 = cc in absurd (omega arith)
 not-identifier (atom c (number n)) f y h = refl

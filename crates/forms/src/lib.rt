@@ -4,6 +4,7 @@ use scopes::ScopeSet;
 use scopes::Symbol;
 use store::resolving;
 use store::resolving::Found;
+use store::rivals::Rivals;
 use table::Node;
 use table::Sets;
 ghost use mathlib.Core.Path.{_≡_};
@@ -101,8 +102,8 @@ pub fn set_at(sets: Sets, phase: u32) -> ScopeSet
 
 pub enum Naming {
     Named(Name),
-    // Several candidates, none of which contains every other.
-    Unclear,
+    // Several candidates, none of which contains every other: the two that compete.
+    Unclear(Rivals),
     // No identifier.
     Unnamed,
 }
@@ -118,9 +119,9 @@ pub fn name_of(table: &[u32], store: &[u64], count: u32, i: u32, phase: u32) -> 
     }
     let sets = table::get_sets(table, i);
     let set = set_at(sets, phase);
-    match resolving::resolve(store, count as usize, Symbol(n.content), set) {
+    match resolving::resolve(store, count, Symbol(n.content), set) {
         Found::Means(name) => Naming::Named(name),
-        Found::Several => Naming::Unclear,
+        Found::Several(rivals) => Naming::Unclear(rivals),
     }
 }
 

@@ -12,9 +12,10 @@ use Rattle.model.specs.Trees.{Tree, var, app, fun, datum, stx, Trees, tnil, tco
 use Rattle.model.specs.Steps.{ok, no, charge, parts1, parts2, identifier}
 use Rattle.model.specs.Parsing as p
 use Rattle.model.specs.Parsing.{formOf, parseAll, parseForm, parseEntry, parse}
-use Rattle.refusals.specs.declared.Refusal.the-variants.{Ambiguous, NoRule}
+use Rattle.refusals.specs.declared.Refusal.the-variants.{NoRule}
 use Rattle.scopes.specs.declared.Name.{Name}
-use Rattle.steps.specs.States.{Store, storeOf, stateOf, stopOf, paid, raisedTo, chargeOf, enterOf, end, Room}
+use Rattle.store.specs.declared.rivals.Rivals.{Rivals}
+use Rattle.steps.specs.States.{Store, storeOf, stateOf, stopOf, ambiguousOf, paid, raisedTo, chargeOf, enterOf, end, Room}
 use Rattle.steps.specs.Agreement.{Later, Ended, ended, done, refused, Gave, Agrees, gives, stops}
 use Rattle.steps.specs.declared.State.{State}
 use Rattle.steps.specs.declared.Stop.{Stop}
@@ -177,7 +178,7 @@ module _ {ph : ℕ} {st l : List ℕ} (s : State) {i : ℕ} {n : Naming} (p : Na
   unfolding nameRule
   name-unnamed e same = rw same (record { means = λ x w. stops _ (identifier-unnamed ph (stateOf s (storeOf st)) x _ (on-unnamed p w e)) })
 
-  pub name-unclear : {r : Answer} → n ≡ Unclear → r ≡ Refused (stopOf Ambiguous s) → ParsedName ph st l l s i r
+  pub name-unclear : {r : Answer} {k : Rivals} → n ≡ Unclear k → r ≡ Refused (ambiguousOf k s) → ParsedName ph st l l s i r
   unfolding nameRule
   name-unclear e same = rw same (record { means = λ x w. stops _ (identifier-unclear ph (stateOf s (storeOf st)) (λ k. λ z. ok (var k) z) x (on-unclear p w e)) })
 
@@ -222,7 +223,7 @@ module _ {st l : List ℕ} (s : State) {c : ℕ} {x : Cell} (h : ¬ (c ≡ 0)) (
       record { first = q .first; others = q .others; shown = all; shown-others = q .cell .shown-others; room = r .room; held = r .held }
 
   module _ {entries ph : ℕ} {n : Naming} (p : Names ph st (s .bindings) l (x .head) n) where
-    pub list-is-unclear : {r : Answer} → n ≡ Unclear → r ≡ Refused (stopOf Ambiguous s) → ParsedList entries ph st l l s c r
+    pub list-is-unclear : {r : Answer} {k : Rivals} → n ≡ Unclear k → r ≡ Refused (ambiguousOf k s) → ParsedList entries ph st l l s c r
     list-is-unclear z same =
         rw same
         (record {
@@ -322,7 +323,7 @@ module _ {st l : List ℕ} (s : State) {c : ℕ} {d : Two} (h : Double l c d) wh
                 rw (q .is) (stops _ (identifier-unnamed ph (stateOf s (storeOf st)) (q .first) _ (on-unnamed p (q .shown) z)));
           })
 
-      pub lambda-unclear : {r : Answer} → n ≡ Unclear → r ≡ Refused (stopOf Ambiguous s) → ParsedLambda entries ph st l l s c r
+      pub lambda-unclear : {r : Answer} {k : Rivals} → n ≡ Unclear k → r ≡ Refused (ambiguousOf k s) → ParsedLambda entries ph st l l s c r
       unfolding lambdaRule parts2
       lambda-unclear z same =
           rw same

@@ -7,11 +7,13 @@ use native.Mathlib.Omega.{arith}
 use Rattle.model.specs.Refusals.{Refusal, ambiguous, noRule}
 use Rattle.model.specs.Objects.{Atom, symbol, number, point, prim, rung, tagOf, Sets, Stx, atom, list, Stxs, nil, cons}
 use Rattle.model.specs.Trees.{Tree, var, app, fun, datum, stx, Trees, tnil, tcons}
-use Rattle.model.specs.Resolving as res
-use Rattle.model.specs.Resolving.{several}
-use Rattle.model.specs.Steps.{State, Out, ok, no, after, Step, nameOf, resolveAt, identifier}
+use Rattle.model.specs.Competing.{Rivals, noRivals}
+use Rattle.model.specs.Steps.{State, Out, ok, no, after, Step, identifier}
 use Rattle.model.specs.Parsing as p
 use Rattle.model.specs.Parsing.{formOf, headForm, parseAll, parseForm, parseEntry, parse}
+use Rattle.store.specs.Rivalry as d
+use Rattle.store.specs.Rivalry.{several}
+use Rattle.store.proofs.Competing.{resolveAt-decided}
 use Rattle.forms.specs.Names.{nameFound}
 use Rattle.forms.proofs.Names.{some-is}
 use Rattle.steps.proofs.Laws.{Entry, then-ok, then-no}
@@ -34,23 +36,23 @@ module _ (self : Stx → Step Tree) (ph : ℕ) (y : State) where
   unfolding parseEntry nameRule identifier
   entry-symbol c n = refl
 
-  pub entry-empty : (c : Sets) → parseEntry self ph (list c nil) y ≡ no noRule (y .left)
+  pub entry-empty : (c : Sets) → parseEntry self ph (list c nil) y ≡ no noRule noRivals (y .left)
   unfolding parseEntry
   entry-empty c = refl
 
   -- the head's form
-  head-named : (h : Stx) {n : ℕ} → nameFound ph (y .binds) h ≡ some (res.means n) → headForm ph h y ≡ ok (formOf n) y
-  unfolding headForm nameFound resolveAt nameOf
-  head-named (atom c (symbol x)) e = rw (some-is e) refl
+  head-named : (h : Stx) {n : ℕ} → nameFound ph (y .binds) h ≡ some (d.means n) → headForm ph h y ≡ ok (formOf n) y
+  unfolding headForm nameFound
+  head-named (atom c (symbol x)) e = rw (resolveAt-decided ph c x y, some-is e) refl
   head-named (atom c (number x)) e = let z : _≡_ {A = ℕ} 0 1 = cc in absurd (omega arith)
   head-named (atom c (point x)) e = let z : _≡_ {A = ℕ} 0 1 = cc in absurd (omega arith)
   head-named (atom c (prim x)) e = let z : _≡_ {A = ℕ} 0 1 = cc in absurd (omega arith)
   head-named (atom c (rung x)) e = let z : _≡_ {A = ℕ} 0 1 = cc in absurd (omega arith)
   head-named (list c l) e = let z : _≡_ {A = ℕ} 0 1 = cc in absurd (omega arith)
 
-  head-unclear : (h : Stx) → nameFound ph (y .binds) h ≡ some several → headForm ph h y ≡ no ambiguous (y .left)
-  unfolding headForm nameFound resolveAt nameOf
-  head-unclear (atom c (symbol x)) e = rw (some-is e) refl
+  head-unclear : (h : Stx) {p : Rivals} → nameFound ph (y .binds) h ≡ some (several p) → headForm ph h y ≡ no ambiguous p (y .left)
+  unfolding headForm nameFound
+  head-unclear (atom c (symbol x)) e = rw (resolveAt-decided ph c x y, some-is e) refl
   head-unclear (atom c (number x)) e = let z : _≡_ {A = ℕ} 0 1 = cc in absurd (omega arith)
   head-unclear (atom c (point x)) e = let z : _≡_ {A = ℕ} 0 1 = cc in absurd (omega arith)
   head-unclear (atom c (prim x)) e = let z : _≡_ {A = ℕ} 0 1 = cc in absurd (omega arith)
@@ -67,11 +69,11 @@ module _ (self : Stx → Step Tree) (ph : ℕ) (y : State) where
   head-unnamed (list c l) e = refl
 
   module _ (c : Sets) (h : Stx) (ps : Stxs) where
-    pub list-named : {n : ℕ} → nameFound ph (y .binds) h ≡ some (res.means n) → parseEntry self ph (list c (cons h ps)) y ≡ parseForm self ph (formOf n) h ps y
+    pub list-named : {n : ℕ} → nameFound ph (y .binds) h ≡ some (d.means n) → parseEntry self ph (list c (cons h ps)) y ≡ parseForm self ph (formOf n) h ps y
     unfolding parseEntry
     list-named e = then-ok _ (head-named h e)
 
-    pub list-unclear : nameFound ph (y .binds) h ≡ some several → parseEntry self ph (list c (cons h ps)) y ≡ no ambiguous (y .left)
+    pub list-unclear : {p : Rivals} → nameFound ph (y .binds) h ≡ some (several p) → parseEntry self ph (list c (cons h ps)) y ≡ no ambiguous p (y .left)
     unfolding parseEntry
     list-unclear e = then-no _ (head-unclear h e)
 
@@ -85,7 +87,7 @@ module _ (self : Stx → Step Tree) (ph : ℕ) (y : State) where
     unfolding parseForm lambdaRule functionRule
     form-lambda e = rw (sym e) refl
 
-    pub form-let-syntax : some p.letSyntax ≡ o → parseForm self ph o h ps y ≡ no noRule (y .left)
+    pub form-let-syntax : some p.letSyntax ≡ o → parseForm self ph o h ps y ≡ no noRule noRivals (y .left)
     unfolding parseForm
     form-let-syntax e = rw (sym e) refl
 
@@ -116,26 +118,26 @@ module _ (self : Stx → Step Tree) (h : Stx) (ps : Stxs) (y : State) where
       let a : ts ≡ tcons f r = cc in
       let b : s ≡ z = cc in
       (r, (a, ap (λ (s : State). ok (app f r) s) b))
-  parts-after f ts z (no c u) e = let w : _≡_ {A = ℕ} 0 1 = cc in absurd (omega arith)
+  parts-after f ts z (no c p u) e = let w : _≡_ {A = ℕ} 0 1 = cc in absurd (omega arith)
 
   head-after : (ts : Trees) (z : State) (o : Out Tree) → after o (λ t. λ s. after (parseAll self ps s) (λ r. λ s. ok (tcons t r) s)) ≡ ok ts z
       → (f : Tree) × ((r : Trees) × ((ts ≡ tcons f r) × (after o (λ t. λ s. after (parseAll self ps s) (λ r. λ s. ok (app t r) s)) ≡ ok (app f r) z)))
   head-after ts z (ok f s) e = (f, parts-after f ts z (parseAll self ps s) e)
-  head-after ts z (no c u) e = let w : _≡_ {A = ℕ} 0 1 = cc in absurd (omega arith)
+  head-after ts z (no c p u) e = let w : _≡_ {A = ℕ} 0 1 = cc in absurd (omega arith)
 
   pub application-is : {ts : Trees} {z : State} → parseAll self (cons h ps) y ≡ ok ts z → ApplicationIs self h ps y z ts
   unfolding parseAll applicationRule
   application-is {ts} {z} e = let d = head-after ts z (self h y) e in record { first = d .0; others = d .1 .0; is = d .1 .1 .0; rule = d .1 .1 .1 }
 
-  parts-no : (f : Tree) (c : Refusal) (u : ℕ) (o : Out Trees) → after o (λ r. λ s. ok (tcons f r) s) ≡ no c u → after o (λ r. λ s. ok (app f r) s) ≡ no c u
-  parts-no f c u (ok r s) e = let w : _≡_ {A = ℕ} 0 1 = cc in absurd (omega arith)
-  parts-no f c u (no d v) e = cc
+  parts-no : (f : Tree) (c : Refusal) (p : Rivals) (u : ℕ) (o : Out Trees) → after o (λ r. λ s. ok (tcons f r) s) ≡ no c p u → after o (λ r. λ s. ok (app f r) s) ≡ no c p u
+  parts-no f c p u (ok r s) e = let w : _≡_ {A = ℕ} 0 1 = cc in absurd (omega arith)
+  parts-no f c p u (no d q v) e = cc
 
-  head-no : (c : Refusal) (u : ℕ) (o : Out Tree) → after o (λ t. λ s. after (parseAll self ps s) (λ r. λ s. ok (tcons t r) s)) ≡ no c u
-      → after o (λ t. λ s. after (parseAll self ps s) (λ r. λ s. ok (app t r) s)) ≡ no c u
-  head-no c u (ok f s) e = parts-no f c u (parseAll self ps s) e
-  head-no c u (no d v) e = cc
+  head-no : (c : Refusal) (p : Rivals) (u : ℕ) (o : Out Tree) → after o (λ t. λ s. after (parseAll self ps s) (λ r. λ s. ok (tcons t r) s)) ≡ no c p u
+      → after o (λ t. λ s. after (parseAll self ps s) (λ r. λ s. ok (app t r) s)) ≡ no c p u
+  head-no c p u (ok f s) e = parts-no f c p u (parseAll self ps s) e
+  head-no c p u (no d q v) e = cc
 
-  pub application-no : {c : Refusal} {u : ℕ} → parseAll self (cons h ps) y ≡ no c u → applicationRule self h ps y ≡ no c u
+  pub application-no : {c : Refusal} {p : Rivals} {u : ℕ} → parseAll self (cons h ps) y ≡ no c p u → applicationRule self h ps y ≡ no c p u
   unfolding parseAll applicationRule
-  application-no {c} {u} e = head-no c u (self h y) e
+  application-no {c} {p} {u} e = head-no c p u (self h y) e

@@ -57,7 +57,7 @@ fn variable(table: &mut [u32], store: &[u64], s: State, i: u32, phase: u32) -> A
 {
     match forms::name_of(table, store, s.bindings, i, phase) {
         Naming::Unnamed => s.refuse(Refusal::NoRule),
-        Naming::Unclear => s.refuse(Refusal::Ambiguous),
+        Naming::Unclear(rivals) => s.ambiguous(rivals),
         Naming::Named(n) => {
             let m = things::make(
                 table,
@@ -83,7 +83,7 @@ fn list(table: &mut [u32], store: &[u64], s: State, c: u32, phase: u32, entries:
     }
     let x = table::get_cell(table, c);
     match forms::name_of(table, store, s.bindings, x.head, phase) {
-        Naming::Unclear => s.refuse(Refusal::Ambiguous),
+        Naming::Unclear(rivals) => s.ambiguous(rivals),
         Naming::Unnamed => application(table, store, s, c, phase, entries),
         Naming::Named(n) => form(table, store, s, n, c, x.tail, phase, entries),
     }
@@ -121,7 +121,7 @@ fn lambda(table: &mut [u32], store: &[u64], s: State, c: u32, phase: u32, entrie
         Two::Not => s.refuse(Refusal::NoRule),
         Two::Are(id, body) => match forms::name_of(table, store, s.bindings, id, phase) {
             Naming::Unnamed => s.refuse(Refusal::NoRule),
-            Naming::Unclear => s.refuse(Refusal::Ambiguous),
+            Naming::Unclear(rivals) => s.ambiguous(rivals),
             Naming::Named(n) => function(table, store, s, n, body, phase, entries),
         },
     }

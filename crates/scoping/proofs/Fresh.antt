@@ -14,6 +14,7 @@ use Rattle.model.specs.Scopes.{add}
 use Rattle.model.specs.Objects.{size, Sets, setAt, changeAt, Atom, symbol, number, point, prim, rung, tagOf, contentOf, Stx, atom, list, addScope, flipScope, onSets}
 use Rattle.model.specs.Trees.{stx}
 use Rattle.model.specs.Resolving.{Bind, insert}
+use Rattle.model.specs.Competing.{noRivals}
 use Rattle.model.specs.Steps as ms
 use Rattle.model.specs.Steps.{ok, no, after, charge, freshName, freshScope, bind}
 use Rattle.model.specs.Expanding as m
@@ -65,7 +66,7 @@ name-ok : (y : ms.State) → y .names < 1024 → freshName y ≡ ok (y .names) (
 unfolding freshName mostNames
 name-ok y h = rw (lt-ltb (y .names) 1024 h) refl
 
-name-no : (y : ms.State) → 1024 ≤ y .names → freshName y ≡ no ref.noNameLeft (y .left)
+name-no : (y : ms.State) → 1024 ≤ y .names → freshName y ≡ no ref.noNameLeft noRivals (y .left)
 unfolding freshName mostNames
 name-no y h = rw (le-ltb (y .names) 1024 h) refl
 
@@ -73,7 +74,7 @@ pub scope-ok : (y : ms.State) → y .scopes < 256 → freshScope y ≡ ok (y .sc
 unfolding freshScope mostScopes
 scope-ok y h = rw (lt-ltb (y .scopes) 256 h) refl
 
-pub scope-no : (y : ms.State) → 256 ≤ y .scopes → freshScope y ≡ no ref.noScopeLeft (y .left)
+pub scope-no : (y : ms.State) → 256 ≤ y .scopes → freshScope y ≡ no ref.noScopeLeft noRivals (y .left)
 unfolding freshScope mostScopes
 scope-no y h = rw (le-ltb (y .scopes) 256 h) refl
 

@@ -14,6 +14,8 @@ use Rattle.model.specs.Steps.{ok, no, after, Step, charge, unless}
 use Rattle.refusals.specs.Refusing.{refusalOf}
 use Rattle.refusals.specs.declared.Refusal.the-variants.{TooManyEntries, OverBudget}
 use Rattle.table.proofs.Laws.{same-refl, same-trans}
+use Rattle.model.specs.Competing.{Rivals, noRivals}
+use Rattle.store.specs.Rivalry.{rivalsOf}
 use Rattle.steps.specs.declared.State.{State}
 use Rattle.steps.specs.declared.Stop.{Stop}
 use Rattle.steps.specs.declared.Charged.{Charged}
@@ -77,7 +79,7 @@ pub charge-ok : (n : ℕ) (s : State) (b : Store) → n ≤ s .left → charge n
 unfolding charge
 charge-ok n s b h = rw (le-leb n (s .left) h) refl
 
-pub charge-no : (n : ℕ) (s : State) (b : Store) → s .left < n → charge n (stateOf s b) ≡ no r.overBudget (s .left)
+pub charge-no : (n : ℕ) (s : State) (b : Store) → s .left < n → charge n (stateOf s b) ≡ no r.overBudget noRivals (s .left)
 unfolding charge
 charge-no n s b h = rw (lt-leb n (s .left) h) refl
 
@@ -86,35 +88,35 @@ charge-no n s b h = rw (lt-leb n (s .left) h) refl
 pub then-ok : {A B : Type 0} {q : m.Out A} {v : A} {y : m.State} (f : A → Step B) → q ≡ ok v y → after q f ≡ f v y
 then-ok {A} f e = ap (λ (x : m.Out A). after x f) e
 
-pub then-no : {A B : Type 0} {q : m.Out A} {c : r.Refusal} {u : ℕ} (f : A → Step B) → q ≡ no c u → after q f ≡ no c u
+pub then-no : {A B : Type 0} {q : m.Out A} {c : r.Refusal} {p : Rivals} {u : ℕ} (f : A → Step B) → q ≡ no c p u → after q f ≡ no c p u
 then-no {A} f e = ap (λ (x : m.Out A). after x f) e
 
 -- steps one after the other may be put together in any way, and one that only hands on changes nothing
 pub after-after : {A B C : Type 0} (o : m.Out A) (f : A → Step B) (g : B → Step C) → after (after o f) g ≡ after o (λ a. λ s. after (f a s) g)
 after-after (ok a s) f g = refl
-after-after (no c u) f g = refl
+after-after (no c p u) f g = refl
 
 pub after-done : {A : Type 0} (o : m.Out A) → after o (λ a. λ s. ok a s) ≡ o
 after-done (ok a s) = refl
-after-done (no c u) = refl
+after-done (no c p u) = refl
 
 pub unless-ok : (c : r.Refusal) {t : Bool} (y : m.State) → t ≡ true → unless c t y ≡ ok tt y
 unless-ok c y e = ap (λ (t : Bool). unless c t y) e
 
-pub unless-no : (c : r.Refusal) {t : Bool} (y : m.State) → t ≡ false → unless c t y ≡ no c (y .left)
+pub unless-no : (c : r.Refusal) {t : Bool} (y : m.State) → t ≡ false → unless c t y ≡ no c noRivals (y .left)
 unless-no c y e = ap (λ (t : Bool). unless c t y) e
 
 -- ---- an entry: refused with none to spare, else the charge of 1 and then the rest. `whole` and `rest` are over the entries to spare.
 
 pub record Entry {A : Type 0} (whole rest : ℕ → Step A) : Type 0 where
-  pub none : (y : m.State) → whole 0 y ≡ no r.tooManyEntries (y .left)
+  pub none : (y : m.State) → whole 0 y ≡ no r.tooManyEntries noRivals (y .left)
   pub some : (d : ℕ) (y : m.State) → whole (suc d) y ≡ after (charge 1 y) (λ z. rest d)
 
 module _ {A : Type 0} {whole rest : ℕ → Step A} (w : Entry whole rest) (entries : ℕ) (s : State) (b : Store) where
-  pub entry-refused : {x : Charged} {f : Stop} → x ≡ enterOf entries s → x ≡ Refused f → whole entries (stateOf s b) ≡ no (refusalOf (f .refusal)) (f .left)
+  pub entry-refused : {x : Charged} {f : Stop} → x ≡ enterOf entries s → x ≡ Refused f → whole entries (stateOf s b) ≡ no (refusalOf (f .refusal)) (rivalsOf (f .rivals)) (f .left)
   entry-refused {x} {f} h e = refused-at entries h
     where
-      refused-at : (n : ℕ) → x ≡ enterOf n s → whole n (stateOf s b) ≡ no (refusalOf (f .refusal)) (f .left)
+      refused-at : (n : ℕ) → x ≡ enterOf n s → whole n (stateOf s b) ≡ no (refusalOf (f .refusal)) (rivalsOf (f .rivals)) (f .left)
       refused-at zero k = let z : f ≡ stopOf TooManyEntries s = cc (enter-none s) in rw z (w .none (stateOf s b))
       refused-at (suc d) k =
           let q = charge-failed 1 s (k ∙ enter-some d s) e in
@@ -165,7 +167,7 @@ module _ {A O : Type 0} {S : Shape A O} {n v : ℕ} {l l1 : List ℕ} {s : State
   on-done {o = o} (gives p g) e = let z : p ≡ o = cc in rw z at g
   on-done (stops p g) e = let z : _≡_ {A = ℕ} 0 1 = cc in absurd (omega arith)
 
-  pub on-refused : {x : Ended O} {f : Stop} → Agrees S n v l l1 s b q x → x ≡ refused f → q ≡ no (refusalOf (f .refusal)) (f .left)
+  pub on-refused : {x : Ended O} {f : Stop} → Agrees S n v l l1 s b q x → x ≡ refused f → q ≡ no (refusalOf (f .refusal)) (rivalsOf (f .rivals)) (f .left)
   on-refused (gives p g) e = let z : _≡_ {A = ℕ} 0 1 = cc in absurd (omega arith)
   on-refused {f = f} (stops p g) e = let z : p ≡ f = cc in rw z at g
 

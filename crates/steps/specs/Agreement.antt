@@ -5,6 +5,7 @@ use Prim.Native.Nat.{ℕ, _+_, _≤_}
 use Rattle.model.specs.Steps as m
 use Rattle.model.specs.Steps.{ok, no}
 use Rattle.refusals.specs.Refusing.{refusalOf}
+use Rattle.store.specs.Rivalry.{rivalsOf}
 use Rattle.table.specs.Words.{Same}
 use Rattle.steps.specs.declared.State.{State}
 use Rattle.steps.specs.declared.Stop.{Stop}
@@ -54,4 +55,4 @@ pub record Gave {A O : Type 0} (S : Shape A O) (n spare : ℕ) (l l′ : List �
 
 pub data Agrees {A O : Type 0} (S : Shape A O) (n spare : ℕ) (l l′ : List ℕ) (s : State) (b : Store) (q : m.Out A) : Ended O → Type 0 where
   gives : (o : O) → Gave S n spare l l′ s b q o → Agrees S n spare l l′ s b q (done o)
-  stops : (f : Stop) → q ≡ no (refusalOf (f .refusal)) (f .left) → Agrees S n spare l l′ s b q (refused f)
+  stops : (f : Stop) → q ≡ no (refusalOf (f .refusal)) (rivalsOf (f .rivals)) (f .left) → Agrees S n spare l l′ s b q (refused f)

@@ -7,11 +7,12 @@ use Rattle.model.specs.Choice.{if_then_else_}
 use Rattle.model.specs.Resolving.{Bind}
 use Rattle.model.specs.Steps as m
 use Rattle.refusals.specs.declared.Refusal.{Refusal}
-use Rattle.refusals.specs.declared.Refusal.the-variants.{TooManyEntries, OverBudget}
+use Rattle.refusals.specs.declared.Refusal.the-variants.{Ambiguous, TooManyEntries, OverBudget}
 use Rattle.steps.specs.declared.State.{State}
 use Rattle.steps.specs.declared.Stop.{Stop}
 use Rattle.steps.specs.declared.Charged.{Charged}
 use Rattle.steps.specs.declared.Charged.the-variants.{Paid, Refused}
+use Rattle.store.specs.declared.rivals.Rivals.{Rivals}
 use Rattle.store.specs.Sizes.{mostBindings, storeSize}
 use Rattle.store.specs.Words.{bindsOf}
 use Rattle.table.specs.Sizes.{tableSize, unitSize}
@@ -40,8 +41,16 @@ pub record Held (st : List ℕ) (s : State) : Type 0 where
 abbrev pub stateOf : State → Store → m.State
 stateOf s b = record { left = s .left; names = s .names; scopes = s .scopes; binds = b .bindings (s .bindings) }
 
+-- no bindings compete
+abbrev pub quiet : Rivals
+quiet = record { first = 0; second = 0 }
+
 abbrev pub stopOf : Refusal → State → Stop
-stopOf r s = record { refusal = r; left = s .left }
+stopOf r s = record { refusal = r; rivals = quiet; left = s .left }
+
+-- code 6, and those that compete
+abbrev pub ambiguousOf : Rivals → State → Stop
+ambiguousOf p s = record { refusal = Ambiguous; rivals = p; left = s .left }
 
 abbrev pub paid : ℕ → State → State
 paid n s = record { top = s .top; left = s .left - n; names = s .names; scopes = s .scopes; bindings = s .bindings }

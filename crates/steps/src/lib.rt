@@ -2,8 +2,9 @@
 // starts.
 use numbers::Cursor;
 use refusals::Refusal;
+use store::rivals::Rivals;
 ghost use mathlib.Core.Path.{_≡_};
-ghost use Rattle.steps.specs.States.{stopOf, raisedTo, chargeOf, enterOf};
+ghost use Rattle.steps.specs.States.{stopOf, ambiguousOf, raisedTo, chargeOf, enterOf};
 
 pub struct State {
     // The first free word of the table.
@@ -18,9 +19,10 @@ pub struct State {
     pub bindings: u32,
 }
 
-// A refusal, and the units not charged.
+// A refusal, the bindings that compete where it is code 6, and the units not charged.
 pub struct Stop {
     pub refusal: Refusal,
+    pub rivals: Rivals,
     pub left: u32,
 }
 
@@ -60,8 +62,13 @@ impl State {
     pub fn stop(self, refusal: Refusal) -> Stop
         ensures { λ r. ⌜ r ≡ stopOf refusal self ⌝ }
     {
+        let rivals = Rivals {
+            first: 0,
+            second: 0,
+        };
         Stop {
             refusal,
+            rivals,
             left: self.left,
         }
     }
@@ -70,6 +77,17 @@ impl State {
         ensures { λ r. ⌜ r ≡ Answer.Refused (stopOf refusal self) ⌝ }
     {
         Answer::Refused(self.stop(refusal))
+    }
+
+    // Code 6, with those that compete.
+    pub fn ambiguous(self, rivals: Rivals) -> Answer
+        ensures { λ r. ⌜ r ≡ Answer.Refused (ambiguousOf rivals self) ⌝ }
+    {
+        Answer::Refused(Stop {
+            refusal: Refusal::Ambiguous,
+            rivals,
+            left: self.left,
+        })
     }
 
     pub fn charge(self, n: u32) -> Charged

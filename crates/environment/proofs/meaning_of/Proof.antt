@@ -6,11 +6,11 @@ use Rattle.environment.proofs.meaning_of.Tie as tie
 name-of-requires : tie.Need-name-of-requires
 name-of-requires c κs = search (laws, needs)
 
+enum-known-rivals : tie.Need-enum-known-rivals
+enum-known-rivals c = search (laws, needs)
+
 enum-told : tie.Need-enum-told
 enum-told c = search (laws, needs)
-
-enum-told-2 : tie.Need-enum-told-2
-enum-told-2 c = search (laws, needs)
 
 enum-known-n : tie.Need-enum-known-n
 enum-known-n c = search (laws, needs)
@@ -32,8 +32,8 @@ meaning-of-spec =
     tie.close
     (tie.spec
     name-of-requires
+    enum-known-rivals
     enum-told
-    enum-told-2
     enum-known-n
     lookup-requires
     returns

@@ -22,7 +22,8 @@ returns : tie.Need-returns
 returns c = search (finish-syntax-laws, needs)
 
 put-syntax-image-requires : tie.Need-put-syntax-image-requires
-put-syntax-image-requires c κs = (search (finish-syntax-laws, needs), search (finish-syntax-laws, needs))
+put-syntax-image-requires c κs =
+    let came = c .before .before .before .before .before .before .before .before .before .before .before .before .pre .0 in (search (finish-syntax-laws, needs), search (finish-syntax-laws, needs))
 
 same-length : tie.Need-same-length
 same-length c = search (finish-syntax-laws, needs)

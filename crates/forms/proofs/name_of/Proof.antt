@@ -21,8 +21,8 @@ resolve-requires c κs = search (laws, needs)
 enum-known-name : tie.Need-enum-known-name
 enum-known-name c = search (laws, needs)
 
-enum-told : tie.Need-enum-told
-enum-told c = search (laws, needs)
+enum-known-rivals : tie.Need-enum-known-rivals
+enum-known-rivals c = search (laws, needs)
 
 returns-2 : tie.Need-returns-2
 returns-2 c = search (laws, needs)
@@ -40,6 +40,6 @@ name-of-spec =
     set-at-requires
     resolve-requires
     enum-known-name
-    enum-told
+    enum-known-rivals
     returns-2
     returns-3)

@@ -12,11 +12,11 @@ enum-told c = search (laws, needs)
 refuse-requires : tie.Need-refuse-requires
 refuse-requires c κs = search (laws, needs)
 
-enum-told-2 : tie.Need-enum-told-2
-enum-told-2 c = search (laws, needs)
+enum-known-rivals : tie.Need-enum-known-rivals
+enum-known-rivals c = search (laws, needs)
 
-refuse-requires-2 : tie.Need-refuse-requires-2
-refuse-requires-2 c κs = search (laws, needs)
+ambiguous-requires : tie.Need-ambiguous-requires
+ambiguous-requires c κs = search (laws, needs)
 
 enum-known-n : tie.Need-enum-known-n
 enum-known-n c = search (laws, needs)
@@ -52,8 +52,8 @@ variable-spec =
     name-of-requires
     enum-told
     refuse-requires
-    enum-told-2
-    refuse-requires-2
+    enum-known-rivals
+    ambiguous-requires
     enum-known-n
     make-requires
     raised-requires

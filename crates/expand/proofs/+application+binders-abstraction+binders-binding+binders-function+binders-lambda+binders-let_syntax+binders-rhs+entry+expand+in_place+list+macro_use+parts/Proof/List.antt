@@ -2,6 +2,7 @@ use borrow.Author.Needs.{needs}
 use Prim.Native.Nat.{ℕ}
 use Rattle.expand.proofs.Entering.{laws, list-macro-ready, list-macro-held}
 use Rattle.expand.proofs.application.Reads as application
+use Rattle.steps.proofs.State.ambiguous.Reads as ambiguous-reads
 use Rattle.steps.proofs.State.refuse.Reads as refuse-reads
 use Rattle.table.proofs.get_cell.Reads as get-cell-reads
 use Rattle.expand.proofs.binders.lambda.Reads as lambda
@@ -16,7 +17,7 @@ use Rattle.expand.proofs.+application+binders-abstraction+binders-bindi
 
 module _ (t : ℕ) where
   abbrev env : lts.Claims
-  env = (refuse-reads.Asked, refuse-reads.Learnt, get-cell-reads.Asked, get-cell-reads.Learnt, meaning-of-reads.Asked, meaning-of-reads.Learnt, lambda-below t, lambda.Post, let-syntax-below t, let-syntax.Post, quote-reads.Asked, quote-reads.Learnt, syntax-form-reads.Asked, syntax-form-reads.Learnt, application-below t, application.Post, macro-use-below t, macro-use.Post)
+  env = (refuse-reads.Asked, refuse-reads.Learnt, get-cell-reads.Asked, get-cell-reads.Learnt, meaning-of-reads.Asked, meaning-of-reads.Learnt, lambda-below t, lambda.Post, let-syntax-below t, let-syntax.Post, quote-reads.Asked, quote-reads.Learnt, syntax-form-reads.Asked, syntax-form-reads.Learnt, application-below t, application.Post, macro-use-below t, macro-use.Post, ambiguous-reads.Asked, ambiguous-reads.Learnt)
 
   refuse-requires : lts.Need-refuse-requires env (list-at t) list.Post
   refuse-requires c κs = search (laws, needs)
@@ -77,11 +78,11 @@ module _ (t : ℕ) where
   application-requires-2 : lts.Need-application-requires-2 env (list-at t) list.Post
   application-requires-2 c κs = search (laws, needs)
 
-  enum-told-7 : lts.Need-enum-told-7 env (list-at t) list.Post
-  enum-told-7 c = search (laws, needs)
+  enum-known-rivals : lts.Need-enum-known-rivals env (list-at t) list.Post
+  enum-known-rivals c = search (laws, needs)
 
-  refuse-requires-2 : lts.Need-refuse-requires-2 env (list-at t) list.Post
-  refuse-requires-2 c κs = search (laws, needs)
+  ambiguous-requires : lts.Need-ambiguous-requires env (list-at t) list.Post
+  ambiguous-requires c κs = search (laws, needs)
 
   same-length : lts.Need-same-length env (list-at t) list.Post
   same-length c = search (laws, needs)
@@ -175,8 +176,8 @@ module _ (t : ℕ) where
       macro-use-requires
       enum-told-6
       application-requires-2
-      enum-told-7
-      refuse-requires-2
+      enum-known-rivals
+      ambiguous-requires
       same-length
       same-length-2
       returns-2

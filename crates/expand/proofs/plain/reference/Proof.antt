@@ -15,6 +15,12 @@ enum-told c = search (laws, needs)
 refuse-requires : tie.Need-refuse-requires
 refuse-requires c κs = search (laws, needs)
 
+enum-known-rivals : tie.Need-enum-known-rivals
+enum-known-rivals c = search (laws, needs)
+
+ambiguous-requires : tie.Need-ambiguous-requires
+ambiguous-requires c κs = search (laws, needs)
+
 enum-told-2 : tie.Need-enum-told-2
 enum-told-2 c = search (laws, needs)
 
@@ -44,12 +50,6 @@ enum-told-6 c = search (laws, needs)
 
 refuse-requires-6 : tie.Need-refuse-requires-6
 refuse-requires-6 c κs = search (laws, needs)
-
-enum-told-7 : tie.Need-enum-told-7
-enum-told-7 c = search (laws, needs)
-
-refuse-requires-7 : tie.Need-refuse-requires-7
-refuse-requires-7 c κs = search (laws, needs)
 
 returns : tie.Need-returns
 returns c = search (laws, needs)
@@ -83,6 +83,8 @@ reference-spec =
     enum-known-v
     enum-told
     refuse-requires
+    enum-known-rivals
+    ambiguous-requires
     enum-told-2
     refuse-requires-2
     enum-told-3
@@ -93,8 +95,6 @@ reference-spec =
     refuse-requires-5
     enum-told-6
     refuse-requires-6
-    enum-told-7
-    refuse-requires-7
     returns
     returns-2
     returns-3

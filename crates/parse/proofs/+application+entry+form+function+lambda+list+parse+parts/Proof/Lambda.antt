@@ -1,17 +1,18 @@
 use borrow.Author.Needs.{needs}
 use Prim.Native.Nat.{ℕ}
 use Rattle.parse.proofs.Laws.{laws}
+use Rattle.steps.proofs.State.ambiguous.Reads as ambiguous-reads
 use Rattle.parse.proofs.function.Reads as function
 use Rattle.parse.proofs.lambda.Reads as lambda
 use Rattle.forms.proofs.name_of.Reads as name-of-reads
-use Rattle.forms.proofs.two_parts.Reads as two-parts-reads
 use Rattle.steps.proofs.State.refuse.Reads as refuse-reads
+use Rattle.forms.proofs.two_parts.Reads as two-parts-reads
 use Rattle.parse.proofs.+application+entry+form+function+lambda+list+parse+parts.Lts-lambda as lts
 use Rattle.parse.proofs.+application+entry+form+function+lambda+list+parse+parts.Proof.Measures.{lambda-at, function-below}
 
 module _ (t : ℕ) where
   abbrev env : lts.Claims
-  env = (two-parts-reads.Asked, two-parts-reads.Learnt, refuse-reads.Asked, refuse-reads.Learnt, name-of-reads.Asked, name-of-reads.Learnt, function-below t, function.Post)
+  env = (two-parts-reads.Asked, two-parts-reads.Learnt, refuse-reads.Asked, refuse-reads.Learnt, name-of-reads.Asked, name-of-reads.Learnt, ambiguous-reads.Asked, ambiguous-reads.Learnt, function-below t, function.Post)
 
   two-parts-requires : lts.Need-two-parts-requires env (lambda-at t) lambda.Post
   two-parts-requires c κs = search (laws, needs)
@@ -34,11 +35,11 @@ module _ (t : ℕ) where
   refuse-requires-2 : lts.Need-refuse-requires-2 env (lambda-at t) lambda.Post
   refuse-requires-2 c κs = search (laws, needs)
 
-  enum-told-3 : lts.Need-enum-told-3 env (lambda-at t) lambda.Post
-  enum-told-3 c = search (laws, needs)
+  enum-known-rivals : lts.Need-enum-known-rivals env (lambda-at t) lambda.Post
+  enum-known-rivals c = search (laws, needs)
 
-  refuse-requires-3 : lts.Need-refuse-requires-3 env (lambda-at t) lambda.Post
-  refuse-requires-3 c κs = search (laws, needs)
+  ambiguous-requires : lts.Need-ambiguous-requires env (lambda-at t) lambda.Post
+  ambiguous-requires c κs = search (laws, needs)
 
   enum-known-n : lts.Need-enum-known-n env (lambda-at t) lambda.Post
   enum-known-n c = search (laws, needs)
@@ -79,8 +80,8 @@ module _ (t : ℕ) where
       name-of-requires
       enum-told-2
       refuse-requires-2
-      enum-told-3
-      refuse-requires-3
+      enum-known-rivals
+      ambiguous-requires
       enum-known-n
       function-requires
       same-length

@@ -1,6 +1,7 @@
 use borrow.Author.Needs.{needs}
 use Prim.Native.Nat.{ℕ}
 use Rattle.parse.proofs.Laws.{laws}
+use Rattle.steps.proofs.State.ambiguous.Reads as ambiguous-reads
 use Rattle.parse.proofs.application.Reads as application
 use Rattle.parse.proofs.form.Reads as form
 use Rattle.table.proofs.get_cell.Reads as get-cell-reads
@@ -12,7 +13,7 @@ use Rattle.parse.proofs.+application+entry+form+function+lambda+list+pa
 
 module _ (t : ℕ) where
   abbrev env : lts.Claims
-  env = (refuse-reads.Asked, refuse-reads.Learnt, get-cell-reads.Asked, get-cell-reads.Learnt, name-of-reads.Asked, name-of-reads.Learnt, application-below t, application.Post, form-below t, form.Post)
+  env = (refuse-reads.Asked, refuse-reads.Learnt, get-cell-reads.Asked, get-cell-reads.Learnt, name-of-reads.Asked, name-of-reads.Learnt, ambiguous-reads.Asked, ambiguous-reads.Learnt, application-below t, application.Post, form-below t, form.Post)
 
   refuse-requires : lts.Need-refuse-requires env (list-at t) list.Post
   refuse-requires c κs = search (laws, needs)
@@ -26,14 +27,14 @@ module _ (t : ℕ) where
   name-of-requires : lts.Need-name-of-requires env (list-at t) list.Post
   name-of-requires c κs = search (laws, needs)
 
+  enum-known-rivals : lts.Need-enum-known-rivals env (list-at t) list.Post
+  enum-known-rivals c = search (laws, needs)
+
+  ambiguous-requires : lts.Need-ambiguous-requires env (list-at t) list.Post
+  ambiguous-requires c κs = search (laws, needs)
+
   enum-told : lts.Need-enum-told env (list-at t) list.Post
   enum-told c = search (laws, needs)
-
-  refuse-requires-2 : lts.Need-refuse-requires-2 env (list-at t) list.Post
-  refuse-requires-2 c κs = search (laws, needs)
-
-  enum-told-2 : lts.Need-enum-told-2 env (list-at t) list.Post
-  enum-told-2 c = search (laws, needs)
 
   application-requires : lts.Need-application-requires env (list-at t) list.Post
   application-requires c κs = search (laws, needs)
@@ -68,9 +69,9 @@ module _ (t : ℕ) where
       returns
       get-cell-requires
       name-of-requires
+      enum-known-rivals
+      ambiguous-requires
       enum-told
-      refuse-requires-2
-      enum-told-2
       application-requires
       enum-known-n
       form-requires
