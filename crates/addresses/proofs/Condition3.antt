@@ -13,6 +13,7 @@ use Rattle.model.specs.Refusals.{Refusal, overBudget, unowned}
 use Rattle.model.specs.Objects.{Stx, size}
 use Rattle.model.specs.Trees.{Tree, loadSize}
 use Rattle.model.specs.Resolving.{Bind}
+use Rattle.model.specs.Competing.{Rivals, noRivals}
 use Rattle.model.specs.Reading.{got, symbols, Image, readSyntax, readTreeImage, readImage}
 use Rattle.model.specs.Writing.{syntaxBytes, treeImageBytes}
 use Rattle.model.specs.Steps.{State, ok, no, after}
@@ -85,7 +86,7 @@ expand-wrote image budget room =
     W : Ending → Type 0
     W = Wrote (Ran image budget)
 
-    no : (r : Refusal) (u : ℕ) → Wrote (Ran image budget) (refused r u)
+    no : (r : Refusal) (p : Rivals) (u : ℕ) → Wrote (Ran image budget) (refused r p u)
     no = nothing-wrote (Ran image budget)
 
 -- ---- the parse job on what was written, and the evaluate job on what that writes
@@ -132,9 +133,10 @@ module _ (image : List ℕ) (is-bytes : Bytes image) (budget : ℕ) (b : List �
 
   -- the cost is the charge
   cost-is : x .cost ≡ entryCharge 0 (run .s .binds) (run .r)
+  unfolding result
   cost-is =
       cost-is-charge (x .tree) (x .cost) (entryCharge 0 (run .s .binds) (run .r)) st (x .parses mostEntries (le-refl mostEntries) st same)
-      (parse-spends mostEntries 0 (run .s .binds) (run .r) st refl) refl
+      (parse-spends mostEntries 0 (run .s .binds) (run .r) st (record { are = refl; ascending = result-fits .ascending })) refl
     where
       st : State
       st = record { left = x .cost; names = run .s .names; scopes = run .s .scopes; binds = run .s .binds }
@@ -176,7 +178,7 @@ module _ (image : List ℕ) (is-bytes : Bytes image) (budget : ℕ) (b : List �
       back : (a c : ℕ) → c ≤ a → a - (a - c) ≡ c
       back a c p = omega arith
 
-  parse-short : (n room : ℕ) → n < parseCharge (result .binds) (result .root) → (u : ℕ) × (parseWork n room result ≡ refused overBudget u)
+  parse-short : (n room : ℕ) → n < parseCharge (result .binds) (result .root) → (u : ℕ) × (parseWork n room result ≡ refused overBudget noRivals u)
   unfolding result start
   parse-short n room h =
       let e = costs-short (parse-costs (start n result) refl) h in
@@ -196,7 +198,7 @@ module _ (image : List ℕ) (is-bytes : Bytes image) (budget : ℕ) (b : List �
   parses-no-less n table output f h =
       let e = parse-short n (length output) h in
       ap (λ (z : Result). z .answer .code) (parseJob-is b n table output ∙ ap (lent n table output) (parse-ending n (length output) ∙ e .1))
-      ∙ lent-code n table output overBudget (e .0) f
+      ∙ lent-code n table output overBudget noRivals (e .0) f
 
   -- ---- evaluate
 
@@ -238,7 +240,7 @@ module _ (image : List ℕ) (is-bytes : Bytes image) (budget : ℕ) (b : List �
           since k (run .s .names) (run .s .scopes) s₀ t kp (evaluate-good k (run .s .names) (run .s .scopes) mostEntries tree tree-good t)))
 
       go : (t : Bool) → t ≡ true
-          → Fine (if t then worked n (evaluateRoot tree s₀) (λ r s. fitted room (treeImageBytes (reached (result .head) s) r) (n - s .left)) else refused unowned 0)
+          → Fine (if t then worked n (evaluateRoot tree s₀) (λ r s. fitted room (treeImageBytes (reached (result .head) s) r) (n - s .left)) else refused unowned noRivals 0)
       go true e = worked-fine n _ (λ r s. fitted-fine room (treeImageBytes (reached (result .head) s) r) (n - s .left)) work
       go false e = absurd (false≢true e)
 

@@ -6,6 +6,7 @@ use mathlib.Core.Bool.{Bool, true, false}
 use lib.Dec.{leb}
 use Rattle.model.specs.Choice.{if_then_else_}
 use Rattle.model.specs.Refusals.{overBudget}
+use Rattle.model.specs.Competing.{noRivals}
 use Rattle.model.specs.Steps.{State, Out, ok, no, Step, after, charge}
 use borrow.Author.Tests.{leb-true, leb-false}
 use Rattle.laws.proofs.StepLaws.{spend}
@@ -28,7 +29,7 @@ nothing-spent s = ap (λ (z : ℕ). record { left = z; names = s .names; scopes 
 -- a for u units, from the state s
 pub data Costs (A : Type 0) (a : A) (u : ℕ) (s : State) : Out A → Type 0 where
   paid : u ≤ s .left → Costs A a u s (ok a (spend u s))
-  short : (v : ℕ) → s .left < u → Costs A a u s (no overBudget v)
+  short : (v : ℕ) → s .left < u → Costs A a u s (no overBudget noRivals v)
 
 pub free : {A : Type 0} (a : A) (s : State) → Costs A a 0 s (ok a s)
 free {A} a s = subst (λ (z : State). Costs A a 0 s (ok a z)) (nothing-spent s) (paid zero-le)
@@ -37,7 +38,7 @@ pub charge-costs : (n : ℕ) (s : State) → Costs (Unit {0}) tt n s (charge n s
 unfolding charge spend
 charge-costs n s = go (leb n (s .left)) refl
   where
-    go : (b : Bool) → leb n (s .left) ≡ b → Costs (Unit {0}) tt n s (if b then ok tt (spend n s) else no overBudget (s .left))
+    go : (b : Bool) → leb n (s .left) ≡ b → Costs (Unit {0}) tt n s (if b then ok tt (spend n s) else no overBudget noRivals (s .left))
     go true e = paid (leb-true n (s .left) e)
     go false e = short (s .left) (leb-false n (s .left) e)
 
@@ -75,7 +76,7 @@ costs-enough {u = u} {s = s} (short v h) q = absurd (clash u (s .left) h q)
     clash : (a b : ℕ) → b < a → a ≤ b → ⊥
     clash a b p q = omega arith
 
-pub costs-short : {A : Type 0} {a : A} {u : ℕ} {s : State} {o : Out A} → Costs A a u s o → s .left < u → (v : ℕ) × (o ≡ no overBudget v)
+pub costs-short : {A : Type 0} {a : A} {u : ℕ} {s : State} {o : Out A} → Costs A a u s o → s .left < u → (v : ℕ) × (o ≡ no overBudget noRivals v)
 costs-short {u = u} {s = s} (paid h) q = absurd (clash u (s .left) h q)
   where
     clash : (a b : ℕ) → a ≤ b → b < a → ⊥

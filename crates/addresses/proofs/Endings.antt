@@ -11,6 +11,7 @@ use Rattle.model.specs.Limits.{mostImage, mostEntries, lastPhase}
 use Rattle.model.specs.Refusals.{Refusal, layout, overLimit, unowned, wrongKind, smallTable, ambiguous, noMeaning, noRule, noSyntax, notApplicable, wrongArgument, noPhase, noNameLeft, noScopeLeft, noBindingLeft, tooDeep, tooManyEntries, overBudget, tooLong, codeOf}
 use Rattle.model.specs.Objects.{Stx, size}
 use Rattle.model.specs.Trees.{Tree, loadSize}
+use Rattle.model.specs.Competing.{Rivals, noRivals}
 use Rattle.model.specs.Reading.{Read, got, fault, Image, readSyntax, readTreeImage, readImage}
 use Rattle.model.specs.Writing.{syntaxBytes, treeImageBytes}
 use Rattle.model.specs.Steps.{State, Out, ok, no, after, charge}
@@ -52,7 +53,7 @@ abbrev pub evaluateWork : ℕ → ℕ → Image Tree → Ending
 evaluateWork budget room i =
     if closed [] (i .root)
     then worked budget (evaluateRoot (i .root) (start budget i)) (λ r s. fitted room (treeImageBytes (reached (i .head) s) r) (budget - s .left))
-    else refused unowned 0
+    else refused unowned noRivals 0
 
 pub resolveEnding-is : (image : List ℕ) (ph budget : ℕ) → resolveEnding image ph budget ≡ atPhase ph (withImage (readImage readSyntax image) (resolveWork ph budget))
 unfolding resolveEnding
@@ -99,7 +100,7 @@ pub worked-ok : {A : Type 0} (budget : ℕ) (o : Out A) (f : A → State → End
 unfolding worked
 worked-ok budget o f a s e = rw e
 
-pub worked-no : {A : Type 0} (budget : ℕ) (o : Out A) (f : A → State → Ending) (r : Refusal) (u : ℕ) → o ≡ no r u → worked budget o f ≡ refused r (budget - u)
+pub worked-no : {A : Type 0} (budget : ℕ) (o : Out A) (f : A → State → Ending) (r : Refusal) {p : Rivals} (u : ℕ) → o ≡ no r p u → worked budget o f ≡ refused r p (budget - u)
 unfolding worked
 worked-no budget o f r u e = rw e
 
@@ -112,7 +113,7 @@ abbrev pub after-ending : ℕ → List ℕ → List ℕ → Ending → Result
 after-ending budget table output e = record { answer = answerOf e; output = outputAfter e output; table = cleared budget table }
 
 abbrev pub untouched : List ℕ → List ℕ → Result
-untouched table output = record { answer = answerOf (refused smallTable 0); output = output; table = table }
+untouched table output = record { answer = answerOf (refused smallTable noRivals 0); output = output; table = table }
 
 pub lent-cases : (P : Result → Type 0) (budget : ℕ) (table output : List ℕ) (e : Ending)
     → P (after-ending budget table output e) → P (untouched table output) → P (lent budget table output e)
@@ -126,7 +127,7 @@ lent-cases P budget table output e p q = go (budgetFits budget (length table))
 -- what is written lies within the output
 length-within : (output : List ℕ) (e : Ending) → (answerOf e) .len ≤ length (outputAfter e output)
 unfolding answerOf outputAfter
-length-within output (refused r u) = zero-le
+length-within output (refused r p u) = zero-le
 length-within output (named n u) = zero-le
 length-within output (written b u) = simp length-append (omega arith)
 
@@ -134,39 +135,39 @@ pub lent-within : (budget : ℕ) (table output : List ℕ) (e : Ending) → (len
 unfolding answerOf
 lent-within budget table output e = lent-cases (λ (z : Result). z .answer .len ≤ length (z .output)) budget table output e (length-within output e) zero-le
 
-pub lent-code : (budget : ℕ) (table output : List ℕ) (r : Refusal) (u : ℕ) → budgetFits budget (length table) ≡ true
-    → (lent budget table output (refused r u)) .answer .code ≡ codeOf r
+pub lent-code : (budget : ℕ) (table output : List ℕ) (r : Refusal) (p : Rivals) (u : ℕ) → budgetFits budget (length table) ≡ true
+    → (lent budget table output (refused r p u)) .answer .code ≡ codeOf r
 unfolding lent answerOf
-lent-code budget table output r u e = rw e
+lent-code budget table output r p u e = rw e
 
 -- ---- what holds of every refusal, and of what is written where something is
 
-module _ (P : Ending → Type 0) (by-refusal : (r : Refusal) (u : ℕ) → P (refused r u)) where
+module _ (P : Ending → Type 0) (by-refusal : (r : Refusal) (p : Rivals) (u : ℕ) → P (refused r p u)) where
   pub fitted-case : (room : ℕ) (b : List ℕ) (u : ℕ) → (length b ≤ mostImage → P (written b u)) → P (fitted room b u)
   unfolding fitted
   fitted-case room b u h = go (leb (length b) room && leb (length b) mostImage) refl
     where
-      go : (t : Bool) → (leb (length b) room && leb (length b) mostImage) ≡ t → P (if t then written b u else refused tooLong u)
+      go : (t : Bool) → (leb (length b) room && leb (length b) mostImage) ≡ t → P (if t then written b u else refused tooLong noRivals u)
       go true e = h (leb-true (length b) mostImage (and-both (leb (length b) room) (leb (length b) mostImage) e .1))
-      go false e = by-refusal tooLong u
+      go false e = by-refusal tooLong noRivals u
 
   pub worked-case : {A : Type 0} (budget : ℕ) (o : Out A) (f : A → State → Ending) → ((a : A) (s : State) → o ≡ ok a s → P (f a s)) → P (worked budget o f)
   unfolding worked
   worked-case budget (ok a s) f h = h a s refl
-  worked-case budget (no r u) f h = by-refusal r (budget - u)
+  worked-case budget (no r p u) f h = by-refusal r p (budget - u)
 
   pub image-case : {R : Type 0} (o : Read (Image R)) (f : Image R → Ending) → ((i : Image R) (rest : List ℕ) → o ≡ got i rest → P (f i)) → P (withImage o f)
   unfolding withImage
   image-case (got i rest) f h = h i rest refl
-  image-case (fault r) f h = by-refusal r 0
+  image-case (fault r) f h = by-refusal r noRivals 0
 
   pub phase-case : (ph : ℕ) (e : Ending) → P e → P (atPhase ph e)
   unfolding atPhase
   phase-case ph e h = go (leb ph lastPhase)
     where
-      go : (t : Bool) → P (if t then e else refused noPhase 0)
+      go : (t : Bool) → P (if t then e else refused noPhase noRivals 0)
       go true = h
-      go false = by-refusal noPhase 0
+      go false = by-refusal noPhase noRivals 0
 
 -- ---- code 0
 
@@ -194,13 +195,13 @@ code-some tooLong e = omega arith
 
 -- a job that answers 0 ended with a name or with an image that was written
 abbrev pub Ended : Ending → Type 0
-Ended (refused r u) = ⊥
+Ended (refused r p u) = ⊥
 Ended (named n u) = Unit {0}
 Ended (written b u) = Unit {0}
 
 ended-code : (e : Ending) → (answerOf e) .code ≡ 0 → Ended e
 unfolding answerOf
-ended-code (refused r u) q = code-some r q
+ended-code (refused r p u) q = code-some r q
 ended-code (named n u) q = tt
 ended-code (written b u) q = tt
 
@@ -220,12 +221,12 @@ take-whole (n ∷ b) l = ap (λ (z : List ℕ). n ∷ z) (take-whole b l)
 -- ---- what holds of the image that a job has written
 
 abbrev pub Wrote : (List ℕ → Type 0) → Ending → Type 0
-Wrote Q (refused r u) = Unit {0}
+Wrote Q (refused r p u) = Unit {0}
 Wrote Q (named n u) = ⊥
 Wrote Q (written b u) = Q b
 
-pub nothing-wrote : (Q : List ℕ → Type 0) (r : Refusal) (u : ℕ) → Wrote Q (refused r u)
-nothing-wrote Q r u = tt
+pub nothing-wrote : (Q : List ℕ → Type 0) (r : Refusal) (p : Rivals) (u : ℕ) → Wrote Q (refused r p u)
+nothing-wrote Q r p u = tt
 
 pub job-wrote : (Q : List ℕ → Type 0) (budget : ℕ) (table output : List ℕ) (e : Ending) → Wrote Q e → (lent budget table output e) .answer .code ≡ 0
     → Q (imageWritten (lent budget table output e))
@@ -235,6 +236,6 @@ job-wrote Q budget table output e w q =
     subst (λ (z : Result). Q (imageWritten z)) (sym (p .1)) (go e (p .0) w)
   where
     go : (e : Ending) → Ended e → Wrote Q e → Q (imageWritten (after-ending budget table output e))
-    go (refused r u) d w = absurd d
+    go (refused r p u) d w = absurd d
     go (named n u) d w = absurd w
     go (written b u) d w = subst Q (sym (take-whole b (drop (length b) output))) w

@@ -12,6 +12,7 @@ use Rattle.model.specs.Limits.{mostNesting}
 use Rattle.model.specs.Refusals.{notApplicable, wrongArgument, tooManyEntries}
 use Rattle.model.specs.Objects.{symbol, number, point, prim, rung, Sets, Stx, atom, list, Stxs, nil, cons, sameAtom}
 use Rattle.model.specs.Trees.{Tree, var, app, fun, datum, lst, stx, Trees, tnil, tcons, tcount, tsize, tnesting, tnestings, substitute, substituteAll, asStx, asAtom, asList, asNumber, fromStxs, toStxs}
+use Rattle.model.specs.Competing.{noRivals}
 use Rattle.model.specs.Steps.{State, Out, Step, after, charge, madeTree}
 use Rattle.model.specs.Evaluating.{Primitive, stxE, mkStx, first, rest, link, same, pick, primitiveOf, content, setsOf, remade, firstOf, restOf, picked, primitive, applicable, eachTree, argument, orWrongKind, applyPrimitive, apply, evalEntry, evaluate}
 use Rattle.model.specs.Jobs.{isAmong, closed, closedAll}
@@ -277,18 +278,18 @@ module _ (k n m : ℕ) where
 
   wrong-good : (o : Option Tree) → ((w : Tree) → o ≡ some w → Made w) → (s : State) → Outcome Tree (Gave s) (orWrongKind o s)
   unfolding orWrongKind
-  wrong-good none h s = stops wrongArgument (s .left) tt
+  wrong-good none h s = stops wrongArgument noRivals (s .left) refl
   wrong-good (some w) h s = checked (madeTree-out w s)
     where
       checked : {o : Out Tree} → Outcome Tree (λ y t. (w ≡ y) × (s ≡ t) × (tnesting w ≤ mostNesting)) o → Outcome Tree (Gave s) o
       checked (gives y t p) =
           gives y t (subst ValueGood (p .0) (made-good w (h w refl) (p .2)), kept-same (p .1))
-      checked (stops r u p) = stops r u p
+      checked (stops r q u p) = stops r q u p
 
   -- what came before is kept too
   pub since : (s u : State) → Kept s u → {o : Out Tree} → Outcome Tree (Gave u) o → Outcome Tree (Gave s) o
   since s u kp (gives v z p) = gives v z (p .0, kept-trans kp (p .1))
-  since s u kp (stops r z p) = stops r z p
+  since s u kp (stops r q z p) = stops r q z p
 
   function-good : (self : Tree → Step Tree) → EvalGood self → (x : ℕ) (b v : Tree) → TreeGood (fun x b) → ValueGood v → (s : State)
       → Outcome Tree (Gave s) (after (charge (tsize b) s) (λ a. λ u. after (madeTree (substitute x v b) u) (λ t. self t)))
@@ -306,7 +307,7 @@ module _ (k n m : ℕ) where
 
   primitive-good : (o : Option Primitive) (l : Trees) → ValuesGood l → (s : State) → Outcome Tree (Gave s) (applyPrimitive o l s)
   unfolding applyPrimitive
-  primitive-good none l i s = stops notApplicable (s .left) tt
+  primitive-good none l i s = stops notApplicable noRivals (s .left) refl
   primitive-good (some p) l i s =
       chain _ (charge-out 1 s) (λ a u kp. since s u kp
       (wrong-good (primitive p (argument l 0) (argument l 1) (argument l 2))
@@ -315,23 +316,23 @@ module _ (k n m : ℕ) where
   apply-good : (self : Tree → Step Tree) → EvalGood self → (f : Tree) → ValueGood f → (l : Trees) → ValuesGood l → (s : State)
       → Outcome Tree (Gave s) (apply self f l s)
   unfolding apply
-  apply-good self h (var x) g l i s = stops notApplicable (s .left) tt
-  apply-good self h (app f p) g l i s = stops notApplicable (s .left) tt
+  apply-good self h (var x) g l i s = stops notApplicable noRivals (s .left) refl
+  apply-good self h (app f p) g l i s = stops notApplicable noRivals (s .left) refl
   apply-good self h (fun x b) g l i s = function-good self h x b (argument l 0) (g .0) (argument-good l 0 i) s
-  apply-good self h (datum (symbol x)) g l i s = stops notApplicable (s .left) tt
-  apply-good self h (datum (number x)) g l i s = stops notApplicable (s .left) tt
-  apply-good self h (datum (point x)) g l i s = stops notApplicable (s .left) tt
+  apply-good self h (datum (symbol x)) g l i s = stops notApplicable noRivals (s .left) refl
+  apply-good self h (datum (number x)) g l i s = stops notApplicable noRivals (s .left) refl
+  apply-good self h (datum (point x)) g l i s = stops notApplicable noRivals (s .left) refl
   apply-good self h (datum (prim p)) g l i s = primitive-good (primitiveOf p) l i s
-  apply-good self h (datum (rung x)) g l i s = stops notApplicable (s .left) tt
-  apply-good self h (lst p) g l i s = stops notApplicable (s .left) tt
-  apply-good self h (stx x) g l i s = stops notApplicable (s .left) tt
+  apply-good self h (datum (rung x)) g l i s = stops notApplicable noRivals (s .left) refl
+  apply-good self h (lst p) g l i s = stops notApplicable noRivals (s .left) refl
+  apply-good self h (stx x) g l i s = stops notApplicable noRivals (s .left) refl
 
   -- an application, whose nesting need not be within the limit
   application-good : (self : Tree → Step Tree) → EvalGood self → (f : Tree) (l : Trees) → TreeGood f → TreesGood l → (s : State)
       → Outcome Tree (Gave s) (evalEntry self (app f l) s)
   unfolding evalEntry
   application-good self h f l g i s =
-      chain _ (h f g s) (λ v u a. chain _ (unless-out notApplicable tt (applicable v (tcount l)) u) (λ b w c.
+      chain _ (h f g s) (λ v u a. chain _ (unless-out notApplicable refl (applicable v (tcount l)) u) (λ b w c.
       chain _ (each-good self h l i w) (λ vs z d. since s z (kept-trans (a .1) (kept-trans (kept-same (c .1)) (d .1)))
       (apply-good self h v (a .0) vs (d .0) z))))
 
@@ -346,12 +347,12 @@ module _ (k n m : ℕ) where
 
   pub evaluate-good : (d : ℕ) → EvalGood (evaluate d)
   unfolding evaluate
-  evaluate-good zero t g s = stops tooManyEntries (s .left) tt
+  evaluate-good zero t g s = stops tooManyEntries noRivals (s .left) refl
   evaluate-good (suc d) t g s = chain _ (charge-out 1 s) (λ a u kp. since s u kp (entry-good (λ v. evaluate d v) (evaluate-good d) t g u))
 
   -- a value applied to a value, as a macro use does
   pub application-of : (d : ℕ) (f : Tree) (l : Trees) → TreeGood f → TreesGood l → (s : State) → Outcome Tree (Gave s) (evaluate d (app f l) s)
   unfolding evaluate
-  application-of zero f l g i s = stops tooManyEntries (s .left) tt
+  application-of zero f l g i s = stops tooManyEntries noRivals (s .left) refl
   application-of (suc d) f l g i s =
       chain _ (charge-out 1 s) (λ a u kp. since s u kp (application-good (λ v. evaluate d v) (evaluate-good d) f l g i u))

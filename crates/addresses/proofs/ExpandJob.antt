@@ -12,6 +12,7 @@ use Rattle.model.specs.Choice.{if_then_else_}
 use Rattle.model.specs.Limits.{coreNames, mostEntries, mostImage, lastPhase}
 use Rattle.model.specs.Refusals.{Refusal, layout, overLimit, unowned, wrongKind, smallTable, ambiguous, noMeaning, noRule, noSyntax, notApplicable, wrongArgument, noPhase, noNameLeft, noScopeLeft, noBindingLeft, tooDeep, tooManyEntries, overBudget, tooLong, codeOf}
 use Rattle.model.specs.Objects.{Stx, size}
+use Rattle.model.specs.Competing.{Rivals, noRivals}
 use Rattle.model.specs.Reading.{Read, got, symbols, Image, readSyntax, readImage}
 use Rattle.model.specs.Writing.{syntaxBytes}
 use Rattle.model.specs.Steps.{State, Out, ok}
@@ -97,7 +98,7 @@ expand-keeps-limits ph budget i r s f e n =
 -- ---- no job of expansion ends with 3
 
 abbrev pub Fine : Ending → Type 0
-Fine (refused r u) = Possible r
+Fine (refused r p u) = Possible r p
 Fine (named n u) = Unit {0}
 Fine (written b u) = Unit {0}
 
@@ -105,23 +106,23 @@ pub worked-fine : {A : Type 0} {P : A → State → Type 0} (budget : ℕ) (f : 
     → Fine (worked budget o f)
 unfolding worked
 worked-fine budget f h (gives a s p) = h a s
-worked-fine budget f h (stops r u p) = p
+worked-fine budget f h (stops r q u p) = p
 
 pub fitted-fine : (room : ℕ) (b : List ℕ) (u : ℕ) → Fine (fitted room b u)
 unfolding fitted
 fitted-fine room b u = go (leb (length b) room && leb (length b) mostImage)
   where
-    go : (t : Bool) → Fine (if t then written b u else refused tooLong u)
+    go : (t : Bool) → Fine (if t then written b u else refused tooLong noRivals u)
     go true = tt
-    go false = tt
+    go false = refl
 
 phase-fine : (ph : ℕ) (e : Ending) → Fine e → Fine (atPhase ph e)
 unfolding atPhase
 phase-fine ph e h = go (leb ph lastPhase)
   where
-    go : (t : Bool) → Fine (if t then e else refused noPhase 0)
+    go : (t : Bool) → Fine (if t then e else refused noPhase noRivals 0)
     go true = h
-    go false = tt
+    go false = refl
 
 -- where each image that is read ends well
 image-fine : (o : Read (Image Stx)) → Reads (Image Stx) o → (f : Image Stx → Ending) → ((i : Image Stx) (rest : List ℕ) → o ≡ got i rest → Fine (f i))
@@ -130,7 +131,7 @@ unfolding withImage
 image-fine o (reads i rest) f h = h i rest refl
 image-fine o (faults r p) f h = p
 
-expand-fine : (image : List ℕ) → Bytes image → (ph budget room : ℕ) → Fine (expandEnding image ph budget room)
+pub expand-fine : (image : List ℕ) → Bytes image → (ph budget room : ℕ) → Fine (expandEnding image ph budget room)
 expand-fine image b ph budget room =
     subst Fine (sym (expandEnding-is image ph budget room))
     (phase-fine ph (withImage (readImage readSyntax image) (expandWork ph budget room))
@@ -138,30 +139,30 @@ expand-fine image b ph budget room =
     worked-fine budget _ (λ r s. fitted-fine room (syntaxBytes (reached (i .head) s) (s .binds) r) (budget - s .left))
     (expand-root-good ph budget i (syntax-read-keeps-limits image rest i b e)))))
 
-possible-code : (r : Refusal) → Possible r → codeOf r ≡ 3 → ⊥
-possible-code layout p e = omega arith
-possible-code overLimit p e = omega arith
-possible-code unowned p e = absurd p
-possible-code wrongKind p e = omega arith
-possible-code smallTable p e = omega arith
-possible-code ambiguous p e = omega arith
-possible-code noMeaning p e = omega arith
-possible-code noRule p e = omega arith
-possible-code noSyntax p e = omega arith
-possible-code notApplicable p e = omega arith
-possible-code wrongArgument p e = omega arith
-possible-code noPhase p e = omega arith
-possible-code noNameLeft p e = omega arith
-possible-code noScopeLeft p e = omega arith
-possible-code noBindingLeft p e = omega arith
-possible-code tooDeep p e = omega arith
-possible-code tooManyEntries p e = omega arith
-possible-code overBudget p e = omega arith
-possible-code tooLong p e = omega arith
+possible-code : (r : Refusal) (q : Rivals) → Possible r q → codeOf r ≡ 3 → ⊥
+possible-code layout q p e = omega arith
+possible-code overLimit q p e = omega arith
+possible-code unowned q p e = absurd p
+possible-code wrongKind q p e = omega arith
+possible-code smallTable q p e = omega arith
+possible-code ambiguous q p e = omega arith
+possible-code noMeaning q p e = omega arith
+possible-code noRule q p e = omega arith
+possible-code noSyntax q p e = omega arith
+possible-code notApplicable q p e = omega arith
+possible-code wrongArgument q p e = omega arith
+possible-code noPhase q p e = omega arith
+possible-code noNameLeft q p e = omega arith
+possible-code noScopeLeft q p e = omega arith
+possible-code noBindingLeft q p e = omega arith
+possible-code tooDeep q p e = omega arith
+possible-code tooManyEntries q p e = omega arith
+possible-code overBudget q p e = omega arith
+possible-code tooLong q p e = omega arith
 
 fine-code : (e : Ending) → Fine e → (answerOf e) .code ≡ 3 → ⊥
 unfolding answerOf
-fine-code (refused r u) p e = possible-code r p e
+fine-code (refused r q u) p e = possible-code r q p e
 fine-code (named n u) p e = omega arith
 fine-code (written b u) p e = omega arith
 
@@ -169,7 +170,7 @@ pub lent-fine : (budget : ℕ) (table output : List ℕ) (e : Ending) → Fine e
     → (lent budget table output e) .answer .code ≡ 3 → ⊥
 lent-fine budget table output e p =
     lent-cases (λ (z : Result). z .answer .code ≡ 3 → ⊥) budget table output e
-    (fine-code e p) (fine-code (refused smallTable 0) tt)
+    (fine-code e p) (fine-code (refused smallTable noRivals 0) refl)
 
 -- evaluating inside expand never meets a free variable
 pub expand-never-3 : (image : List ℕ) → Bytes image → (ph budget : ℕ) (table output : List ℕ) → (expandJob image ph budget table output) .answer .code ≡ 3 → ⊥

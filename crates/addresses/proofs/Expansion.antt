@@ -10,6 +10,7 @@ use Rattle.model.specs.Refusals.{noMeaning, noRule, noSyntax, noPhase, tooManyE
 use Rattle.model.specs.Scopes.{Scopes}
 use Rattle.model.specs.Objects.{Atom, symbol, number, point, prim, rung, Sets, Stx, atom, list, Stxs, nil, cons, nesting, nestings, addScope, flipScope, pruneScopes}
 use Rattle.model.specs.Trees.{Tree, stx, tnil, tcons, tnesting, asStx}
+use Rattle.model.specs.Competing.{noRivals}
 use Rattle.model.specs.Steps.{State, Out, ok, parts1}
 use Rattle.model.specs.Parsing.{lambda, letSyntax, quote, syntax, headForm}
 use Rattle.model.specs.Expanding.{Meaning, core, variable, macro, unknown, coreOnly, extend, meaning, expandName, Surroundings, ofRightHandSide, ofBody, ofResult, Expander, expandAll, expandApplication, expandFunction, expandLambda, expandSyntax, expandBinding, expandLetSyntax, orNoSyntax, expandMacro, expandForm, expandEntry, expand}
@@ -31,16 +32,16 @@ use Rattle.addresses.proofs.Results.{Expanded, expanded-after, expanded
 -- what holds of a step's result says something else
 pub weaken : {A : Type 0} {P Q : A → State → Type 0} {o : Out A} → Outcome A P o → ((a : A) (t : State) → P a t → Q a t) → Outcome A Q o
 weaken (gives a t p) h = gives a t (h a t p)
-weaken (stops r u p) h = stops r u p
+weaken (stops r q u p) h = stops r q u p
 
 -- a step of known cost gives the one thing, or is refused by 19
 costs-out : {A : Type 0} {a : A} {u : ℕ} {s : State} {o : Out A} → Costs A a u s o → Outcome A (λ x t. (a ≡ x) × Kept s t) o
 costs-out {a = a} {u = u} {s = s} (paid h) = gives a (spend u s) (refl, kept-spend u s)
-costs-out (short v h) = stops overBudget v tt
+costs-out (short v h) = stops overBudget noRivals v refl
 
 syntax-out : (o : Option Stx) (s : State) → Outcome Stx (λ x t. (o ≡ some x) × (s ≡ t)) (orNoSyntax o s)
 unfolding orNoSyntax
-syntax-out none s = stops noSyntax (s .left) tt
+syntax-out none s = stops noSyntax noRivals (s .left) refl
 syntax-out (some x) s = gives x s (refl, refl)
 
 up : (n : ℕ) → n ≤ suc n
@@ -208,7 +209,7 @@ module _ (k : ℕ) where
       → Outcome Stx (ExpandedIn (suc d) here s) (expandBinding self d here ci x rhs body s)
   unfolding expandBinding vars
   binding-out d self rec here ci x rhs body s g v ic hx ir ib =
-      chain _ (bindFresh-out k (here .phase) ci x s g hx ic) (λ b t bd. chain _ (unless-out noPhase tt (leb (here .phase + 1) lastPhase) t) (λ n t₂ un.
+      chain _ (bindFresh-out k (here .phase) ci x s g hx ic) (λ b t bd. chain _ (unless-out noPhase refl (leb (here .phase + 1) lastPhase) t) (λ n t₂ un.
       let g₂ : Grows k s t₂ = subst (λ (z : State). Grows k s z) (un .1) (bd .grows) in
       chain _ (rec (ofRightHandSide here) rhs t₂ (g₂ .keeps g) tt (piece-grows s t₂ rhs g₂ ir)) (λ r t₃ rh.
       chain _ (costs-out (rh .parses d (le-refl d) t₃ same)) (λ tr t₄ pa.
@@ -327,17 +328,17 @@ module _ (k : ℕ) where
   name-out : (d : ℕ) (here : Surroundings) (n : ℕ) (m : Meaning) (s : State) → StateFits k s → MeanWell here s → meaning n (here .meanings) ≡ m
       → Outcome Stx (ExpandedIn (suc d) here s) (expandName m s)
   unfolding expandName
-  name-out d here n (core f) s g v a = stops noRule (s .left) tt
+  name-out d here n (core f) s g v a = stops noRule noRivals (s .left) refl
   name-out d here n (variable c x) s g v a =
       let q = meaning-variable k (here .phase) s n (here .meanings) v c x a in
       gives (atom c (symbol x)) s (variable-expanded k d (here .phase) n (here .meanings) c x s g (q .0) (q .1))
-  name-out d here n (macro w) s g v a = stops noRule (s .left) tt
-  name-out d here n unknown s g v a = stops noMeaning (s .left) tt
+  name-out d here n (macro w) s g v a = stops noRule noRivals (s .left) refl
+  name-out d here n unknown s g v a = stops noMeaning noRivals (s .left) refl
 
   entry-out : (d : ℕ) (self : Expander) → ExpandGood d self → ExpandGood (suc d) (λ here x. expandEntry self d here x)
   unfolding expandEntry headForm atom-tag
   entry-out d self rec here (atom c (symbol x)) s g v i =
-      chain _ (resolveAt-out (here .phase) c x s) (λ n t q. subst (λ (z : State). Outcome Stx (ExpandedIn (suc d) here s) (expandName (meaning n (here .meanings)) z)) (q .1)
+      chain _ (resolveAt-out (here .phase) c x s (g .ascending)) (λ n t q. subst (λ (z : State). Outcome Stx (ExpandedIn (suc d) here s) (expandName (meaning n (here .meanings)) z)) (q .1)
       (name-out d here n (meaning n (here .meanings)) s g v refl))
   entry-out d self rec here (atom c (number x)) s g v i =
       gives (atom c (number x)) s (atom-expanded k d (here .phase) (here .meanings) c (number x) s (i .fits) (no-symbol (number x) refl) (λ st. refl))
@@ -347,16 +348,16 @@ module _ (k : ℕ) where
       gives (atom c (prim x)) s (atom-expanded k d (here .phase) (here .meanings) c (prim x) s (i .fits) (no-symbol (prim x) refl) (λ st. refl))
   entry-out d self rec here (atom c (rung x)) s g v i =
       gives (atom c (rung x)) s (atom-expanded k d (here .phase) (here .meanings) c (rung x) s (i .fits) (no-symbol (rung x) refl) (λ st. refl))
-  entry-out d self rec here (list c nil) s g v i = stops noRule (s .left) tt
+  entry-out d self rec here (list c nil) s g v i = stops noRule noRivals (s .left) refl
   entry-out d self rec here (list c (cons h l)) s g v i =
-      chain _ (head-out k (here .phase) (here .meanings) h s v (i .fits .1 .0)) (λ m t q. subst (λ (z : State). Outcome Stx (ExpandedIn (suc d) here s) (expandForm self d here c h l m z)) (q .1)
+      chain _ (head-out k (here .phase) (here .meanings) h s (g .ascending) v (i .fits .1 .0)) (λ m t q. subst (λ (z : State). Outcome Stx (ExpandedIn (suc d) here s) (expandForm self d here c h l m z)) (q .1)
       (form-out d self rec here c h l m s g v i (q .0)))
 
   -- ---- the theorem
 
   pub expand-good : (d : ℕ) → ExpandGood d (expand d)
   unfolding expand
-  expand-good zero here x s g v i = stops tooManyEntries (s .left) tt
+  expand-good zero here x s g v i = stops tooManyEntries noRivals (s .left) refl
   expand-good (suc d) here x s g v i =
       chain _ (charge-out 1 s) (λ a t kp. let w : Grows k s t = kept-grows k s t kp in
       weaken (entry-out d (λ there y. expand d there y) (expand-good d) here x t (w .keeps g) (env-grows k (here .phase) s t w (here .meanings) v) (piece-grows s t x w i)) (λ r s′ b.

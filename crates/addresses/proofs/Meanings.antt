@@ -15,7 +15,7 @@ use Rattle.model.specs.Steps.{State, ok, resolveAt}
 use Rattle.model.specs.Parsing.{Form, formOf, headForm}
 use Rattle.model.specs.Expanding.{Meaning, core, variable, macro, unknown, Env, coreOnly, extend, coreMeaning, meaning, headMeaning}
 use Rattle.model.specs.Jobs.{isAmong}
-use Rattle.laws.specs.Ordered.{SetsIn}
+use Rattle.laws.specs.Ordered.{SetsIn, Sorted}
 use borrow.Author.Tests.{eqb-true}
 use Rattle.laws.proofs.ResolveRule.{In}
 use Rattle.laws.proofs.Stable.{Later, resolve-later, later-in, keys-later, resolve-own}
@@ -196,13 +196,13 @@ module _ (k : ℕ) where
   head-good ph c x n e s g i q (macro v) p = meaning-macro ph s n e g v p
   head-good ph c x n e s g i q unknown p = tt
 
-  pub head-out : (ph : ℕ) (e : Env) (h : Stx) (s : State) → EnvGood ph s e → StxFits k (s .scopes) h
+  pub head-out : (ph : ℕ) (e : Env) (h : Stx) (s : State) → Sorted (s .binds) → EnvGood ph s e → StxFits k (s .scopes) h
       → Outcome Meaning (λ m t. HeadGood ph h s m × (s ≡ t)) (headMeaning ph e h s)
   unfolding headMeaning
-  head-out ph e (atom c (symbol x)) s g i =
-      chain _ (resolveAt-out ph c x s) (λ n t q. gives (meaning n e) t (head-good ph c x n e s g (i .0) (q .0) (meaning n e) refl, q .1))
-  head-out ph e (atom c (number x)) s g i = gives unknown s (tt, refl)
-  head-out ph e (atom c (point x)) s g i = gives unknown s (tt, refl)
-  head-out ph e (atom c (prim x)) s g i = gives unknown s (tt, refl)
-  head-out ph e (atom c (rung x)) s g i = gives unknown s (tt, refl)
-  head-out ph e (list c l) s g i = gives unknown s (tt, refl)
+  head-out ph e (atom c (symbol x)) s o g i =
+      chain _ (resolveAt-out ph c x s o) (λ n t q. gives (meaning n e) t (head-good ph c x n e s g (i .0) (q .0) (meaning n e) refl, q .1))
+  head-out ph e (atom c (number x)) s o g i = gives unknown s (tt, refl)
+  head-out ph e (atom c (point x)) s o g i = gives unknown s (tt, refl)
+  head-out ph e (atom c (prim x)) s o g i = gives unknown s (tt, refl)
+  head-out ph e (atom c (rung x)) s o g i = gives unknown s (tt, refl)
+  head-out ph e (list c l) s o g i = gives unknown s (tt, refl)

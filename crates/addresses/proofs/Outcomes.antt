@@ -11,41 +11,44 @@ use Rattle.model.specs.Scopes.{Scopes}
 use Rattle.model.specs.Objects.{symbol, number, point, prim, rung, Sets, setAt, Stx, atom, list, Stxs, nil, cons, size, nesting, addScope, flipScope, pruneScopes}
 use Rattle.model.specs.Trees.{Tree, tnesting}
 use Rattle.model.specs.Resolving.{Found, means, several, resolve}
+use Rattle.model.specs.Competing.{Rivals, noRivals, rivals}
 use Rattle.model.specs.Steps.{State, Out, ok, no, Step, after, unless, charge, made, madeTree, addTo, flipIn, pruneFrom, nameOf, resolveAt, parts1, parts2, parts3, identifier}
 use borrow.Author.Tests.{leb-true}
+use Rattle.laws.specs.Ordered.{Sorted}
+use Rattle.laws.specs.Rivalry.{Told}
 use Rattle.laws.proofs.StepLaws.{spend}
 
--- all but 3
-abbrev pub Possible : Refusal → Type 0
-Possible layout = Unit {0}
-Possible overLimit = Unit {0}
-Possible unowned = ⊥
-Possible wrongKind = Unit {0}
-Possible smallTable = Unit {0}
-Possible ambiguous = Unit {0}
-Possible noMeaning = Unit {0}
-Possible noRule = Unit {0}
-Possible noSyntax = Unit {0}
-Possible notApplicable = Unit {0}
-Possible wrongArgument = Unit {0}
-Possible noPhase = Unit {0}
-Possible noNameLeft = Unit {0}
-Possible noScopeLeft = Unit {0}
-Possible noBindingLeft = Unit {0}
-Possible tooDeep = Unit {0}
-Possible tooManyEntries = Unit {0}
-Possible overBudget = Unit {0}
-Possible tooLong = Unit {0}
+-- all but 3; with 6 come two that compete, and with no other refusal
+abbrev pub Possible : Refusal → Rivals → Type 0
+Possible layout p = p ≡ noRivals
+Possible overLimit p = p ≡ noRivals
+Possible unowned p = ⊥
+Possible wrongKind p = p ≡ noRivals
+Possible smallTable p = p ≡ noRivals
+Possible ambiguous p = Told p
+Possible noMeaning p = p ≡ noRivals
+Possible noRule p = p ≡ noRivals
+Possible noSyntax p = p ≡ noRivals
+Possible notApplicable p = p ≡ noRivals
+Possible wrongArgument p = p ≡ noRivals
+Possible noPhase p = p ≡ noRivals
+Possible noNameLeft p = p ≡ noRivals
+Possible noScopeLeft p = p ≡ noRivals
+Possible noBindingLeft p = p ≡ noRivals
+Possible tooDeep p = p ≡ noRivals
+Possible tooManyEntries p = p ≡ noRivals
+Possible overBudget p = p ≡ noRivals
+Possible tooLong p = p ≡ noRivals
 
 -- P of what is given and the state after it
 pub data Outcome (A : Type 0) (P : A → State → Type 0) : Out A → Type 0 where
   gives : (a : A) (t : State) → P a t → Outcome A P (ok a t)
-  stops : (r : Refusal) (u : ℕ) → Possible r → Outcome A P (no r u)
+  stops : (r : Refusal) (q : Rivals) (u : ℕ) → Possible r q → Outcome A P (no r q u)
 
 pub chain : {A B : Type 0} {P : A → State → Type 0} {Q : B → State → Type 0} {o : Out A} (f : A → Step B) → Outcome A P o
     → ((a : A) (t : State) → P a t → Outcome B Q (f a t)) → Outcome B Q (after o f)
 chain f (gives a t p) h = h a t p
-chain f (stops r u p) h = stops r u p
+chain f (stops r q u p) h = stops r q u p
 
 -- ---- counts and bindings are kept, units are only charged
 
@@ -79,13 +82,13 @@ pub charge-out : (n : ℕ) (s : State) → Outcome (Unit {0}) (λ v t. Kept s t)
 unfolding charge spend
 charge-out n s = go (leb n (s .left))
   where
-    go : (b : Bool) → Outcome (Unit {0}) (λ v t. Kept s t) (if b then ok tt (spend n s) else no overBudget (s .left))
+    go : (b : Bool) → Outcome (Unit {0}) (λ v t. Kept s t) (if b then ok tt (spend n s) else no overBudget noRivals (s .left))
     go true = gives tt (spend n s) (kept-spend n s)
-    go false = stops overBudget (s .left) tt
+    go false = stops overBudget noRivals (s .left) refl
 
-pub unless-out : (r : Refusal) → Possible r → (b : Bool) (s : State) → Outcome (Unit {0}) (λ v t. (b ≡ true) × (s ≡ t)) (unless r b s)
+pub unless-out : (r : Refusal) → Possible r noRivals → (b : Bool) (s : State) → Outcome (Unit {0}) (λ v t. (b ≡ true) × (s ≡ t)) (unless r b s)
 unless-out r p true s = gives tt s (refl, refl)
-unless-out r p false s = stops r (s .left) p
+unless-out r p false s = stops r noRivals (s .left) p
 
 -- something made, of nesting n, and tested
 tested : {A : Type 0} (x : A) (n : ℕ) (s : State)
@@ -94,7 +97,7 @@ tested {A} x n s = go (leb n mostNesting) refl
   where
     go : (b : Bool) → leb n mostNesting ≡ b → Outcome A (λ y t. (x ≡ y) × (s ≡ t) × (n ≤ mostNesting)) (after (unless tooDeep b s) (λ v. λ t. ok x t))
     go true e = gives x s (refl, refl, leb-true n mostNesting e)
-    go false e = stops tooDeep (s .left) tt
+    go false e = stops tooDeep noRivals (s .left) refl
 
 pub made-out : (x : Stx) (s : State) → Outcome Stx (λ y t. (x ≡ y) × (s ≡ t) × (nesting x ≤ mostNesting)) (made x s)
 unfolding made
@@ -120,48 +123,50 @@ pub pruneFrom-out : (p : Scopes) (ph : ℕ) (x : Stx) (s : State) → Outcome St
 unfolding pruneFrom
 pruneFrom-out p ph x s = changed (size x) (pruneScopes p ph x) s
 
-pub resolveAt-out : (ph : ℕ) (c : Sets) (x : ℕ) (s : State)
+pub resolveAt-out : (ph : ℕ) (c : Sets) (x : ℕ) (s : State) → Sorted (s .binds)
     → Outcome ℕ (λ n t. (resolve x (setAt ph c) (s .binds) ≡ means n) × (s ≡ t)) (resolveAt ph c x s)
 unfolding resolveAt nameOf
-resolveAt-out ph c x s = go (resolve x (setAt ph c) (s .binds)) refl
+resolveAt-out ph c x s o = go (resolve x (setAt ph c) (s .binds)) refl
   where
     go : (f : Found) → resolve x (setAt ph c) (s .binds) ≡ f
-        → Outcome ℕ (λ n t. (resolve x (setAt ph c) (s .binds) ≡ means n) × (s ≡ t)) (nameOf f s)
+        → Outcome ℕ (λ n t. (resolve x (setAt ph c) (s .binds) ≡ means n) × (s ≡ t)) (nameOf (rivals x (setAt ph c) (s .binds)) f s)
     go (means n) e = gives n s (e, refl)
-    go several e = stops ambiguous (s .left) tt
+    go several e =
+        stops ambiguous (rivals x (setAt ph c) (s .binds)) (s .left)
+        (record { symb = x; set = setAt ph c; store = s .binds; ascending = o; unclear = e; is = refl })
 
 -- ---- shapes
 
 pub parts1-out : {A : Type 0} {P : A → State → Type 0} (l : Stxs) (f : Stx → Step A) (s : State)
     → ((a : Stx) → l ≡ cons a nil → Outcome A P (f a s)) → Outcome A P (parts1 l f s)
 unfolding parts1
-parts1-out nil f s h = stops noRule (s .left) tt
+parts1-out nil f s h = stops noRule noRivals (s .left) refl
 parts1-out (cons a nil) f s h = h a refl
-parts1-out (cons a (cons b l)) f s h = stops noRule (s .left) tt
+parts1-out (cons a (cons b l)) f s h = stops noRule noRivals (s .left) refl
 
 pub parts2-out : {A : Type 0} {P : A → State → Type 0} (l : Stxs) (f : Stx → Stx → Step A) (s : State)
     → ((a b : Stx) → l ≡ cons a (cons b nil) → Outcome A P (f a b s)) → Outcome A P (parts2 l f s)
 unfolding parts2
-parts2-out nil f s h = stops noRule (s .left) tt
-parts2-out (cons a nil) f s h = stops noRule (s .left) tt
+parts2-out nil f s h = stops noRule noRivals (s .left) refl
+parts2-out (cons a nil) f s h = stops noRule noRivals (s .left) refl
 parts2-out (cons a (cons b nil)) f s h = h a b refl
-parts2-out (cons a (cons b (cons c l))) f s h = stops noRule (s .left) tt
+parts2-out (cons a (cons b (cons c l))) f s h = stops noRule noRivals (s .left) refl
 
 pub parts3-out : {A : Type 0} {P : A → State → Type 0} (l : Stxs) (f : Stx → Stx → Stx → Step A) (s : State)
     → ((a b c : Stx) → l ≡ cons a (cons b (cons c nil)) → Outcome A P (f a b c s)) → Outcome A P (parts3 l f s)
 unfolding parts3
-parts3-out nil f s h = stops noRule (s .left) tt
-parts3-out (cons a nil) f s h = stops noRule (s .left) tt
-parts3-out (cons a (cons b nil)) f s h = stops noRule (s .left) tt
+parts3-out nil f s h = stops noRule noRivals (s .left) refl
+parts3-out (cons a nil) f s h = stops noRule noRivals (s .left) refl
+parts3-out (cons a (cons b nil)) f s h = stops noRule noRivals (s .left) refl
 parts3-out (cons a (cons b (cons c nil))) f s h = h a b c refl
-parts3-out (cons a (cons b (cons c (cons d l)))) f s h = stops noRule (s .left) tt
+parts3-out (cons a (cons b (cons c (cons d l)))) f s h = stops noRule noRivals (s .left) refl
 
 pub identifier-out : {A : Type 0} {P : A → State → Type 0} (x : Stx) (f : Sets → ℕ → Step A) (s : State)
     → ((c : Sets) (n : ℕ) → x ≡ atom c (symbol n) → Outcome A P (f c n s)) → Outcome A P (identifier x f s)
 unfolding identifier
 identifier-out (atom c (symbol n)) f s h = h c n refl
-identifier-out (atom c (number n)) f s h = stops noRule (s .left) tt
-identifier-out (atom c (point n)) f s h = stops noRule (s .left) tt
-identifier-out (atom c (prim n)) f s h = stops noRule (s .left) tt
-identifier-out (atom c (rung n)) f s h = stops noRule (s .left) tt
-identifier-out (list c l) f s h = stops noRule (s .left) tt
+identifier-out (atom c (number n)) f s h = stops noRule noRivals (s .left) refl
+identifier-out (atom c (point n)) f s h = stops noRule noRivals (s .left) refl
+identifier-out (atom c (prim n)) f s h = stops noRule noRivals (s .left) refl
+identifier-out (atom c (rung n)) f s h = stops noRule noRivals (s .left) refl
+identifier-out (list c l) f s h = stops noRule noRivals (s .left) refl

@@ -10,6 +10,7 @@ use Rattle.model.specs.Limits.{mostEntries, mostImage}
 use Rattle.model.specs.Refusals.{Refusal, unowned}
 use Rattle.model.specs.Objects.{Stx, size}
 use Rattle.model.specs.Trees.{Tree, loadSize}
+use Rattle.model.specs.Competing.{Rivals, noRivals}
 use Rattle.model.specs.Reading.{got, Head, symbols, Image, readSyntax, readTreeImage, readImage}
 use Rattle.model.specs.Writing.{syntaxBytes, treeImageBytes}
 use Rattle.model.specs.Steps.{State, Out}
@@ -46,7 +47,7 @@ expand-wrote image b ph budget room =
           (expand-keeps-limits ph budget i r s (syntax-read-keeps-limits image rest i b e) q n),
     ))))))
   where
-    no : (r : Refusal) (u : ℕ) → Wrote IsSyntax (refused r u)
+    no : (r : Refusal) (p : Rivals) (u : ℕ) → Wrote IsSyntax (refused r p u)
     no = nothing-wrote IsSyntax
 
 pub what-expand-writes-can-be-read : (image : List ℕ) → Bytes image → (ph budget : ℕ) (table output : List ℕ)
@@ -80,20 +81,20 @@ tree-wrote budget room i t s k f =
     same = reached-same budget i s k
 
 parse-root : (budget : ℕ) (i : Image Stx) (f : SyntaxFits (i .head) (i .binds) (i .root))
-    → Outcome Tree (Parsed (symbols (i .head)) (i .head .names) (i .head .scopes) (i .binds) (f .binds-fit) (f .head-fits .names-from) (i .root) (start budget i)) (parseRoot (i .root) (start budget i))
+    → Outcome Tree (Parsed (symbols (i .head)) (i .head .names) (i .head .scopes) (i .binds) (f .binds-fit) (f .head-fits .names-from) (f .ascending) (i .root) (start budget i)) (parseRoot (i .root) (start budget i))
 unfolding start
 parse-root budget i f =
     subst (Outcome Tree (P (start budget i))) (sym (parseRoot-is (i .root) (start budget i)))
     (chain (λ v. parse mostEntries 0 (i .root)) (charge-out (size (i .root)) (start budget i)) (λ v t kp.
-    later t kp (parse-keeps-limits (symbols (i .head)) (i .head .names) (i .head .scopes) (i .binds) (f .binds-fit) (f .head-fits .names-from)
+    later t kp (parse-keeps-limits (symbols (i .head)) (i .head .names) (i .head .scopes) (i .binds) (f .binds-fit) (f .head-fits .names-from) (f .ascending)
     mostEntries 0 (i .root) (f .root-fits) t (sym (kp .binds-is)))))
   where
     P : State → Tree → State → Type 0
-    P = Parsed (symbols (i .head)) (i .head .names) (i .head .scopes) (i .binds) (f .binds-fit) (f .head-fits .names-from) (i .root)
+    P = Parsed (symbols (i .head)) (i .head .names) (i .head .scopes) (i .binds) (f .binds-fit) (f .head-fits .names-from) (f .ascending) (i .root)
 
     later : (t : State) → Kept (start budget i) t → {o : Out Tree} → Outcome Tree (P t) o → Outcome Tree (P (start budget i)) o
     later t kp (gives w u p) = gives w u (p .0, p .1, kept-trans kp (p .2))
-    later t kp (stops r u p) = stops r u p
+    later t kp (stops r q u p) = stops r q u p
 
 parse-wrote : (image : List ℕ) → Bytes image → (budget room : ℕ) → Wrote IsTree (parseEnding image budget room)
 parse-wrote image b budget room =
@@ -139,7 +140,7 @@ evaluate-wrote image b budget room =
     tested i (tree-read-keeps-limits image rest i b e) (closed [] (i .root)) refl))
   where
     tested : (i : Image Tree) → TreeImageFits (i .head) (i .root) → (t : Bool) → closed [] (i .root) ≡ t
-        → Wrote IsTree (if t then worked budget (evaluateRoot (i .root) (start budget i)) (λ r s. fitted room (treeImageBytes (reached (i .head) s) r) (budget - s .left)) else refused unowned 0)
+        → Wrote IsTree (if t then worked budget (evaluateRoot (i .root) (start budget i)) (λ r s. fitted room (treeImageBytes (reached (i .head) s) r) (budget - s .left)) else refused unowned noRivals 0)
     tested i f true c =
         worked-case (Wrote IsTree) (nothing-wrote IsTree) budget (evaluateRoot (i .root) (start budget i)) _ (λ r s q.
         let x = outcome-ok (subst (Outcome Tree _) q (evaluate-root budget i f c)) in

@@ -16,6 +16,7 @@ use Rattle.model.specs.Refusals.{noNameLeft, noScopeLeft, noBindingLeft, overBu
 use Rattle.model.specs.Scopes.{Scopes, has, add}
 use Rattle.model.specs.Objects.{Sets, setAt, changeAt}
 use Rattle.model.specs.Resolving.{Bind, bindBefore, insert}
+use Rattle.model.specs.Competing.{noRivals}
 use Rattle.model.specs.Steps.{State, ok, no, Step, after, charge, freshName, freshScope, bind}
 use Rattle.model.specs.Expanding.{Binder, bindFresh}
 use Rattle.laws.specs.Ordered.{SetsIn, Sorted}
@@ -145,9 +146,9 @@ freshScope-out k s = go (ltb (s .scopes) mostScopes) refl
     grown h = record { names-le = le-refl (s .names); scopes-le = up (s .scopes); later = same; left-le = le-refl (s .left); keeps = scope-fits k s h }
 
     go : (b : Bool) → ltb (s .scopes) mostScopes ≡ b
-        → Outcome ℕ (λ j t. Grows k s t × (j ≤ t .scopes)) (if b then ok (s .scopes + 1) (withScope s) else no noScopeLeft (s .left))
+        → Outcome ℕ (λ j t. Grows k s t × (j ≤ t .scopes)) (if b then ok (s .scopes + 1) (withScope s) else no noScopeLeft noRivals (s .left))
     go true e = gives (s .scopes + 1) (withScope s) (grown (ltb-true (s .scopes) mostScopes e), le-refl (s .scopes + 1))
-    go false e = stops noScopeLeft (s .left) tt
+    go false e = stops noScopeLeft noRivals (s .left) refl
 
 -- ---- a fresh binder
 
@@ -265,27 +266,27 @@ name-then : {B : Type 0} {Q : B → State → Type 0} (f : ℕ → Step B) (s : 
 unfolding freshName withName
 name-then {B} {Q} f s h = go (ltb (s .names) mostNames) refl
   where
-    go : (b : Bool) → ltb (s .names) mostNames ≡ b → Outcome B Q (after (if b then ok (s .names) (withName s) else no noNameLeft (s .left)) f)
+    go : (b : Bool) → ltb (s .names) mostNames ≡ b → Outcome B Q (after (if b then ok (s .names) (withName s) else no noNameLeft noRivals (s .left)) f)
     go true e = h (ltb-true (s .names) mostNames e)
-    go false e = stops noNameLeft (s .left) tt
+    go false e = stops noNameLeft noRivals (s .left) refl
 
 scope-then : {B : Type 0} {Q : B → State → Type 0} (f : ℕ → Step B) (s : State)
     → (s .scopes < mostScopes → Outcome B Q (f (s .scopes + 1) (withScope s))) → Outcome B Q (after (freshScope s) f)
 unfolding freshScope withScope
 scope-then {B} {Q} f s h = go (ltb (s .scopes) mostScopes) refl
   where
-    go : (b : Bool) → ltb (s .scopes) mostScopes ≡ b → Outcome B Q (after (if b then ok (s .scopes + 1) (withScope s) else no noScopeLeft (s .left)) f)
+    go : (b : Bool) → ltb (s .scopes) mostScopes ≡ b → Outcome B Q (after (if b then ok (s .scopes + 1) (withScope s) else no noScopeLeft noRivals (s .left)) f)
     go true e = h (ltb-true (s .scopes) mostScopes e)
-    go false e = stops noScopeLeft (s .left) tt
+    go false e = stops noScopeLeft noRivals (s .left) refl
 
 charge-then : {B : Type 0} {Q : B → State → Type 0} (n : ℕ) (f : Unit {0} → Step B) (s : State)
     → Outcome B Q (f tt (spend n s)) → Outcome B Q (after (charge n s) f)
 unfolding charge spend
 charge-then {B} {Q} n f s h = go (leb n (s .left))
   where
-    go : (b : Bool) → Outcome B Q (after (if b then ok tt (spend n s) else no overBudget (s .left)) f)
+    go : (b : Bool) → Outcome B Q (after (if b then ok tt (spend n s) else no overBudget noRivals (s .left)) f)
     go true = h
-    go false = stops overBudget (s .left) tt
+    go false = stops overBudget noRivals (s .left) refl
 
 bind-then : {B : Type 0} {Q : B → State → Type 0} (b : Bind) (f : Unit {0} → Step B) (s : State)
     → (length (s .binds) < mostBindings → Outcome B Q (f tt (record { left = s .left; names = s .names; scopes = s .scopes; binds = insert b (s .binds) })))
@@ -296,9 +297,9 @@ bind-then {B} {Q} b f s h = go (ltb (length (s .binds)) mostBindings) refl
     t : State
     t = record { left = s .left; names = s .names; scopes = s .scopes; binds = insert b (s .binds) }
 
-    go : (x : Bool) → ltb (length (s .binds)) mostBindings ≡ x → Outcome B Q (after (if x then ok tt t else no noBindingLeft (s .left)) f)
+    go : (x : Bool) → ltb (length (s .binds)) mostBindings ≡ x → Outcome B Q (after (if x then ok tt t else no noBindingLeft noRivals (s .left)) f)
     go true e = h (ltb-true (length (s .binds)) mostBindings e)
-    go false e = stops noBindingLeft (s .left) tt
+    go false e = stops noBindingLeft noRivals (s .left) refl
 
 pub bindFresh-out : (k ph : ℕ) (c : Sets) (x : ℕ) (s : State) → StateFits k s → x < k → SetsIn (s .scopes) c
     → Outcome Binder (Bound k ph x s) (bindFresh ph c x s)

@@ -10,7 +10,7 @@ use Rattle.model.specs.Parsing.{Form, lambda, letSyntax, quote, syntax, headFor
 -- the form that the head of a list makes with these bindings; none where it cannot be resolved
 unfoldable pub formMade : Out (Option Form) → Option Form
 formMade (ok f s) = f
-formMade (no r u) = none
+formMade (no r p u) = none
 
 unfoldable pub formAt : ℕ → List Bind → Stxs → Option Form
 unfolding formMade headForm

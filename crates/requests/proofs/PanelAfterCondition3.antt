@@ -10,6 +10,7 @@ use lib.ListN.{length, take, drop, replicate, length-replicate}
 use Rattle.model.specs.Choice.{if_then_else_}
 use Rattle.model.specs.Refusals.{Refusal}
 use Rattle.model.specs.Trees.{Tree}
+use Rattle.model.specs.Competing.{Rivals}
 use Rattle.model.specs.Reading.{got, Image, readSyntax, readTreeImage, readImage}
 use Rattle.model.specs.Writing.{treeImageBytes}
 use Rattle.model.specs.Jobs.{Ending, refused, written, Result, lent, budgetFits, answerOf, outputAfter, start, reached, parseRoot, parseEnding, expandJob, parseJob}
@@ -43,7 +44,7 @@ parse-everywhere image budget room =
     W : Ending → Type 0
     W = Wrote (Everywhere image budget)
 
-    no : (r : Refusal) (u : ℕ) → Wrote (Everywhere image budget) (refused r u)
+    no : (r : Refusal) (p : Rivals) (u : ℕ) → Wrote (Everywhere image budget) (refused r p u)
     no = nothing-wrote (Everywhere image budget)
 
 image-written : (budget : ℕ) (table output b : List ℕ) (u : ℕ) → budgetFits budget (length table) ≡ true → imageWritten (lent budget table output (written b u)) ≡ b

@@ -277,9 +277,9 @@ roomFor room (refused r) = refused r
 roomFor room (listed l) = if leb (length l) room then listed l else refused (base tooLong)
 
 unfoldable pub panelAnswer : PanelEnding → Answer
-panelAnswer (refused r) = record { code = panelCode r; units = 0; name = 0; len = 0 }
+panelAnswer (refused r) = record { code = panelCode r; units = 0; name = 0; len = 0; first = 0; second = 0 }
 -- the length counts bytes, four for each bit
-panelAnswer (listed l) = record { code = 0; units = 0; name = 0; len = 4 * length l }
+panelAnswer (listed l) = record { code = 0; units = 0; name = 0; len = 4 * length l; first = 0; second = 0 }
 
 -- every refusal leaves `bits` as it was
 unfoldable pub bitsAfter : PanelEnding → List ℕ → List ℕ

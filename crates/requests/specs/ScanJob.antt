@@ -103,8 +103,8 @@ scanRoom room (stopped r) = stopped r
 scanRoom room (printed b) = if leb (length b) room then printed b else stopped (panel (base tooLong))
 
 unfoldable pub scanAnswer : ScanEnding → Answer
-scanAnswer (stopped r) = record { code = scanCode r; units = 0; name = 0; len = 0 }
-scanAnswer (printed b) = record { code = 0; units = 0; name = 0; len = length b }
+scanAnswer (stopped r) = record { code = scanCode r; units = 0; name = 0; len = 0; first = 0; second = 0 }
+scanAnswer (printed b) = record { code = 0; units = 0; name = 0; len = length b; first = 0; second = 0 }
 
 unfoldable pub outputAfterScans : ScanEnding → List ℕ → List ℕ
 outputAfterScans (stopped r) output = output
