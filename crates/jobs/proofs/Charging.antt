@@ -14,6 +14,7 @@ use Rattle.refusals.specs.Refusing.{refusalOf}
 use Rattle.refusals.specs.declared.Refusal.{Refusal}
 use Rattle.table.specs.Lending.{Lent}
 use Rattle.store.specs.Words.{bindsOf}
+use Rattle.store.specs.Rivalry.{rivalsOf}
 use Rattle.steps.specs.declared.State.{State}
 use Rattle.steps.specs.declared.Stop.{Stop}
 use Rattle.steps.specs.declared.Charged.{Charged}
@@ -28,7 +29,7 @@ use Rattle.image.specs.Judging.{Kind, judgedAs, Good, Judges}
 use Rattle.finish.specs.declared.Ending.{Ending}
 use Rattle.finish.specs.declared.Ending.the-variants as ending
 use Rattle.finish.specs.Ends.{EndsAs}
-use Rattle.finish.proofs.Ends.{ends-refused}
+use Rattle.finish.proofs.Ends.{ends-refused, ends-stopped}
 use Rattle.jobs.specs.Working.{Job, jobEnding, begun, Loaded}
 
 module _ {A B : Type 0} (J : Job A B) (image : List ℕ) (budget room : ℕ) where
@@ -78,15 +79,15 @@ module _ (j : Judgement) (budget : ℕ) {q : Charged} (c : q ≡ chargeOf (j .si
   unpaid-left i = let u = ap (λ (k : Stop). k .left) (charge-failed (j .size) _ c i .is) in omega arith
 
   module _ {A B : Type 0} (J : Job A B) {image : List ℕ} (st : List ℕ) {r : Judged} (w : Judges (J .kind) image st r) (e : r ≡ judged.Good j) where
-    pub unpaid-ends : {f : Stop} {x : Ending} (out : List ℕ) → q ≡ Refused f → x ≡ ending.Refused (f .refusal) (budget - f .left) → EndsAs (jobEnding J budget (length out) image) out out x
+    pub unpaid-ends : {f : Stop} {x : Ending} (out : List ℕ) → q ≡ Refused f → x ≡ ending.Stopped (f .refusal) (f .rivals) (budget - f .left) → EndsAs (jobEnding J budget (length out) image) out out x
     unfolding worked
     unpaid-ends {f} {x} out i y =
         let p = charge-failed (j .size) _ c i in
         let g = w .good j e in
-        let s : after (charge (j .size) (stateOf (begun j budget) (storeOf st))) (λ u. J .work (g .image .root)) ≡ no (refusalOf (f .refusal)) (f .left) =
+        let s : after (charge (j .size) (stateOf (begun j budget) (storeOf st))) (λ u. J .work (g .image .root)) ≡ no (refusalOf (f .refusal)) (rivalsOf (f .rivals)) (f .left) =
         rw (p .is) (then-no (λ u. J .work (g .image .root)) (charge-no (j .size) (begun j budget) (storeOf st) (p .short))) in
         subst (λ (z : Ending). EndsAs (jobEnding J budget (length out) image) out out z) (sym y)
-        (ends-refused out (charged J image budget (length out) g ∙ ap (λ (o : m.Out B). worked budget o (J .ends budget (length out) (g .image .head))) s))
+        (ends-stopped out (charged J image budget (length out) g ∙ ap (λ (o : m.Out B). worked budget o (J .ends budget (length out) (g .image .head))) s))
 
   pub paid-loaded : {A : Type 0} {K : Kind A} {image : List ℕ} {st : List ℕ} {r : Judged} {l : List ℕ} {s : State} → Judges K image st r → r ≡ judged.Good j → Lent l budget → q ≡ Paid s → Loaded K image st j l s
   paid-loaded w e n i = let p = charge-went (j .size) _ c i in record { budget = budget; good = w .good j e; lent = n; enough = p .enough; state-is = p .is }

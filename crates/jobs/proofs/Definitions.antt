@@ -10,6 +10,7 @@ use Rattle.model.specs.Choice.{if_then_else_}
 use Rattle.model.specs.Limits.{mostEntries, lastPhase, mostImage}
 use Rattle.model.specs.Refusals.{overLimit, unowned}
 use Rattle.model.specs.Trees.{Tree, loadSize}
+use Rattle.model.specs.Competing.{noRivals}
 use Rattle.model.specs.Reading.{Read, got, fault, next, need, Image, readTreeImage, readImage}
 use Rattle.model.specs.Writing.{treeImageBytes, syntaxBytes}
 use Rattle.model.specs.Steps.{after, charge}
@@ -32,13 +33,13 @@ evaluate-is image budget room = go (leb (length image) mostImage) (readTreeImage
     W : Image Tree → m.Ending
     W i = worked budget (after (charge (loadSize (i .root)) (start budget i)) (λ u. evaluate 128 (i .root))) (writes (λ b. treeImages) budget room (i .head))
 
-    owned : (i : Image Tree) (t : List ℕ) (b : Bool) → withImage (next (need unowned b t) (λ x u. got i u)) W ≡ (if b then W i else m.refused unowned 0)
+    owned : (i : Image Tree) (t : List ℕ) (b : Bool) → withImage (next (need unowned b t) (λ x u. got i u)) W ≡ (if b then W i else m.refused unowned noRivals 0)
     owned i t true = refl
     owned i t false = refl
 
     go : (b : Bool) (g : Read (Image Tree))
         → withImage (if b then next g (λ i t. next (need unowned (closed [] (i .root)) t) (λ x u. got i u)) else fault overLimit) W
-        ≡ withImage (if b then g else fault overLimit) (λ i. if closed [] (i .root) then W i else m.refused unowned 0)
+        ≡ withImage (if b then g else fault overLimit) (λ i. if closed [] (i .root) then W i else m.refused unowned noRivals 0)
     go false g = refl
     go true (fault f) = refl
     go true (got i t) = owned i t (closed [] (i .root))

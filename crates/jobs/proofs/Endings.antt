@@ -25,7 +25,7 @@ use Rattle.finish.specs.declared.Ending.the-variants as ending
 use Rattle.finish.specs.Ends.{EndsAs}
 use Rattle.finish.specs.Headings.{headAfter}
 use Rattle.finish.specs.Finishing.{Images, imageBytes, Came, Finishes}
-use Rattle.finish.proofs.Ends.{ends-refused}
+use Rattle.finish.proofs.Ends.{ends-stopped}
 use Rattle.jobs.specs.Working.{Job, writes, jobEnding, begun, Loaded, Result, Stopped, cameTo, Worked, FewBindings}
 use Rattle.things.specs.Rep.{Rep}
 use Rattle.jobs.proofs.Charging.{loaded-is}
@@ -59,11 +59,11 @@ module _ {A B : Type 0} {J : Job A B} {thing : B → Tree} {image st : List ℕ}
   pub done-left : {o : Out} → a ≡ Done o → o .state .left ≤ budget
   done-left e = omega (arith, came e .within)
 
-  pub refused-ends : {f : Stop} {x : Ending} (out : List ℕ) → a ≡ Refused f → x ≡ ending.Refused (f .refusal) (budget - f .left) → EndsAs (jobEnding J budget (length out) image) out out x
+  pub refused-ends : {f : Stop} {x : Ending} (out : List ℕ) → a ≡ Refused f → x ≡ ending.Stopped (f .refusal) (f .rivals) (budget - f .left) → EndsAs (jobEnding J budget (length out) image) out out x
   unfolding worked
   refused-ends {f} {x} out e y =
       subst (λ (z : Ending). EndsAs (jobEnding J budget (length out) image) out out z) (sym y)
-      (ends-refused out (is-worked (length out) ∙ ap (λ (o : m.Out B). worked budget o (J .ends budget (length out) (d .good .image .head))) (stopped e .is)))
+      (ends-stopped out (is-worked (length out) ∙ ap (λ (o : m.Out B). worked budget o (J .ends budget (length out) (d .good .image .head))) (stopped e .is)))
 
 module _ {A B : Type 0} {K : Kind A} {work : A → Step B} (I : List Bind → Images B) {thing : B → Tree} {image st : List ℕ} {j : Judgement} {s : State} {st′ l : List ℕ} {a : Answer}
     (v : Worked (record { kind = K; work = work; ends = writes I }) thing image st j s st′ l a) {l₀ : List ℕ} (d : Loaded K image st j l₀ s) {budget : ℕ} (u : s .left + j .size ≡ budget) {o : Out} (e : a ≡ Done o) where

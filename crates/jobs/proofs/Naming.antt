@@ -11,7 +11,8 @@ use Rattle.model.specs.Refusals as m
 use Rattle.model.specs.Refusals.{layout, noRule}
 use Rattle.model.specs.Scopes.{Scopes}
 use Rattle.model.specs.Objects.{symbol, number, point, prim, rung, Sets, noSets, Stx, Stxs, atom, list}
-use Rattle.model.specs.Resolving.{Bind, resolve}
+use Rattle.model.specs.Resolving.{Bind}
+use Rattle.model.specs.Competing.{noRivals}
 use Rattle.model.specs.Reading.{Read, Reader, got, fault, next, num, numUpTo, numBelow, Head, symbols, readSets, readAtom, readParts, readContent, readStx}
 use Rattle.model.specs.Jobs as j
 use Rattle.refusals.specs.Refusing.{refusalOf}
@@ -27,6 +28,7 @@ use Rattle.numbers.proofs.Tails.{below-tail, up-to-tail}
 use Rattle.numbers.proofs.Answering.{Took, took, refused, number-shape, seen-shape, whole, seen-refused}
 use Rattle.sets.proofs.Reading.{sets-tail}
 use Rattle.head.specs.declared.Counts.{Counts}
+use Rattle.store.specs.Rivalry.{decided}
 use Rattle.finish.specs.Ends.{endingOf}
 use Rattle.jobs.specs.Naming.{foundEnding, phased, rootEnding, Agree, RootEnds}
 use Rattle.finish.specs.declared.Ending.{Ending}
@@ -47,54 +49,54 @@ never e = let z : _≡_ {A = ℕ} 0 1 = cc in absurd (omega arith)
 -- ---- what is no identifier has no rule
 
 other-atom : (h : Head) (ph : ℕ) (bs : List Bind) (u : ℕ) (c : Sets) (t : ℕ) (w : List ℕ) (x : Stx) (rest : List ℕ) → (t ≡ 0 → ⊥)
-    → next (readAtom h t w) (λ a v. got (atom c a) v) ≡ got x rest → j.refused noRule u ≡ rootEnding ph x bs u
+    → next (readAtom h t w) (λ a v. got (atom c a) v) ≡ got x rest → j.refused noRule noRivals u ≡ rootEnding ph x bs u
 unfolding readAtom rootEnding
 other-atom h ph bs u c zero w x rest n e = absurd (n refl)
 other-atom h ph bs u c (suc zero) w x rest n e = go (num w) e
   where
-    go : (g : Read ℕ) → next (next g (λ k v. got (number k) v)) (λ a v. got (atom c a) v) ≡ got x rest → j.refused noRule u ≡ rootEnding ph x bs u
+    go : (g : Read ℕ) → next (next g (λ k v. got (number k) v)) (λ a v. got (atom c a) v) ≡ got x rest → j.refused noRule noRivals u ≡ rootEnding ph x bs u
     go (got k v) f = let z : atom c (number k) ≡ x = cc in ap (λ (y : Stx). rootEnding ph y bs u) z
     go (fault d) f = never f
 other-atom h ph bs u c (suc (suc zero)) w x rest n e = go (numUpTo m.overLimit _ w) e
   where
-    go : (g : Read ℕ) → next (next g (λ k v. got (point k) v)) (λ a v. got (atom c a) v) ≡ got x rest → j.refused noRule u ≡ rootEnding ph x bs u
+    go : (g : Read ℕ) → next (next g (λ k v. got (point k) v)) (λ a v. got (atom c a) v) ≡ got x rest → j.refused noRule noRivals u ≡ rootEnding ph x bs u
     go (got k v) f = let z : atom c (point k) ≡ x = cc in ap (λ (y : Stx). rootEnding ph y bs u) z
     go (fault d) f = never f
 other-atom h ph bs u c (suc (suc (suc zero))) w x rest n e = go (numUpTo m.overLimit _ w) e
   where
-    go : (g : Read ℕ) → next (next g (λ k v. got (prim k) v)) (λ a v. got (atom c a) v) ≡ got x rest → j.refused noRule u ≡ rootEnding ph x bs u
+    go : (g : Read ℕ) → next (next g (λ k v. got (prim k) v)) (λ a v. got (atom c a) v) ≡ got x rest → j.refused noRule noRivals u ≡ rootEnding ph x bs u
     go (got k v) f = let z : atom c (prim k) ≡ x = cc in ap (λ (y : Stx). rootEnding ph y bs u) z
     go (fault d) f = never f
 other-atom h ph bs u c (suc (suc (suc (suc zero)))) w x rest n e = go (numUpTo m.overLimit _ w) e
   where
-    go : (g : Read ℕ) → next (next g (λ k v. got (rung k) v)) (λ a v. got (atom c a) v) ≡ got x rest → j.refused noRule u ≡ rootEnding ph x bs u
+    go : (g : Read ℕ) → next (next g (λ k v. got (rung k) v)) (λ a v. got (atom c a) v) ≡ got x rest → j.refused noRule noRivals u ≡ rootEnding ph x bs u
     go (got k v) f = let z : atom c (rung k) ≡ x = cc in ap (λ (y : Stx). rootEnding ph y bs u) z
     go (fault d) f = never f
 other-atom h ph bs u c (suc (suc (suc (suc (suc t))))) w x rest n e = never e
 
 a-list : (h : Head) (ph : ℕ) (bs : List Bind) (u : ℕ) (part : Reader Stx) (c : Sets) (w : List ℕ) (x : Stx) (rest : List ℕ)
-    → next (num w) (λ n v. next (readParts n part v) (λ r y. got (list c r) y)) ≡ got x rest → j.refused noRule u ≡ rootEnding ph x bs u
+    → next (num w) (λ n v. next (readParts n part v) (λ r y. got (list c r) y)) ≡ got x rest → j.refused noRule noRivals u ≡ rootEnding ph x bs u
 unfolding rootEnding
 a-list h ph bs u part c w x rest e = go (num w) e
   where
-    inner : (g : Read Stxs) → next g (λ r y. got (list c r) y) ≡ got x rest → j.refused noRule u ≡ rootEnding ph x bs u
+    inner : (g : Read Stxs) → next g (λ r y. got (list c r) y) ≡ got x rest → j.refused noRule noRivals u ≡ rootEnding ph x bs u
     inner (got r y) f = let z : list c r ≡ x = cc in ap (λ (k : Stx). rootEnding ph k bs u) z
     inner (fault d) f = never f
 
-    go : (g : Read ℕ) → next g (λ n v. next (readParts n part v) (λ r y. got (list c r) y)) ≡ got x rest → j.refused noRule u ≡ rootEnding ph x bs u
+    go : (g : Read ℕ) → next g (λ n v. next (readParts n part v) (λ r y. got (list c r) y)) ≡ got x rest → j.refused noRule noRivals u ≡ rootEnding ph x bs u
     go (got n v) f = inner (readParts n part v) f
     go (fault d) f = never f
 
 other-root : (h : Head) (ph : ℕ) (bs : List Bind) (u t : ℕ) (v : List ℕ) (x : Stx) (rest : List ℕ) → (t ≡ 0 → ⊥) → behind-tag h t v ≡ got x rest
-    → j.refused noRule u ≡ rootEnding ph x bs u
+    → j.refused noRule noRivals u ≡ rootEnding ph x bs u
 unfolding behind-tag readContent
 other-root h ph bs u t v x rest n e = go (readSets (h .scopes) v) e
   where
-    by : (c : Sets) (w : List ℕ) (b : Bool) → readContent h (λ z. readStx 63 h z) c t b w ≡ got x rest → j.refused noRule u ≡ rootEnding ph x bs u
+    by : (c : Sets) (w : List ℕ) (b : Bool) → readContent h (λ z. readStx 63 h z) c t b w ≡ got x rest → j.refused noRule noRivals u ≡ rootEnding ph x bs u
     by c w true f = a-list h ph bs u (λ z. readStx 63 h z) c w x rest f
     by c w false f = other-atom h ph bs u c t w x rest n f
 
-    go : (g : Read Sets) → next g (λ c w. readContent h (λ z. readStx 63 h z) c t (eqb t 5) w) ≡ got x rest → j.refused noRule u ≡ rootEnding ph x bs u
+    go : (g : Read Sets) → next g (λ c w. readContent h (λ z. readStx 63 h z) c t (eqb t 5) w) ≡ got x rest → j.refused noRule noRivals u ≡ rootEnding ph x bs u
     go (got c w) f = by c w (eqb t 5) f
     go (fault d) f = never f
 
@@ -162,7 +164,7 @@ module _ (n : Counts) (s : List ℕ) (at ph : ℕ) (bs : List Bind) (u : ℕ) {r
         }
 
         pub root-ends : {y : ℕ} {past2 : Cursor} {set : Scopes} {d : Ending} → r2 ≡ number.Read y past2 → set ≡ phased ph a b c
-            → endingOf [] d ≡ foundEnding (resolve y set bs) u → RootEnds n s ph bs u d
+            → endingOf [] d ≡ foundEnding (decided y set bs) u → RootEnds n s ph bs u d
         unfolding rootEnding phased
         root-ends {y} {past2} {set} {d} p sp ed = record {
           means = λ hd ag x rest f.
@@ -172,7 +174,7 @@ module _ (n : Counts) (s : List ℕ) (at ph : ℕ) (bs : List Bind) (u : ℕ) {r
               let C : behind-tag hd t v ≡ got x rest = rw i (sym (from-tag hd) ∙ f) in
               let D : x ≡ atom (record { at0 = a; at1 = b; at2 = c }) (symbol y) =
               identifier-root hd t v w (drop (past2 .at - behind .at) w) (record { at0 = a; at1 = b; at2 = c }) y x rest z A B C in
-              ed ∙ ap (λ (m : Scopes). foundEnding (resolve y m bs) u) sp ∙ sym (ap (λ (X : Stx). rootEnding ph X bs u) D);
+              ed ∙ ap (λ (m : Scopes). foundEnding (decided y m bs) u) sp ∙ sym (ap (λ (X : Stx). rootEnding ph X bs u) D);
         }
 
 pub ruleset read-laws = (root-stops, root-other, root-sets-stop, root-symbol-stop, root-ends, sets-tail, up-to-tail, below-tail)

@@ -9,10 +9,10 @@ use Rattle.model.specs.Limits.{coreNames, lastPhase}
 use Rattle.model.specs.Refusals.{noRule, ambiguous}
 use Rattle.model.specs.Scopes.{Scopes}
 use Rattle.model.specs.Objects.{symbol, number, point, prim, rung, setAt, Stx, atom, list}
-use Rattle.model.specs.Resolving as r
-use Rattle.model.specs.Resolving.{Bind, means, several, resolve}
+use Rattle.model.specs.Resolving.{Bind}
+use Rattle.model.specs.Competing.{noRivals}
 use Rattle.model.specs.Reading.{symbols}
-use Rattle.model.specs.Steps.{identifier, resolveAt, nameOf}
+use Rattle.model.specs.Steps.{identifier, resolveAt}
 use Rattle.model.specs.Jobs as m
 use Rattle.model.specs.Jobs.{atPhase, worked, outputAfter, resolveRoot, resolveEnding}
 use Rattle.refusals.specs.declared.Refusal.{Refusal}
@@ -20,7 +20,9 @@ use Rattle.refusals.specs.declared.Refusal.the-variants as refusal
 use Rattle.scopes.specs.declared.Name.{Name}
 use Rattle.store.specs.Words.{bindsOf}
 use Rattle.store.specs.Sizes.{bindingSize, storeSize}
-use Rattle.store.specs.Pass.{foundOf}
+use Rattle.store.specs.declared.rivals.Rivals.{Rivals}
+use Rattle.store.specs.Rivalry.{Decision, means, several, rivalsOf, decided, foundOf}
+use Rattle.store.proofs.Competing.{stepOf, resolveAt-decided}
 use Rattle.store.specs.declared.resolving.Found.{Found}
 use Rattle.store.specs.declared.resolving.Found.the-variants.{Means, Several}
 use Rattle.steps.specs.declared.State.{State}
@@ -34,7 +36,7 @@ use Rattle.head.specs.declared.Head.{Head}
 use Rattle.head.specs.declared.Counts.{Counts}
 use Rattle.head.specs.Heads.{declares}
 use Rattle.finish.specs.declared.Ending.{Ending}
-use Rattle.finish.specs.declared.Ending.the-variants.{Refused, Named, Written}
+use Rattle.finish.specs.declared.Ending.the-variants.{Refused, Stopped, Named, Written}
 use Rattle.finish.specs.Ends.{endingOf, EndsAs}
 use Rattle.finish.proofs.Ends.{ends-refused}
 use Rattle.image.specs.declared.Judgement.{Judgement}
@@ -47,11 +49,11 @@ use Rattle.jobs.proofs.Charging.{loaded-is, image-refused, unpaid-left,
 
 -- ---- the name
 
-pub name-found : {f : Found} {g : r.Found} {n : Name} (u : ℕ) → foundOf f ≡ g → f ≡ Means n → m.named (n .0) u ≡ foundEnding g u
-name-found u p e = ap (λ (x : r.Found). foundEnding x u) (sym (ap foundOf e) ∙ p)
+pub name-found : {f : Found} {g : Decision} {n : Name} (u : ℕ) → foundOf f ≡ g → f ≡ Means n → m.named (n .0) u ≡ foundEnding g u
+name-found u p e = ap (λ (x : Decision). foundEnding x u) (sym (ap foundOf e) ∙ p)
 
-pub name-several : {f : Found} {g : r.Found} (u : ℕ) → foundOf f ≡ g → f ≡ Several → foundEnding several u ≡ foundEnding g u
-name-several u p e = ap (λ (x : r.Found). foundEnding x u) (sym (ap foundOf e) ∙ p)
+pub name-several : {f : Found} {g : Decision} {p : Rivals} (u : ℕ) → foundOf f ≡ g → f ≡ Several p → foundEnding (several (rivalsOf p)) u ≡ foundEnding g u
+name-several u q e = ap (λ (x : Decision). foundEnding x u) (sym (ap foundOf e) ∙ q)
 
 module _ (a b c : Scopes) where
   pub phase-first : {ph : ℕ} → ph ≡ 0 → a ≡ phased ph a b c
@@ -110,37 +112,41 @@ pub ruleset root-laws = (root-within, root-words, root-scopes, root-held, root-f
 -- the rules' work past the charge, after u units
 work-is : (ph : ℕ) (x : Stx) (t : State) (b : Store) (budget u : ℕ) → budget - t .left ≡ u
     → worked budget (identifier x (λ c n. resolveAt ph c n) (stateOf t b)) (λ n k. m.named n (budget - k .left)) ≡ rootEnding ph x (b .bindings (t .bindings)) u
-unfolding worked identifier resolveAt nameOf rootEnding
-work-is ph (atom c (symbol n)) t b budget u e = by (resolve n (setAt ph c) (b .bindings (t .bindings)))
+unfolding worked identifier rootEnding
+work-is ph (atom c (symbol n)) t b budget u e =
+    rw (resolveAt-decided ph c n (stateOf t b)) (by (decided n (setAt ph c) (b .bindings (t .bindings))))
   where
-    by : (f : r.Found) → worked budget (nameOf f (stateOf t b)) (λ k y. m.named k (budget - y .left)) ≡ foundEnding f u
+    by : (f : Decision) → worked budget (stepOf f (stateOf t b)) (λ k y. m.named k (budget - y .left)) ≡ foundEnding f u
     by (means k) = ap (m.named k) e
-    by several = ap (m.refused ambiguous) e
-work-is ph (atom c (number n)) t b budget u e = ap (m.refused noRule) e
-work-is ph (atom c (point n)) t b budget u e = ap (m.refused noRule) e
-work-is ph (atom c (prim n)) t b budget u e = ap (m.refused noRule) e
-work-is ph (atom c (rung n)) t b budget u e = ap (m.refused noRule) e
-work-is ph (list c l) t b budget u e = ap (m.refused noRule) e
+    by (several p) = ap (m.refused ambiguous p) e
+work-is ph (atom c (number n)) t b budget u e = ap (m.refused noRule noRivals) e
+work-is ph (atom c (point n)) t b budget u e = ap (m.refused noRule noRivals) e
+work-is ph (atom c (prim n)) t b budget u e = ap (m.refused noRule noRivals) e
+work-is ph (atom c (rung n)) t b budget u e = ap (m.refused noRule noRivals) e
+work-is ph (list c l) t b budget u e = ap (m.refused noRule noRivals) e
 
 -- nothing is written
-found-quiet : (f : r.Found) (u : ℕ) (x : Ending) → endingOf [] x ≡ foundEnding f u → EndsAs (foundEnding f u) [] [] x
+found-quiet : (f : Decision) (u : ℕ) (x : Ending) → endingOf [] x ≡ foundEnding f u → EndsAs (foundEnding f u) [] [] x
 unfolding outputAfter
 found-quiet (means k) u (Named n v) e = record { is = e; left = refl; inside = omega arith; short = omega arith }
-found-quiet several u (Refused f v) e = record { is = e; left = refl; inside = omega arith; short = omega arith }
+found-quiet (several p) u (Refused f v) e = record { is = e; left = refl; inside = omega arith; short = omega arith }
+found-quiet (several p) u (Stopped f q v) e = record { is = e; left = refl; inside = omega arith; short = omega arith }
+found-quiet (means k) u (Stopped f q v) e = let z : _≡_ {A = ℕ} 0 1 = cc in absurd (omega arith)
 found-quiet (means k) u (Refused f v) e = let z : _≡_ {A = ℕ} 0 1 = cc in absurd (omega arith)
 found-quiet (means k) u (Written n v) e = let z : _≡_ {A = ℕ} 0 1 = cc in absurd (omega arith)
-found-quiet several u (Named n v) e = let z : _≡_ {A = ℕ} 0 1 = cc in absurd (omega arith)
-found-quiet several u (Written n v) e = let z : _≡_ {A = ℕ} 0 1 = cc in absurd (omega arith)
+found-quiet (several p) u (Named n v) e = let z : _≡_ {A = ℕ} 0 1 = cc in absurd (omega arith)
+found-quiet (several p) u (Written n v) e = let z : _≡_ {A = ℕ} 0 1 = cc in absurd (omega arith)
 
-refused-quiet : (u : ℕ) (x : Ending) → endingOf [] x ≡ m.refused noRule u → EndsAs (m.refused noRule u) [] [] x
+refused-quiet : (u : ℕ) (x : Ending) → endingOf [] x ≡ m.refused noRule noRivals u → EndsAs (m.refused noRule noRivals u) [] [] x
 unfolding outputAfter
 refused-quiet u (Refused f v) e = record { is = e; left = refl; inside = omega arith; short = omega arith }
+refused-quiet u (Stopped f q v) e = record { is = e; left = refl; inside = omega arith; short = omega arith }
 refused-quiet u (Named n v) e = let z : _≡_ {A = ℕ} 0 1 = cc in absurd (omega arith)
 refused-quiet u (Written n v) e = let z : _≡_ {A = ℕ} 0 1 = cc in absurd (omega arith)
 
 root-quiet : (ph : ℕ) (y : Stx) (bs : List Bind) (u : ℕ) (x : Ending) → endingOf [] x ≡ rootEnding ph y bs u → EndsAs (rootEnding ph y bs u) [] [] x
 unfolding rootEnding
-root-quiet ph (atom c (symbol n)) bs u x e = found-quiet (resolve n (setAt ph c) bs) u x e
+root-quiet ph (atom c (symbol n)) bs u x e = found-quiet (decided n (setAt ph c) bs) u x e
 root-quiet ph (atom c (number n)) bs u x e = refused-quiet u x e
 root-quiet ph (atom c (point n)) bs u x e = refused-quiet u x e
 root-quiet ph (atom c (prim n)) bs u x e = refused-quiet u x e
@@ -166,7 +172,7 @@ pub fault-ends : (ph budget : ℕ) {image : List ℕ} (st : List ℕ) {y : Judge
 fault-ends ph budget st w e = image-refused (resolving ph) st budget [] w e
 
 pub stopped-ends : (j : Judgement) (ph budget : ℕ) {q : Charged} {image : List ℕ} (st : List ℕ) {y : Judged} {f : Stop} {x : Ending} → q ≡ chargeOf (j .size) (begun j budget) → q ≡ charged.Refused f
-    → Judges syntaxKind image st y → y ≡ judged.Good j → x ≡ Refused (f .refusal) (budget - f .left) → EndsAs (jobEnding (resolving ph) budget 0 image) [] [] x
+    → Judges syntaxKind image st y → y ≡ judged.Good j → x ≡ Stopped (f .refusal) (f .rivals) (budget - f .left) → EndsAs (jobEnding (resolving ph) budget 0 image) [] [] x
 stopped-ends j ph budget st c i w e y = unpaid-ends j budget c (resolving ph) st w e [] i y
 
 pub ruleset resolved-laws = (unpaid-left, judged-good, fault-ends, stopped-ends, resolved-ends)

@@ -17,6 +17,7 @@ use Rattle.model.specs.Jobs.{withImage, worked, start, reached, fitted}
 use Rattle.refusals.specs.Refusing.{refusalOf}
 use Rattle.table.specs.Lending.{Lent}
 use Rattle.store.specs.Sizes.{mostBindings}
+use Rattle.store.specs.Rivalry.{rivalsOf}
 use Rattle.things.specs.Rep.{Rep}
 use Rattle.steps.specs.declared.State.{State}
 use Rattle.steps.specs.declared.Stop.{Stop}
@@ -86,7 +87,7 @@ pub record Result {B : Type 0} (thing : B → Tree) (s : State) (store l : List 
   pub within : o .state .left ≤ s .left
 
 pub record Stopped {B : Type 0} (s : State) (q : r.Out B) (f : Stop) : Type 0 where
-  pub is : q ≡ no (refusalOf (f .refusal)) (f .left)
+  pub is : q ≡ no (refusalOf (f .refusal)) (rivalsOf (f .rivals)) (f .left)
   pub within : f .left ≤ s .left
 
 -- what an answer says of the work

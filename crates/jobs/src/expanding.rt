@@ -73,8 +73,8 @@ fn expand_loaded(
     }
 }
 
-// The image past the test of the phase, with words for its bindings.
-fn expand_image(
+// The image past the test of the phase, with words for its bindings. Where the job stops at code 6, the two that compete are still in them.
+pub fn expand_image(
     out: &mut [u8],
     image: &[u8],
     store: &mut [u64],

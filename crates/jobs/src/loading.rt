@@ -7,7 +7,7 @@ use steps::Stop;
 ghost use mathlib.Core.Path.{_≡_};
 ghost use Prim.Native.Nat.{_-_, _≤_};
 ghost use Rattle.steps.specs.States.{chargeOf};
-ghost use Rattle.finish.specs.declared.Ending.the-variants.{Refused};
+ghost use Rattle.finish.specs.declared.Ending.the-variants.{Stopped};
 ghost use Rattle.jobs.specs.Working.{begun};
 
 // The state in which the work on a judged image begins: its root is charged for.
@@ -29,8 +29,9 @@ pub fn begin(j: Judgement, budget: u32) -> Charged
 // A refusal, after the units charged.
 pub fn stopped(f: Stop, budget: u32) -> Ending
     requires { ⌜ f .left ≤ budget ⌝ }
-    ensures { λ r. ⌜ r ≡ Refused (f .refusal) (budget - f .left) ⌝ }
+    ensures { λ r. ⌜ r ≡ Stopped (f .refusal) (f .rivals) (budget - f .left) ⌝ }
 {
     let refusal = f.refusal;
-    Ending::Refused(refusal, budget - f.left)
+    let rivals = f.rivals;
+    Ending::Stopped(refusal, rivals, budget - f.left)
 }

@@ -17,10 +17,10 @@ ghost use mathlib.Core.Path.{_≡_};
 ghost use mathlib.Core.List.{[]};
 ghost use Prim.Native.Nat.{_+_, _*_, _≤_};
 ghost use lib.ListN.{length};
-ghost use Rattle.model.specs.Resolving as model;
 ghost use Rattle.model.specs.Jobs.{resolveEnding};
 ghost use Rattle.scopes.specs.Sets.{scopesOf};
 ghost use Rattle.store.specs.Words.{bindsOf};
+ghost use Rattle.store.specs.Rivalry.{decided};
 ghost use Rattle.store.specs.Sizes.{bindingSize, storeSize};
 ghost use Rattle.finish.specs.Ends.{endingOf, EndsAs};
 ghost use Rattle.image.specs.Judging.{syntaxKind, Good};
@@ -30,13 +30,13 @@ ghost use Rattle.numbers.specs.Limits.{mostImage};
 ghost use Rattle.scopes.specs.Sets.{setScopes};
 
 // The name of the identifier with symbol x and set s, after so many units.
-fn resolve_name(store: &[u64], count: usize, x: Symbol, s: ScopeSet, units: u32) -> Ending
+fn resolve_name(store: &[u64], count: u32, x: Symbol, s: ScopeSet, units: u32) -> Ending
     requires { ⌜ count * bindingSize ≤ length (now store) ⌝ }
-    ensures { λ r. ⌜ endingOf [] r ≡ foundEnding (model.resolve (x .0) (scopesOf s) (bindsOf (now (store .entry)) count)) units ⌝ }
+    ensures { λ r. ⌜ endingOf [] r ≡ foundEnding (decided (x .0) (scopesOf s) (bindsOf (now (store .entry)) count)) units ⌝ }
 {
     match store::resolving::resolve(store, count, x, s) {
         Found::Means(n) => Ending::Named(n, units),
-        Found::Several => Ending::Refused(Refusal::Ambiguous, units),
+        Found::Several(rivals) => Ending::Stopped(Refusal::Ambiguous, rivals, units),
     }
 }
 
@@ -61,7 +61,7 @@ fn resolve_root(
     phase: u32,
     units: u32,
     store: &[u64],
-    count: usize,
+    count: u32,
 ) -> Ending
     requires image { ⌜ (c .at + length (now s) ≤ mostImage) × (counts .scopes ≤ setScopes) ⌝ }
     requires held { ⌜ count * bindingSize ≤ length (now store) ⌝ }
@@ -102,15 +102,7 @@ fn resolve_loaded(image: &[u8], j: Judgement, store: &[u64], phase: u32) -> Endi
     let start = Cursor { at: 0 };
     let root = Cursor { at: j.root };
     let rest = start.after(image, root);
-    resolve_root(
-        root,
-        rest,
-        h.counts(),
-        phase,
-        j.size,
-        store,
-        j.bindings as usize,
-    )
+    resolve_root(root, rest, h.counts(), phase, j.size, store, j.bindings)
 }
 
 // The image past the test of the phase, with words for its bindings.

@@ -7,7 +7,7 @@ use Rattle.meirhuppa.specs.Endings.{answerIs, Answered}
 use Rattle.meirhuppa.specs.declared.answers.Answer.{Answer}
 
 pub same-answer : (a b : Answer) → answerIs a ≡ answerIs b → a ≡ b
-same-answer a b e = λ i. record { code = e i .code; units = e i .units; name = e i .name; length = e i .len }
+same-answer a b e = λ i. record { code = e i .code; units = e i .units; name = e i .name; length = e i .len; first = e i .first; second = e i .second }
 
 pub answered-once : (job : Result) (a b : Answer) (o p t u : List ℕ) → Answered job a o t → Answered job b p u → (a ≡ b) × (o ≡ p) × (t ≡ u)
 answered-once job a b o p t u m n = (

@@ -21,12 +21,12 @@ module _ (image bits : List ℕ) {bits′ : List ℕ} {r : Listing} (h : Lists i
   unfolding panelJob
   panel-whole e = λ i. record { answer = (e ∙ h .answer) i; bits = h .left i }
 
-  pub panel-listed : {n : ℕ} → r ≡ listing.Listed n → record { answer = record { code = 0; units = 0; name = 0; len = 4 * n }; bits = bits′ } ≡ panelJob image bits
+  pub panel-listed : {n : ℕ} → r ≡ listing.Listed n → record { answer = record { code = 0; units = 0; name = 0; len = 4 * n; first = 0; second = 0 }; bits = bits′ } ≡ panelJob image bits
   panel-listed e = panel-whole (sym (ap answerFor e))
 
   pub panel-refused : {f : PanelRefusal} {k : ℕ} → r ≡ listing.Refused f → k ≡ panelCode (panelRefusalOf f)
-      → record { answer = record { code = k; units = 0; name = 0; len = 0 }; bits = bits′ } ≡ panelJob image bits
-  panel-refused e q = panel-whole (ap (λ (k : ℕ). record { code = k; units = 0; name = 0; len = 0 }) q ∙ sym (ap answerFor e))
+      → record { answer = record { code = k; units = 0; name = 0; len = 0; first = 0; second = 0 }; bits = bits′ } ≡ panelJob image bits
+  panel-refused e q = panel-whole (ap (λ (k : ℕ). record { code = k; units = 0; name = 0; len = 0; first = 0; second = 0 }) q ∙ sym (ap answerFor e))
 
   pub panel-short : {n : ℕ} → r ≡ listing.Listed n → 4 * n < 4294967296
   panel-short {n} e = let l = h .few n e in omega arith

@@ -18,12 +18,12 @@ module _ (image recording out : List ℕ) {out′ : List ℕ} {r : Printing} (h 
   unfolding scanJob
   scan-whole e = λ i. record { answer = (e ∙ h .answer) i; output = h .left i }
 
-  pub scan-printed : {n : ℕ} → r ≡ printing.Printed n → record { answer = record { code = 0; units = 0; name = 0; len = n }; output = out′ } ≡ scanJob image recording out
+  pub scan-printed : {n : ℕ} → r ≡ printing.Printed n → record { answer = record { code = 0; units = 0; name = 0; len = n; first = 0; second = 0 }; output = out′ } ≡ scanJob image recording out
   scan-printed e = scan-whole (sym (ap answerFor e))
 
   pub scan-refused : {f : ScanRefusal} {k : ℕ} → r ≡ printing.Refused f → k ≡ scanCode (scanRefusalOf f)
-      → record { answer = record { code = k; units = 0; name = 0; len = 0 }; output = out′ } ≡ scanJob image recording out
-  scan-refused e q = scan-whole (ap (λ (k : ℕ). record { code = k; units = 0; name = 0; len = 0 }) q ∙ sym (ap answerFor e))
+      → record { answer = record { code = k; units = 0; name = 0; len = 0; first = 0; second = 0 }; output = out′ } ≡ scanJob image recording out
+  scan-refused e q = scan-whole (ap (λ (k : ℕ). record { code = k; units = 0; name = 0; len = 0; first = 0; second = 0 }) q ∙ sym (ap answerFor e))
 
 pub ruleset scan-laws = (scan-printed, scan-refused)
 

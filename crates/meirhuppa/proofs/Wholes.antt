@@ -12,37 +12,43 @@ use mir.Syntax.{w32}
 use mir.Val.{Fits}
 use Rattle.model.specs.Limits.{mostBudget, wordsPerUnit}
 use Rattle.model.specs.Refusals.{codeOf, smallTable}
+use Rattle.model.specs.Competing.{noRivals}
 use Rattle.model.specs.Jobs as m
 use Rattle.model.specs.Jobs.{answerOf, cleared, budgetFits, lent}
 use Rattle.refusals.specs.declared.Refusal.{Refusal}
 use Rattle.refusals.specs.Refusing.{refusalOf}
 use Rattle.table.specs.Lending.{Lent}
 use Rattle.scopes.specs.declared.Name.{Name}
+use Rattle.store.specs.declared.rivals.Rivals.{Rivals}
 use Rattle.finish.specs.declared.Ending.{Ending}
-use Rattle.finish.specs.declared.Ending.the-variants.{Refused, Named, Written}
+use Rattle.finish.specs.declared.Ending.the-variants.{Refused, Stopped, Named, Written}
 use Rattle.finish.specs.Ends.{lengthOf, EndsAs}
 use Rattle.finish.proofs.Ends.{and-no}
 use Rattle.meirhuppa.specs.Endings.{answerFor}
 
 -- ---- answers
 
-pub small-answer : {k : ℕ} → k ≡ 5 → record { code = k; units = 0; name = 0; len = 0 } ≡ answerOf (m.refused smallTable 0)
+pub small-answer : {k : ℕ} → k ≡ 5 → record { code = k; units = 0; name = 0; len = 0; first = 0; second = 0 } ≡ answerOf (m.refused smallTable noRivals 0)
 unfolding answerOf
-small-answer e = ap (λ (k : ℕ). record { code = k; units = 0; name = 0; len = 0 }) e
+small-answer e = ap (λ (k : ℕ). record { code = k; units = 0; name = 0; len = 0; first = 0; second = 0 }) e
 
-pub refused-answer : {e : Ending} {f : Refusal} {k u : ℕ} → e ≡ Refused f u → k ≡ codeOf (refusalOf f) → record { code = k; units = u; name = 0; len = 0 } ≡ answerFor e
-refused-answer {u = u} e q = ap (λ (k : ℕ). record { code = k; units = u; name = 0; len = 0 }) q ∙ sym (ap answerFor e)
+pub refused-answer : {e : Ending} {f : Refusal} {k u : ℕ} → e ≡ Refused f u → k ≡ codeOf (refusalOf f) → record { code = k; units = u; name = 0; len = 0; first = 0; second = 0 } ≡ answerFor e
+refused-answer {u = u} e q = ap (λ (k : ℕ). record { code = k; units = u; name = 0; len = 0; first = 0; second = 0 }) q ∙ sym (ap answerFor e)
 
-pub written-answer : {e : Ending} {n u : ℕ} → e ≡ Written n u → record { code = 0; units = u; name = 0; len = n } ≡ answerFor e
+pub stopped-answer : {e : Ending} {f : Refusal} {p : Rivals} {k u : ℕ} → e ≡ Stopped f p u → k ≡ codeOf (refusalOf f)
+    → record { code = k; units = u; name = 0; len = 0; first = p .first; second = p .second } ≡ answerFor e
+stopped-answer {p = p} {u = u} e q = ap (λ (k : ℕ). record { code = k; units = u; name = 0; len = 0; first = p .first; second = p .second }) q ∙ sym (ap answerFor e)
+
+pub written-answer : {e : Ending} {n u : ℕ} → e ≡ Written n u → record { code = 0; units = u; name = 0; len = n; first = 0; second = 0 } ≡ answerFor e
 written-answer e = sym (ap answerFor e)
 
-pub named-answer : {e : Ending} {n : Name} {u : ℕ} → e ≡ Named n u → record { code = 0; units = u; name = n .0; len = 0 } ≡ answerFor e
+pub named-answer : {e : Ending} {n : Name} {u : ℕ} → e ≡ Named n u → record { code = 0; units = u; name = n .0; len = 0; first = 0; second = 0 } ≡ answerFor e
 named-answer e = sym (ap answerFor e)
 
 pub length-fits : {e : Ending} {n u : ℕ} → lengthOf e ≤ 65536 → e ≡ Written n u → Fits w32 n
 length-fits s e = let h = subst (λ (x : Ending). lengthOf x ≤ 65536) e s in omega arith
 
-pub ruleset answer-laws = (small-answer, refused-answer, named-answer, written-answer, length-fits)
+pub ruleset answer-laws = (small-answer, refused-answer, stopped-answer, named-answer, written-answer, length-fits)
 
 -- ---- the whole
 
@@ -52,19 +58,20 @@ ends-short w = w .short
 answer-is : {q : m.Ending} {out out′ : List ℕ} (e : Ending) → EndsAs q out out′ e → answerFor e ≡ answerOf q
 unfolding answerOf
 answer-is (Refused f u) w = ap answerOf (w .is)
+answer-is (Stopped f p u) w = ap answerOf (w .is)
 answer-is (Named n u) w = ap answerOf (w .is)
-answer-is {out′ = out′} (Written n u) w = ap (λ (k : ℕ). record { code = 0; units = u; name = 0; len = k }) (sym (length-take-le n out′ (w .inside))) ∙ ap answerOf (w .is)
+answer-is {out′ = out′} (Written n u) w = ap (λ (k : ℕ). record { code = 0; units = u; name = 0; len = k; first = 0; second = 0 }) (sym (length-take-le n out′ (w .inside))) ∙ ap answerOf (w .is)
 
 module _ (budget : ℕ) (table out : List ℕ) (q : m.Ending) {a : m.Answer} where
-  lent-no : budgetFits budget (length table) ≡ false → a ≡ answerOf (m.refused smallTable 0) → record { answer = a; output = out; table = table } ≡ lent budget table out q
+  lent-no : budgetFits budget (length table) ≡ false → a ≡ answerOf (m.refused smallTable noRivals 0) → record { answer = a; output = out; table = table } ≡ lent budget table out q
   unfolding lent
   lent-no n e = rw n (ap (λ (x : m.Answer). record { answer = x; output = out; table = table }) e)
 
-  pub over : 4096 < budget → a ≡ answerOf (m.refused smallTable 0) → record { answer = a; output = out; table = table } ≡ lent budget table out q
+  pub over : 4096 < budget → a ≡ answerOf (m.refused smallTable noRivals 0) → record { answer = a; output = out; table = table } ≡ lent budget table out q
   unfolding budgetFits mostBudget
   over h e = lent-no (rw (lt-leb budget 4096 h) refl) e
 
-  pub few-words : length table < budget * 40 → a ≡ answerOf (m.refused smallTable 0) → record { answer = a; output = out; table = table } ≡ lent budget table out q
+  pub few-words : length table < budget * 40 → a ≡ answerOf (m.refused smallTable noRivals 0) → record { answer = a; output = out; table = table } ≡ lent budget table out q
   unfolding budgetFits wordsPerUnit
   few-words h e =
       let l : length table < 40 * budget = omega arith in

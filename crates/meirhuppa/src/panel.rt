@@ -15,6 +15,8 @@ pub extern "C" fn meirhuppa_panel(image: &[u8], bits: &mut [u32]) -> Answer
             units: 0,
             name: 0,
             length: 4 * count,
+            first: 0,
+            second: 0,
         },
         Listing::Refused(f) => {
             let code = f.code();
@@ -23,6 +25,8 @@ pub extern "C" fn meirhuppa_panel(image: &[u8], bits: &mut [u32]) -> Answer
                 units: 0,
                 name: 0,
                 length: 0,
+                first: 0,
+                second: 0,
             }
         }
     }

@@ -16,6 +16,8 @@ pub extern "C" fn meirhuppa_scan(image: &[u8], recording: &[u8], out: &mut [u8])
             units: 0,
             name: 0,
             length,
+            first: 0,
+            second: 0,
         },
         Printing::Refused(f) => {
             let code = f.code();
@@ -24,6 +26,8 @@ pub extern "C" fn meirhuppa_scan(image: &[u8], recording: &[u8], out: &mut [u8])
                 units: 0,
                 name: 0,
                 length: 0,
+                first: 0,
+                second: 0,
             }
         }
     }

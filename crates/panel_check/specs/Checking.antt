@@ -88,8 +88,8 @@ Within root g r = r ≡ withinOf root g
 -- ---- the names listed
 
 abbrev pub answerFor : Listing → Answer
-answerFor (listing.Listed n) = record { code = 0; units = 0; name = 0; len = 4 * n }
-answerFor (listing.Refused f) = record { code = panelCode (panelRefusalOf f); units = 0; name = 0; len = 0 }
+answerFor (listing.Listed n) = record { code = 0; units = 0; name = 0; len = 4 * n; first = 0; second = 0 }
+answerFor (listing.Refused f) = record { code = panelCode (panelRefusalOf f); units = 0; name = 0; len = 0; first = 0; second = 0 }
 
 -- an ending, as the code answers it and leaves the words lent
 pub record Ends (e : PanelEnding) (bits bits′ : List ℕ) (r : Listing) : Type 0 where

@@ -9,9 +9,6 @@ after-requires c κs = search (root-laws, needs)
 counts-requires : tie.Need-counts-requires
 counts-requires c κs = search (root-laws, needs)
 
-cast-resolve-root : tie.Need-cast-resolve-root
-cast-resolve-root c = search (root-laws, needs)
-
 resolve-root-requires : tie.Need-resolve-root-requires
 resolve-root-requires c κs = search (root-laws, needs)
 
@@ -20,5 +17,4 @@ returns c = search (root-laws, needs)
 
 pub resolve-loaded-spec : {M : Type 1} → statement M
 resolve-loaded-spec =
-    tie.close
-    (tie.spec after-requires counts-requires cast-resolve-root resolve-root-requires returns)
+    tie.close (tie.spec after-requires counts-requires resolve-root-requires returns)

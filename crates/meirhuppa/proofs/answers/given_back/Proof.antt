@@ -12,11 +12,17 @@ code-requires c κs = search (answer-laws, needs)
 enum-known-ending-2 : tie.Need-enum-known-ending-2
 enum-known-ending-2 c = search (answer-laws, needs)
 
+code-requires-2 : tie.Need-code-requires-2
+code-requires-2 c κs = search (answer-laws, needs)
+
 enum-known-ending-3 : tie.Need-enum-known-ending-3
 enum-known-ending-3 c = search (answer-laws, needs)
 
-cast-t10 : tie.Need-cast-t10
-cast-t10 c = search (answer-laws, needs)
+enum-known-ending-4 : tie.Need-enum-known-ending-4
+enum-known-ending-4 c = search (answer-laws, needs)
+
+cast-t14 : tie.Need-cast-t14
+cast-t14 c = search (answer-laws, needs)
 
 returns : tie.Need-returns
 returns c = search (answer-laws, needs)
@@ -27,6 +33,9 @@ returns-2 c = search (answer-laws, needs)
 returns-3 : tie.Need-returns-3
 returns-3 c = search (answer-laws, needs)
 
+returns-4 : tie.Need-returns-4
+returns-4 c = search (answer-laws, needs)
+
 pub given-back-spec : {M : Type 1} → statement M
 given-back-spec =
     tie.close
@@ -34,8 +43,11 @@ given-back-spec =
     enum-known-ending
     code-requires
     enum-known-ending-2
+    code-requires-2
     enum-known-ending-3
-    cast-t10
+    enum-known-ending-4
+    cast-t14
     returns
     returns-2
-    returns-3)
+    returns-3
+    returns-4)
