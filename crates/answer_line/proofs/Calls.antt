@@ -71,7 +71,7 @@ module _ (job : ℕ) (image second : List ℕ) (bytes : ℕ) {r : Result} where
   unfolding requestOf
   request-panel h e = e ∙ simp (eq-eqb job 4 h)
 
-  pub request-scan : (job ≡ 4 → ⊥) → r ≡ scanBytes image second bytes → r ≡ requestOf job image second bytes
+  pub request-scan : (job ≡ 4 → ⊥) → job ≡ 5 → r ≡ scanBytes image second bytes → r ≡ requestOf job image second bytes
   unfolding requestOf
   request-scan n e = e ∙ simp (ne-eqb job 4 n)
 
@@ -93,6 +93,6 @@ module _ (job : ℕ) (image second : List ℕ) (ph budget words bytes : ℕ) {r 
   unfolding callLine
   line-of-call {out} {out′} {at} {past} e w = subst (λ (z : Result). Placed out at (answerLine budget z) out′ past) e w
 
-pub ruleset request-laws = (scan-filled, request-panel, request-scan)
+pub ruleset request-laws = (scan-filled, request-panel, request-scan, request-read, request-print)
 
 pub ruleset answer-laws = (job-resolve, job-expand, job-parse, job-evaluate, request-fresh, job-fresh, line-of-call)

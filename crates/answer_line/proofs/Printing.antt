@@ -16,10 +16,6 @@ use Rattle.text.proofs.Hexadecimal.{hex-length}
 use Rattle.answer_line.specs.Format.{wordFill, byteFill, allAre, isClear, numberColumn, tableColumn, writtenColumn, outputColumn, numberColumns, bufferColumns, answerLine}
 use Rattle.numbers.proofs.Reading.{part-from}
 
--- the same bytes under another name
-renamed : {out xs ys out′ : List ℕ} {at past : ℕ} → xs ≡ ys → Placed out at xs out′ past → Placed out at ys out′ past
-renamed {out} {out′ = out′} {at} {past} e w = subst (λ (l : List ℕ). Placed out at l out′ past) e w
-
 -- ---- numbers
 
 module _ {out o₁ o₂ : List ℕ} {at p q : ℕ} where
@@ -27,10 +23,11 @@ module _ {out o₁ o₂ : List ℕ} {at p q : ℕ} where
   unfolding numberColumn
   number-placed n a b = renamed (sym (digits-before 10 n (32 ∷ []))) (placed-then a b)
 
-  pub numbers-placed : (code units name len : ℕ) → Placed out at (numberColumn code ++ numberColumn units) o₁ p → Placed o₁ p (numberColumn name ++ numberColumn len) o₂ q
-      → Placed out at (numberColumns (record { code = code; units = units; name = name; len = len })) o₂ q
+  pub numbers-placed : (code units name len first second : ℕ) {o₃ : List ℕ} {e : ℕ} → Placed out at (numberColumn code ++ numberColumn units) o₁ p
+      → Placed o₁ p (numberColumn name ++ numberColumn len) o₂ q → Placed o₂ q (numberColumn first ++ numberColumn second) o₃ e
+      → Placed out at (numberColumns (record { code = code; units = units; name = name; len = len; first = first; second = second })) o₃ e
   unfolding numberColumns
-  numbers-placed code units name len a b = placed-then a b
+  numbers-placed code units name len first second a b c = placed-then a (placed-then b c)
 
 -- ---- the table
 

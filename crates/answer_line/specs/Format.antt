@@ -56,7 +56,7 @@ outputColumn len output = writtenColumn len output ++ (if allAre byteFill (drop 
 
 unfoldable pub numberColumns : Answer → List ℕ
 unfolding numberColumn
-numberColumns a = (numberColumn (a .code) ++ numberColumn (a .units)) ++ (numberColumn (a .name) ++ numberColumn (a .len))
+numberColumns a = (numberColumn (a .code) ++ numberColumn (a .units)) ++ ((numberColumn (a .name) ++ numberColumn (a .len)) ++ (numberColumn (a .first) ++ numberColumn (a .second)))
 
 unfoldable pub bufferColumns : ℕ → ℕ → List ℕ → List ℕ → List ℕ
 unfolding tableColumn outputColumn

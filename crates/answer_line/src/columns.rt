@@ -28,12 +28,13 @@ fn put_pair(out: &mut [u8], at: usize, a: u32, b: u32) -> usize
 }
 
 pub fn put_numbers(out: &mut [u8], at: usize, a: Numbers) -> usize
-    requires { ⌜ at + 44 ≤ length (now out) ⌝ }
+    requires { ⌜ at + 66 ≤ length (now out) ⌝ }
     ensures bytes { λ r. ⌜ Placed (now (out .entry)) at (numberColumns (answerIs a)) (now (out .exit)) r ⌝ }
-    ensures few { λ r. ⌜ r ≤ at + 44 ⌝ }
+    ensures few { λ r. ⌜ r ≤ at + 66 ⌝ }
 {
     let name = put_pair(out, at, a.code, a.units);
-    put_pair(out, name, a.name, a.length)
+    let first = put_pair(out, name, a.name, a.length);
+    put_pair(out, first, a.first, a.second)
 }
 
 fn put_table(out: &mut [u8], at: usize, budget: u32, table: &[u32]) -> usize

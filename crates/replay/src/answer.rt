@@ -39,7 +39,11 @@ impl Call {
 
     pub const SCAN: u32 = 5;
 
-    pub const LAST_JOB: u32 = Call::SCAN;
+    pub const READ: u32 = 6;
+
+    pub const PRINT: u32 = 7;
+
+    pub const LAST_JOB: u32 = Call::PRINT;
 }
 
 // The jobs of document 01. Every number above those of the others is evaluate's: no call that comes here has one over `EVALUATE`.
@@ -95,7 +99,7 @@ pub fn answer(
     page: &mut [u8],
     at: usize,
 ) -> usize
-    requires { ⌜ (at + length (now output) * 2 + 53 ≤ length (now page)) × (length (now output) ≤ 70000) ⌝ }
+    requires { ⌜ (at + length (now output) * 2 + 75 ≤ length (now page)) × (length (now output) ≤ 70000) ⌝ }
     ensures { λ r. ⌜ Placed (now (page .entry)) at (callLine (call .job) (now (image .entry)) (now (second .entry)) (call .phase) (call .budget) (length (now (table .entry))) (length (now (output .entry)))) (now (page .exit)) r ⌝ }
 {
     let a = do_fresh(call, image, second, table, output);
@@ -104,6 +108,8 @@ pub fn answer(
         units: a.units,
         name: a.name,
         length: a.length,
+        first: a.first,
+        second: a.second,
     };
     answer_line::put_line(page, at, numbers, call.budget, table, output)
 }

@@ -9,6 +9,9 @@ put-pair-requires c κs = search (printing-laws, needs)
 put-pair-requires-2 : tie.Need-put-pair-requires-2
 put-pair-requires-2 c κs = search (printing-laws, needs)
 
+put-pair-requires-3 : tie.Need-put-pair-requires-3
+put-pair-requires-3 c κs = search (printing-laws, needs)
+
 same-length : tie.Need-same-length
 same-length c = search (printing-laws, needs)
 
@@ -16,4 +19,4 @@ returns : tie.Need-returns
 returns c = search (printing-laws, needs)
 
 pub put-numbers-spec : {M : Type 1} → statement M
-put-numbers-spec = tie.close (tie.spec put-pair-requires put-pair-requires-2 same-length returns)
+put-numbers-spec = tie.close (tie.spec put-pair-requires put-pair-requires-2 put-pair-requires-3 same-length returns)

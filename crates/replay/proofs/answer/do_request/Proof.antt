@@ -4,25 +4,43 @@ use Rattle.replay.proofs.answer.do_request.Statement.{statement}
 use Rattle.replay.proofs.answer.do_request.Tie as tie
 
 panel-requires : tie.Need-panel-requires
-panel-requires c κs = search needs
+panel-requires c κs = search (request-laws, needs)
 
 same-length : tie.Need-same-length
-same-length c = search needs
+same-length c = search (request-laws, needs)
 
 returns : tie.Need-returns
 returns c = search (request-laws, needs)
 
 fill-bytes-requires : tie.Need-fill-bytes-requires
-fill-bytes-requires c κs = search needs
+fill-bytes-requires c κs = search (request-laws, needs)
 
 meirhuppa-scan-requires : tie.Need-meirhuppa-scan-requires
-meirhuppa-scan-requires c κs = search needs
+meirhuppa-scan-requires c κs = search (request-laws, needs)
 
 same-length-2 : tie.Need-same-length-2
-same-length-2 c = search needs
+same-length-2 c = search (request-laws, needs)
 
 returns-2 : tie.Need-returns-2
 returns-2 c = search (request-laws, needs)
+
+meirhuppa-read-requires : tie.Need-meirhuppa-read-requires
+meirhuppa-read-requires c κs = search (request-laws, needs)
+
+same-length-3 : tie.Need-same-length-3
+same-length-3 c = search (request-laws, needs)
+
+returns-3 : tie.Need-returns-3
+returns-3 c = search (request-laws, needs)
+
+meirhuppa-print-requires : tie.Need-meirhuppa-print-requires
+meirhuppa-print-requires c κs = search (request-laws, needs)
+
+same-length-4 : tie.Need-same-length-4
+same-length-4 c = search (request-laws, needs)
+
+returns-4 : tie.Need-returns-4
+returns-4 c = search (request-laws, needs)
 
 pub do-request-spec : {M : Type 1} → statement M
 do-request-spec =
@@ -34,4 +52,10 @@ do-request-spec =
     fill-bytes-requires
     meirhuppa-scan-requires
     same-length-2
-    returns-2)
+    returns-2
+    meirhuppa-read-requires
+    same-length-3
+    returns-3
+    meirhuppa-print-requires
+    same-length-4
+    returns-4)
