@@ -53,4 +53,7 @@ module _ (code units : ℕ) {o₀ o₁ o₂ o₃ : List ℕ} {p₁ p₂ p₃ : �
 pub printed-of : {l l′ : Line} {out out′ : List ℕ} {n : ℕ} → Printed (lineBytes l) out out′ n → l ≡ l′ → Printed (lineBytes l′) out out′ n
 printed-of {out = out} {out′} {n} w e = subst (λ (b : Line). Printed (lineBytes b) out out′ n) e w
 
-pub ruleset bytes-laws = (line-printed, placed-length, printed-of)
+pub code-of : {l l′ : Line} → l ≡ l′ → l .code ≡ l′ .code
+code-of e = ap (λ (l : Line). l .code) e
+
+pub ruleset bytes-laws = (line-printed, placed-length, printed-of, code-of)

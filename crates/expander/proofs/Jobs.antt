@@ -25,7 +25,7 @@ unfolding answerOf lineOf
 answer-line before e q = ap (λ (z : Answer). record { code = z .code; units = before + z .units }) q ∙ by e
   where
     by : (e : Ending) → record { code = (answerOf e) .code; units = before + (answerOf e) .units } ≡ lineOf before e
-    by (refused r u) = refl
+    by (refused r p u) = refl
     by (named n u) = refl
     by (written b u) = refl
 
@@ -45,27 +45,27 @@ expand-unnamed image ph budget room =
 
 refused-line : {a : Answer} (e : Ending) → Unnamed e → a ≡ answerOf e → (a .code ≡ 0 → ⊥) → record { code = a .code; units = a .units } ≡ thenParsed e
 unfolding answerOf lineOf thenParsed
-refused-line {a} (refused r u) w q n =
-    ap (λ (k : ℕ). record { code = a .code; units = k }) (sym (zero-add (a .units))) ∙ answer-line 0 (refused r u) q
+refused-line {a} (refused r p u) w q n =
+    ap (λ (k : ℕ). record { code = a .code; units = k }) (sym (zero-add (a .units))) ∙ answer-line 0 (refused r p u) q
 refused-line (named n u) w q k = absurd w
 refused-line (written b u) w q k = absurd (k (ap (λ (z : Answer). z .code) q))
 
 written-line : {a : Answer} {out′ : List ℕ} {l : Line} (out : List ℕ) (e : Ending) → Unnamed e → Ended e → a ≡ answerOf e → out′ ≡ outputAfter e out
     → l ≡ lineOf (a .units) (parseEnding (take (a .len) out′) programBudget mostImage) → l ≡ thenParsed e
 unfolding answerOf outputAfter thenParsed
-written-line out (refused r u) w d q o p = absurd d
+written-line out (refused r v u) w d q o p = absurd d
 written-line out (named n u) w d q o p = absurd w
 written-line {a} {out′} out (written b u) w d q o p =
     let b-is : take (a .len) out′ ≡ b = (λ i. take (q i .len) (o i)) ∙ take-whole b (drop (length b) out) in
     p ∙ (λ i. lineOf (q i .units) (parseEnding (b-is i) programBudget mostImage))
 
 -- of what the job promises
-module _ (image table out : List ℕ) {out′ table′ : List ℕ} {code units name len : ℕ}
-    (e : record { answer = record { code = code; units = units; name = name; len = len }; output = out′; table = table′ } ≡ expandJob image 0 400 table out) where
+module _ (image table out : List ℕ) {out′ table′ : List ℕ} {code units name len first second : ℕ}
+    (e : record { answer = record { code = code; units = units; name = name; len = len; first = first; second = second }; output = out′; table = table′ } ≡ expandJob image 0 400 table out) where
   ending : Ending
   ending = expandEnding image 0 400 (length out)
 
-  is : record { answer = record { code = code; units = units; name = name; len = len }; output = out′; table = table′ } ≡ lent 400 table out ending
+  is : record { answer = record { code = code; units = units; name = name; len = len; first = first; second = second }; output = out′; table = table′ } ≡ lent 400 table out ending
   unfolding ending
   is = e ∙ expandJob-is image 0 400 table out
 
@@ -98,8 +98,8 @@ module _ (image table out : List ℕ) {out′ table′ : List ℕ} {code units n
 
 -- ---- parsing
 
-module _ (image table out : List ℕ) {out′ table′ : List ℕ} {code units name len : ℕ}
-    (e : record { answer = record { code = code; units = units; name = name; len = len }; output = out′; table = table′ } ≡ parseJob image 400 table out) where
+module _ (image table out : List ℕ) {out′ table′ : List ℕ} {code units name len first second : ℕ}
+    (e : record { answer = record { code = code; units = units; name = name; len = len; first = first; second = second }; output = out′; table = table′ } ≡ parseJob image 400 table out) where
   pub both-units : {before : ℕ} → before ≤ 400 → Fits w32 (before + units)
   both-units h =
       let u = subst (λ (z : Result). z .answer .units ≤ 400) (sym e) (parse-units-are-within-the-budget image 400 table out) in

@@ -10,9 +10,10 @@ ghost use Rattle.model.specs.Jobs.{parseEnding, lineOf, program, lineBytes};
 ghost use Rattle.expander.specs.Lines.{lineIs, jobBudget, Lent};
 ghost use Rattle.expander.specs.Bytes.{Printed};
 
-const BUDGET: u32 = 400;
+// Units of each job.
+pub const BUDGET: u32 = 400;
 
-const WORDS: usize = BUDGET as usize * limits::WORDS_PER_UNIT;
+pub const WORDS: usize = BUDGET as usize * limits::WORDS_PER_UNIT;
 
 // Two words, two numbers of at most ten digits, three spaces and a line end.
 pub const MOST_BYTES: usize = 33;
@@ -21,6 +22,12 @@ pub const MOST_BYTES: usize = 33;
 pub struct Line {
     pub code: u32,
     pub units: u32,
+}
+
+// How many bytes the line of an image has, and the code that it tells.
+pub struct Shown {
+    pub length: usize,
+    pub code: u32,
 }
 
 // The line of parsing an image, after so many units.
@@ -71,10 +78,15 @@ pub fn put_line(l: Line, out: &mut [u8]) -> usize
     text::put_text(out, end, b"\n")
 }
 
-// All that the program prints for an image.
-pub fn print(image: &[u8], out: &mut [u8]) -> usize
+// All that the program prints for an image on standard output.
+pub fn print(image: &[u8], out: &mut [u8]) -> Shown
     requires { ⌜ 33 ≤ length (now out) ⌝ }
-    ensures { λ r. ⌜ Printed (lineBytes (program (now (image .entry)))) (now (out .entry)) (now (out .exit)) r ⌝ }
+    ensures bytes { λ r. ⌜ Printed (lineBytes (program (now (image .entry)))) (now (out .entry)) (now (out .exit)) (r .length) ⌝ }
+    ensures code { λ r. ⌜ r .code ≡ (program (now (image .entry))) .code ⌝ }
 {
-    put_line(of_image(image), out)
+    let l = of_image(image);
+    Shown {
+        length: put_line(l, out),
+        code: l.code,
+    }
 }

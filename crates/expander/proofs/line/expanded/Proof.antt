@@ -27,8 +27,12 @@ same-length-2 c = search (line-laws, needs)
 same-length-3 : tie.Need-same-length-3
 same-length-3 c = search (line-laws, needs)
 
+-- the search does not come back to these two by itself
 returns : tie.Need-returns
-returns c = search (line-laws, needs)
+returns c =
+    let asked = c .before .before .before .before .before .before .before .before .before .before .before .before .before .before .before .before .before .before .before .before .before .before .pre in
+    let expanded = c .before .before .before .before .before .before .before .before .before .before .before .before .before .before .before .meirhuppa-expand .ensures in
+    search (line-laws, needs)
 
 same-length-4 : tie.Need-same-length-4
 same-length-4 c = search (line-laws, needs)

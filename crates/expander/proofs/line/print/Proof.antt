@@ -16,4 +16,10 @@ returns : tie.Need-returns
 returns c = search (bytes-laws, needs)
 
 pub print-spec : {M : Type 1} → statement M
-print-spec = tie.close (tie.spec of-image-requires put-line-requires same-length returns)
+print-spec =
+    tie.close
+    (tie.spec
+    of-image-requires
+    put-line-requires
+    same-length
+    returns)
