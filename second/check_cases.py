@@ -15,11 +15,11 @@ def check(program):
     lines = subprocess.run([program], input=stream, capture_output=True, check=True).stdout
     lines = lines.decode().splitlines()
     passed, failed = 0, []
-    for index, (reason, _, job, code, units, name, result, column) in enumerate(edge_cases.CASES):
+    for index, (reason, _, job, code, units, name, rivals, result, column) in enumerate(edge_cases.CASES):
         line = lines[index] if index < len(lines) else "nothing"
         fields = line.split()
         faults = []
-        if len(fields) != 6:
+        if len(fields) != 8:
             faults.append("no answer")
         else:
             got_code, got_units, got_name, got_length = map(int, fields[:4])
@@ -29,16 +29,19 @@ def check(program):
                 faults.append(f"units {got_units}, expected {units}")
             if got_name != name:
                 faults.append(f"name {got_name}, expected {name}")
-            if fields[4] != column:
-                faults.append(f"table {fields[4]}, expected {column}")
+            got_rivals = int(fields[4]), int(fields[5])
+            if got_rivals != rivals:
+                faults.append(f"bindings {got_rivals}, expected {rivals}")
+            if fields[6] != column:
+                faults.append(f"table {fields[6]}, expected {column}")
             writes = code == 0 and job != "resolve"
-            if not writes and (got_length != 0 or fields[5] != "-"):
-                faults.append(f"wrote {fields[5][:80]}")
+            if not writes and (got_length != 0 or fields[7] != "-"):
+                faults.append(f"wrote {fields[7][:80]}")
             if writes and result is None:
                 faults.append("the case settles no result")
             if writes and isinstance(result, bytes):
-                if fields[5] != (result.hex() or "-") or got_length != len(result):
-                    got = image.show_written(job, bytes.fromhex(fields[5].rstrip("!-")))[-1]
+                if fields[7] != (result.hex() or "-") or got_length != len(result):
+                    got = image.show_written(job, bytes.fromhex(fields[7].rstrip("!-")))[-1]
                     wanted = image.show_written(job, result)[-1]
                     faults.append(f"wrote {got[:300]}, expected {wanted[:300]}")
         if faults:

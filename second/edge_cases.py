@@ -8,22 +8,25 @@ cases of the panel check (T-01) are in panel_cases.py, those of the scan runner
 (T-02) in scan_cases.py.
 """
 import panel_cases
+import rival_cases
 import scan_cases
 from image import (call, head, number, scope_set, sets, syntax_image, tree_image)
 
-CASES = []  # (reason, call bytes, job, code, units, name, output or None, table)
+CASES = []  # (reason, call bytes, job, code, units, name, rivals, output or None, table)
 UNKNOWN = object()  # an output or name that the case does not settle
 
 
 def case(reason, job, image, code=0, units=UNKNOWN, name=0, result=None, phase=0, budget=1024,
-         table=None, output=65536):
-    """result is the written image, needed when code is 0 and the job writes."""
+         table=None, output=65536, rivals=(0, 0)):
+    """result is the written image, needed when code is 0 and the job writes; rivals are the places of
+    the two bindings that compete, needed when code is 6."""
+    assert (code == 6) == (0 < rivals[0] < rivals[1])
     column = "kept" if code == 5 or budget == 0 else "clear"
     CASES.append((reason, call(job, image, phase, budget, table, output), job, code, units, name,
-                  result, column))
+                  rivals, result, column))
 
 
-def steps(reason, job, image, charges, code=0, result=None, phase=0, name=0):
+def steps(reason, job, image, charges, code=0, result=None, phase=0, name=0, rivals=(0, 0)):
     """Every charge refused once, then the end of the call at its exact budget."""
     spent = 0
     for index, charge in enumerate(charges):
@@ -31,7 +34,8 @@ def steps(reason, job, image, charges, code=0, result=None, phase=0, name=0):
             case(f"{reason}: charge {index + 1} of {len(charges)} is refused", job, image, 19,
                  spent, phase=phase, budget=spent + charge - 1)
         spent += charge
-    case(f"{reason}: {spent} units", job, image, code, spent, name, result, phase, budget=spent)
+    case(f"{reason}: {spent} units", job, image, code, spent, name, result, phase, budget=spent,
+         rivals=rivals)
 
 
 # ==== the samples of document 01 ====
@@ -47,7 +51,7 @@ sample(1, "no candidate", "resolve", syntax_image("x", **XY), 0, 1, 4)
 sample(2, "the larger set wins", "resolve",
        syntax_image("x{1,2}", bindings=[("x", [], 6), ("x", [1], 7)], **XY), 0, 1, 7)
 sample(3, "neither contains the other", "resolve",
-       syntax_image("x{1,2}", bindings=[("x", [1], 6), ("x", [2], 7)], **XY), 6, 1)
+       syntax_image("x{1,2}", bindings=[("x", [1], 6), ("x", [2], 7)], **XY), 6, 1, rivals=(1, 2))
 sample(4, "one contains both", "resolve",
        syntax_image("x{1,2}", bindings=[("x", [1], 6), ("x", [2], 7), ("x", [1, 2], 8)], **XY),
        0, 1, 8)
@@ -96,7 +100,7 @@ sample(14, "nesting 64 is read", "resolve", syntax_image(nested(63)), 8, 64)
 sample(14, "nesting 65 is not", "resolve", syntax_image(nested(64)), 2, 0)
 case("wrong turn: the candidate with the most scopes", "resolve",
      syntax_image("x{1,2,3}", words=["x", "y"], made=2, scopes=3,
-                  bindings=[("x", [1, 2], 6), ("x", [3], 7)]), 6, 1)
+                  bindings=[("x", [1, 2], 6), ("x", [3], 7)]), 6, 1, rivals=(1, 2))
 
 # ==== budget, table, phase: 5, then 12, then the image ====
 
@@ -351,7 +355,8 @@ case("bindings: sets ascend over all four words", "resolve",
 case("bindings: of eight sets over three words the largest", "resolve",
      bound(FOUR_WORDS, "x{64,65,129}", scopes=256), 0, 1, 7)
 case("bindings: {64,65,193} does not contain {194}", "resolve",
-     bound(FOUR_WORDS, "x{64,65,193,194}", scopes=256), 6, 1)
+     bound(FOUR_WORDS, "x{64,65,193,194}", scopes=256), 6, 1,
+     rivals=(1 + ASCENDING.index([64, 65, 193]), 1 + ASCENDING.index([193, 194])))
 for before, after in zip(ASCENDING, ASCENDING[1:]):
     case(f"bindings: {before}, then {after}", "resolve",
          bound([(4, 6, before), (4, 6, after)], "y", scopes=256), 0, 1, 5)
@@ -475,7 +480,7 @@ steps("resolve pays for loading only", "resolve", syntax_image("x"), [1], name=4
 steps("resolve: no identifier is 8 after the charge", "resolve", syntax_image("(1 2)"), [3], 8)
 steps("resolve: a number is no identifier", "resolve", syntax_image("1"), [1], 8)
 steps("resolve: 6 after the charge", "resolve",
-      syntax_image("x{1,2}", scopes=2, bindings=[("x", [1], 4), ("x", [2], 4)]), [1], 6)
+      syntax_image("x{1,2}", scopes=2, bindings=[("x", [1], 4), ("x", [2], 4)]), [1], 6, rivals=(1, 2))
 steps("loading counts a syntax value as its object", "evaluate",
       tree_image("<`(1 (2 3)) 4>"), [7, 1], result=tree_image("<`(1 (2 3)) 4>"))
 steps("loading counts every part of a tree", "evaluate", tree_image("[0 (<1 [1 $0]> $0)]"),
@@ -490,7 +495,7 @@ case("a root of size 4,096 is loaded", "resolve",
 def resolving(reason, text, rows, code, name=0, phase=0, scopes=4):
     case(f"resolve: {reason}", "resolve",
          syntax_image(text, words=["x", "y"], made=6, scopes=scopes, bindings=rows), code, 1, name,
-         phase=phase)
+         phase=phase, rivals=rivals)
 
 
 resolving("another symbol's binding is no candidate", "x{1}", [("y", [1], 6)], 0, 4)
@@ -499,15 +504,17 @@ resolving("the sets may be equal", "x{1,2}", [("x", [1, 2], 6)], 0, 6)
 resolving("a set that is larger is no candidate", "x{1,2}", [("x", [1, 2, 3], 6), ("x", [1], 7)], 0, 7)
 resolving("a chain of candidates", "x{1,2,3}",
           [("x", [], 6), ("x", [1], 7), ("x", [1, 2], 8), ("x", [1, 2, 3], 9)], 0, 9)
-resolving("two pairs that share a scope", "x{1,2,3}", [("x", [1, 2], 6), ("x", [2, 3], 7)], 6)
+resolving("two pairs that share a scope", "x{1,2,3}", [("x", [1, 2], 6), ("x", [2, 3], 7)], 6,
+          rivals=(1, 2))
 resolving("the union of two pairs settles it", "x{1,2,3}",
           [("x", [1, 2], 6), ("x", [2, 3], 7), ("x", [1, 2, 3], 8)], 0, 8)
 resolving("larger than the union is no candidate", "x{1,2,3}",
-          [("x", [1, 2], 6), ("x", [2, 3], 7), ("x", [1, 2, 3, 4], 8)], 6)
-resolving("three that meet nowhere", "x{1,2,3}", [("x", [1], 6), ("x", [2], 7), ("x", [3], 8)], 6)
+          [("x", [1, 2], 6), ("x", [1, 2, 3, 4], 8), ("x", [2, 3], 7)], 6, rivals=(1, 3))
+resolving("three that meet nowhere", "x{1,2,3}", [("x", [1], 6), ("x", [2], 7), ("x", [3], 8)], 6,
+          rivals=(1, 2))
 resolving("one contains another, the third neither", "x{1,2,3}",
-          [("x", [1], 6), ("x", [1, 2], 7), ("x", [3], 8)], 6)
-resolving("the same target does not help", "x{1,2}", [("x", [1], 6), ("x", [2], 6)], 6)
+          [("x", [1], 6), ("x", [1, 2], 7), ("x", [3], 8)], 6, rivals=(2, 3))
+resolving("the same target does not help", "x{1,2}", [("x", [1], 6), ("x", [2], 6)], 6, rivals=(1, 2))
 resolving("a core symbol may be bound", "lambda{1}", [("lambda", [1], 6)], 0, 6)
 resolving("a core symbol not bound here", "lambda", [("lambda", [1], 6)], 0, 0)
 resolving("only the phase's own set counts", "x{1|2|3}", [("x", [1], 6), ("x", [2], 7), ("x", [3], 8)],
@@ -520,7 +527,7 @@ for h in (65, 128, 129, 192, 193, 256):
     resolving(f"with scope {h}: the larger set wins", f"x{{1,{h}}}", [("x", [1], 6), ("x", [1, h], 7)],
               0, 7, scopes=256)
     resolving(f"with scope {h}: neither contains the other", f"x{{1,{h}}}",
-              [("x", [1], 6), ("x", [h], 7)], 6, scopes=256)
+              [("x", [1], 6), ("x", [h], 7)], 6, scopes=256, rivals=(1, 2))
     resolving(f"with scope {h}: one contains both", f"x{{1,{h}}}",
               [("x", [1], 6), ("x", [1, h], 8), ("x", [h], 7)], 0, 8, scopes=256)
     resolving(f"with scope {h}: it is not in the identifier's set", "x{1}",
@@ -537,22 +544,22 @@ for one in (1, 65, 129, 193):
     resolving(f"scope {one} is found among four", f"x{{{one}}}",
               [("x", [s], 6 + (s == one)) for s in (1, 65, 129, 193)], 0, 7, scopes=256)
     resolving(f"all four but scope {one}", "x{1,65,129,193}",
-              [("x", [one], 6), ("x", sum(others, []), 7)], 6, scopes=256)
+              [("x", [one], 6), ("x", sum(others, []), 7)], 6, scopes=256, rivals=(1, 2))
 resolving("four scopes, a word for each", "x{1,65,129,193}",
           [("x", [1], 6), ("x", [1, 65], 7), ("x", [1, 65, 129], 8), ("x", [1, 65, 129, 193], 9)],
           0, 9, scopes=256)
 resolving("two sets, each over two words", "x{64,65,192,193}",
-          [("x", [64, 65], 6), ("x", [192, 193], 7)], 6, scopes=256)
+          [("x", [64, 65], 6), ("x", [192, 193], 7)], 6, scopes=256, rivals=(1, 2))
 resolving("their union over all four words settles it", "x{64,65,192,193}",
           [("x", [64, 65], 6), ("x", [64, 65, 192, 193], 8), ("x", [192, 193], 7)], 0, 8, scopes=256)
 resolving("the most scopes do not win over a word's end", "x{64,65,66,256}",
-          [("x", [64, 65, 66], 6), ("x", [256], 7)], 6, scopes=256)
+          [("x", [64, 65, 66], 6), ("x", [256], 7)], 6, scopes=256, rivals=(1, 2))
 EVERY = list(range(1, 257))
 EVERY_SCOPE = "{" + ",".join(map(str, EVERY)) + "}"
 resolving("all 256 scopes", "x" + EVERY_SCOPE, [("x", EVERY[:-1], 6), ("x", EVERY, 7)], 0, 7,
           scopes=256)
 resolving("all but one on each side", "x" + EVERY_SCOPE,
-          [("x", EVERY[:-1], 6), ("x", EVERY[1:], 7)], 6, scopes=256)
+          [("x", EVERY[:-1], 6), ("x", EVERY[1:], 7)], 6, scopes=256, rivals=(1, 2))
 
 # ==== expanding: identifiers, atoms, applications ====
 
@@ -562,7 +569,8 @@ for text in ("@1023", "#6", "'15", "4294967295"):
          result=syntax_image(text + "{1|1|1}", scopes=1))
 steps("expand: an identifier without meaning", "expand", syntax_image("x"), [1, 1], 7)
 steps("expand: an ambiguous identifier", "expand",
-      syntax_image("x{1,2}", scopes=2, bindings=[("x", [1], 4), ("x", [2], 4)]), [1, 1], 6)
+      syntax_image("x{1,2}", scopes=2, bindings=[("x", [1], 4), ("x", [2], 4)]), [1, 1], 6,
+      rivals=(1, 2))
 for word in ("lambda", "let-syntax", "quote", "syntax"):
     steps(f"expand: {word} alone", "expand", syntax_image(word), [1, 1], 8)
 case("expand: a word bound to a core form alone", "expand",
@@ -572,7 +580,8 @@ case("expand: a core word bound to a word has no meaning", "expand",
 steps("expand: the empty list", "expand", syntax_image("()"), [1, 1], 8)
 steps("expand: 7 comes with the head's own entry", "expand", syntax_image("(x)"), [2, 1, 1], 7)
 steps("expand: an ambiguous head", "expand",
-      syntax_image("(x{1,2} ())", scopes=2, bindings=[("x", [1], 4), ("x", [2], 4)]), [3, 1], 6)
+      syntax_image("(x{1,2} ())", scopes=2, bindings=[("x", [1], 4), ("x", [2], 4)]), [3, 1], 6,
+      rivals=(1, 2))
 steps("expand: parts left to right", "expand", syntax_image("(1 () x)"), [4, 1, 1, 1], 8)
 steps("expand: parts left to right, the other way", "expand", syntax_image("(1 x ())"),
       [4, 1, 1, 1], 7)
@@ -827,9 +836,10 @@ case("expand: a macro that is a primitive of one argument", "expand",
      syntax_image("(let-syntax m #first (m))"), 11, 22)
 case("expand: the primitive's charge comes before 11", "expand",
      syntax_image("(let-syntax m #first (m))"), 19, 21, budget=21)
+# The binding of m, which is made first, stands before those of x.
 case("expand: an ambiguous word in a right-hand side", "expand",
      syntax_image("(let-syntax m x{|1,2} 1)", words=["m", "x"], scopes=2,
-                  bindings=[("x", [1], 4), ("x", [2], 4)]), 6, 5 + 2 + 1)
+                  bindings=[("x", [1], 4), ("x", [2], 4)]), 6, 5 + 2 + 1, rivals=(2, 3))
 # Scopes of m, of z (phase 1), of the use and of the introduction follow those that are there; what the
 # template brings has the last one alone.
 for scopes in (60, 61, 62, 63, 64, 124, 125, 126, 127, 188, 189, 190, 191, 251):
@@ -1090,18 +1100,19 @@ for text in ("()", "(let-syntax m 1 1)", "(let-syntax)", "(lambda)", "(lambda x)
              "(lambda 1 x)", "(lambda (x) x)", "(quote)", "(quote x x)", "(syntax)", "(syntax x x)"):
     case(f"parse: the shape {text}", "parse", syntax_image(text), 8)
 AMBIGUOUS = dict(words=["x"], scopes=2, bindings=[("x", [1], 4), ("x", [2], 4)])
-steps("parse: an ambiguous identifier", "parse", syntax_image("x{1,2}", **AMBIGUOUS), [1, 1], 6)
+steps("parse: an ambiguous identifier", "parse", syntax_image("x{1,2}", **AMBIGUOUS), [1, 1], 6,
+      rivals=(1, 2))
 steps("parse: an ambiguous binder comes before the body", "parse",
-      syntax_image("(lambda x{1,2} ())", **AMBIGUOUS), [4, 1], 6)
+      syntax_image("(lambda x{1,2} ())", **AMBIGUOUS), [4, 1], 6, rivals=(1, 2))
 steps("parse: an ambiguous head comes before its parts", "parse",
-      syntax_image("(x{1,2} ())", **AMBIGUOUS), [3, 1], 6)
+      syntax_image("(x{1,2} ())", **AMBIGUOUS), [3, 1], 6, rivals=(1, 2))
 case("parse: the shape comes before the binder is resolved", "parse",
      syntax_image("(lambda x{1,2})", **AMBIGUOUS), 8, 4)
 case("parse: an ambiguous quoted word does no harm", "parse",
      syntax_image("(quote x{1,2})", **AMBIGUOUS), 0, 5, result=tree_image("x", scopes=2))
 case("parse: parts left to right", "parse", syntax_image("(1 () x{1,2})", **AMBIGUOUS), 8, 7)
 case("parse: parts left to right, the other way", "parse",
-     syntax_image("(1 x{1,2} ())", **AMBIGUOUS), 6, 7)
+     syntax_image("(1 x{1,2} ())", **AMBIGUOUS), 6, 7, rivals=(1, 2))
 case("parse: a binder gives the name it resolves to", "parse",
      syntax_image("(lambda x{1} x{2})", words=["x"], made=2, scopes=2,
                   bindings=[("x", [1], 5), ("x", [2], 6)]), 0, 6,

@@ -25,7 +25,8 @@ import collections
 CORE = ["lambda", "let-syntax", "quote", "syntax"]
 PRIMITIVES = ["stx-e", "mk-stx", "first", "rest", "link", "same", "pick"]
 RUNG_WORDS = ["and", "or", "not", "out", "set", "all"]
-JOBS = ["resolve", "expand", "parse", "evaluate", "panel", "scan"]
+JOBS = ["resolve", "expand", "parse", "evaluate", "panel", "scan", "read", "print"]
+UNBUDGETED = JOBS[4:]  # take neither phase, budget nor table
 SYMBOL, NUMBER, POINT, PRIMITIVE, RUNG_WORD, LIST = range(6)
 VARIABLE, APPLICATION, FUNCTION, ATOM, LIST_VALUE, SYNTAX_VALUE = range(6)
 TABLE_WORDS_PER_UNIT = 40
@@ -217,7 +218,7 @@ def recording(scans):
 
 # A call of the stream; the recording is empty but for the job scan, whose number is SCAN.
 Call = collections.namedtuple("Call", "job phase budget table output image recording")
-SCAN = JOBS.index("scan")
+SCAN, READ = JOBS.index("scan"), JOBS.index("read")
 
 
 def call_bytes(call, number=number):

@@ -15,7 +15,7 @@ def panel(reason, given, code=0, names=(), made=8, phase=0, budget=0, table=0, o
     image = given if isinstance(given, bytes) else tree_image(given, made=made)
     result = bits(names) if code == 0 else None
     CASES.append((f"panel: {reason}", call("panel", image, phase, budget, table, output), "panel",
-                  code, 0, 0, result, "kept"))
+                  code, 0, 0, (0, 0), result, "kept"))
 
 
 RUNG = "('out @1 @2)"
@@ -81,7 +81,7 @@ NO_PROGRAM = [
     ("a list value of a bit", f"<[5 {RUNG}] 0>"),
     ("a program alone in an application", f"({RUNG})"), ("a program applied to a number", f"({RUNG} 0)"),
     ("a bit applied", f"(([5 {RUNG}] 0) 0)"), ("a bit's name applied", "($4 0)"), ("a number applied", "(0 @1 @2)"),
-    ("a point applied", "(@1 @2)"), ("a symbol applied", "(lambda @1 @2)"),
+    ("a point applied", "(@1 @2)"), ("point 3 applied, where rung word 3 is `out`", "(@3 @1 @2)"), ("a symbol applied", "(lambda @1 @2)"),
     ("a list value applied", "(<'out> @1 @2)"), ("a syntax value applied", "(`'out @1 @2)"),
     ("a function applied to nothing", f"([5 {RUNG}])"), ("a function applied to 0 twice", f"([5 {RUNG}] 0 0)"),
     ("a function applied to 0 and a rung", f"([5 {RUNG}] 0 {RUNG})"),

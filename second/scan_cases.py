@@ -24,7 +24,7 @@ def scan(reason, given, scans, values=(), code=0, made=8, output=1024, **numbers
     recorded = scans if isinstance(scans, bytes) else recording(scans)
     numbers = dict(phase=0, budget=0, table=0) | numbers
     CASES.append((f"scan: {reason}", call("scan", image, output=output, recording=recorded, **numbers), "scan",
-                  code, 0, 0, shown(values) if code == 0 else None, "kept"))
+                  code, 0, 0, (0, 0), shown(values) if code == 0 else None, "kept"))
 
 
 def refused(reason, code, given, scans, **numbers):

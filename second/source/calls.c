@@ -136,8 +136,9 @@ static void choose_sizes(Call *call, const Answer *answer)
 {
     if (is_unbudgeted(call->job)) {
         choose_unused(call);
-        call->output_length = call->job == JOB_PANEL ? choose_panel_output(answer->length)
-                                                     : choose_lines_output(answer->length);
+        call->output_length = call->job == JOB_PANEL  ? choose_panel_output(answer->length)
+                              : call->job == JOB_SCAN ? choose_lines_output(answer->length)
+                                                      : choose_output(answer->length);
     } else {
         call->budget = choose_budget(answer->units);
         call->table_words = choose_table(call->budget);
@@ -178,11 +179,11 @@ static void emit(Job job, const Draft *draft, Answer *answer)
 static Job choose_job(uint32_t kind)
 {
     if (percent(2))
-        return (Job)below(JOB_SCAN + 1);
+        return (Job)below(JOBS);
     if (kind == TREE_IMAGE)
         return percent(95) ? JOB_EVALUATE : percent(50) ? JOB_PANEL : JOB_SCAN;
     uint32_t choice = below(10);
-    return choice < 6 ? JOB_EXPAND : choice < 9 ? JOB_PARSE : JOB_RESOLVE;
+    return choice < 5 ? JOB_EXPAND : choice < 8 ? JOB_PARSE : choice < 9 ? JOB_RESOLVE : JOB_PRINT;
 }
 
 static void make_draft(Draft *draft, Job *job)
@@ -196,7 +197,11 @@ static void make_draft(Draft *draft, Job *job)
         *job = percent(95) ? JOB_RESOLVE : choose_job(draft->kind);
     } else if (choice < 53) {
         draft_object(memory, draft);
-        *job = percent(90) ? JOB_PARSE : choose_job(draft->kind);
+        *job = percent(65) ? JOB_PARSE : percent(75) ? JOB_PRINT : choose_job(draft->kind);
+        if (below(300) == 0 && small == 0) {
+            draft_long_words(memory, draft);
+            *job = JOB_PRINT;
+        }
     } else if (choice < 74) {
         draft_tree(memory, draft);
         *job = choose_job(draft->kind);
@@ -224,7 +229,15 @@ static bool take_result(Draft *draft, const Answer *answer, uint32_t kind)
    checked or evaluated in turn. */
 static void go_on(Job job, Draft *draft, Answer *answer)
 {
-    if (job == JOB_EXPAND && percent(35) && take_result(draft, answer, SYNTAX_IMAGE)) {
+    if (job == JOB_READ && percent(50) && take_result(draft, answer, SYNTAX_IMAGE)) {
+        emit(percent(60) ? JOB_PRINT : JOB_EXPAND, draft, answer);
+    } else if (job == JOB_PRINT && percent(30) && take_result(draft, answer, 0)) {
+        emit(JOB_READ, draft, answer);
+    } else if (job == JOB_EXPAND && percent(35) && take_result(draft, answer, SYNTAX_IMAGE)) {
+        if (percent(10)) { /* shown; what it wrote is no image */
+            emit(JOB_PRINT, draft, answer);
+            return;
+        }
         if (percent(10)) /* expanded again */
             emit(JOB_EXPAND, draft, answer);
         if (take_result(draft, answer, SYNTAX_IMAGE))

@@ -17,8 +17,21 @@ void choose_counts(void);
 /* Writes the image at hand. */
 void finish_draft(Draft *draft);
 
+/* Parts of syntax, without scopes. */
+const Object *atom(ObjectTag tag, uint32_t content);
+const Object *symbol(uint32_t number);
+const Object *list_of(uint32_t count, const Object *const *given);
+const Object *lambda_of(const Object *binder, const Object *body);
+const Object *let_syntax(uint32_t word, const Object *value, const Object *body);
+const Object *syntax(const Object *object);
 const Object *any_atom(void);
 const Object *any_object(int depth);
+
+/* A word of the image, now and then a core word. */
+uint32_t any_word(void);
+
+/* Puts a binding in order, but where it is there already or no room is left. */
+void add_binding(Binding binding);
 
 /* The object with scopes of the image in some of its sets. */
 const Object *sprinkle(const Object *object, uint32_t of_hundred);

@@ -15,12 +15,12 @@ Image draft_image;
 
 static const ScopeSet bare[PHASES]; /* no scopes */
 
-static const Object *atom(ObjectTag tag, uint32_t content)
+const Object *atom(ObjectTag tag, uint32_t content)
 {
     return make_atom_object(draft_memory, (Atom){tag, content}, bare);
 }
 
-static const Object *symbol(uint32_t number)
+const Object *symbol(uint32_t number)
 {
     return atom(SYMBOL, number);
 }
@@ -30,7 +30,7 @@ static const Object *primitive(uint32_t number)
     return atom(PRIMITIVE, number);
 }
 
-static const Object *list_of(uint32_t count, const Object *const *given)
+const Object *list_of(uint32_t count, const Object *const *given)
 {
     const Object **parts = take_object_parts(draft_memory, count);
     for (uint32_t i = 0; i < count; i++)
@@ -58,12 +58,17 @@ static const Object *list4(const Object *a, const Object *b, const Object *c, co
     return list_of(4, (const Object *[]){a, b, c, d});
 }
 
-static const Object *lambda(uint32_t word, const Object *body)
+const Object *lambda_of(const Object *binder, const Object *body)
 {
-    return list3(symbol(LAMBDA), symbol(word), body);
+    return list3(symbol(LAMBDA), binder, body);
 }
 
-static const Object *let_syntax(uint32_t word, const Object *value, const Object *body)
+static const Object *lambda(uint32_t word, const Object *body)
+{
+    return lambda_of(symbol(word), body);
+}
+
+const Object *let_syntax(uint32_t word, const Object *value, const Object *body)
 {
     return list4(symbol(LET_SYNTAX), symbol(word), value, body);
 }
@@ -73,7 +78,7 @@ static const Object *quote(const Object *object)
     return list2(symbol(QUOTE), object);
 }
 
-static const Object *syntax(const Object *object)
+const Object *syntax(const Object *object)
 {
     return list2(symbol(SYNTAX), object);
 }
@@ -117,7 +122,7 @@ static void choose_words(uint32_t count)
     }
 }
 
-static uint32_t any_word(void)
+uint32_t any_word(void)
 {
     if (draft_image.word_count == 0 || percent(2))
         return below(CORE_NAMES);
@@ -626,7 +631,7 @@ const Object *sprinkle(const Object *object, uint32_t of_hundred)
     return make_list_object(draft_memory, object->count, parts, sets);
 }
 
-static void add_binding(Binding binding)
+void add_binding(Binding binding)
 {
     uint32_t place = draft_image.binding_count;
     if (place == MOST_BINDINGS)

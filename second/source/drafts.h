@@ -3,6 +3,7 @@
 #define DRAFTS_H
 
 #include "image.h"
+#include "jobs.h"
 
 enum { DRAFT_ROOM = 70000 };
 
@@ -16,6 +17,8 @@ typedef struct {
 void draft_program(Memory *memory, Draft *draft); /* for expand, most of them accepted */
 void draft_identifier(Memory *memory, Draft *draft);
 void draft_object(Memory *memory, Draft *draft); /* any syntax, for parse */
+/* A word whose bindings compete, for resolve, expand or parse. */
+void draft_rivals(Memory *memory, Job job, Draft *draft);
 void draft_tree(Memory *memory, Draft *draft);
 void draft_panel(Memory *memory, Draft *draft); /* for the panel check */
 void draft_ladder(Memory *memory, Draft *draft); /* a panel program for scans, accepted */

@@ -73,17 +73,10 @@ static void do_job(Work *work, const Call *call, Answer *answer)
     case JOB_EVALUATE:
         do_evaluate(work);
         break;
-    case JOB_PANEL:
-    case JOB_SCAN:
-        return; /* take no budget and do not come here */
+    default:
+        return; /* takes no budget and does not come here */
     }
-    if (work->code != SUCCESS)
-        return;
-    size_t room = call->output_length < LONGEST_IMAGE ? call->output_length : LONGEST_IMAGE;
-    size_t length;
-    if (write_image(image, answer->output, room, &length))
-        answer->length = (uint32_t)length;
-    else
+    if (work->code == SUCCESS && !write_result(call, image, answer))
         refuse(work, TOO_LONG);
 }
 
@@ -166,14 +159,10 @@ void answer_call(Memory *memory, const Call *call, Answer *answer)
 {
     static Image image;
     clear_memory(memory);
-    answer->units = answer->name = answer->length = 0;
+    answer->units = answer->name = answer->length = answer->first = answer->second = 0;
 
-    if (call->job == JOB_PANEL) {
-        answer_panel(memory, call, &image, answer);
-        return;
-    }
-    if (call->job == JOB_SCAN) {
-        answer_scan(memory, call, answer);
+    if (is_unbudgeted(call->job)) {
+        answer_unbudgeted(memory, call, &image, answer);
         return;
     }
     if (call->budget > MOST_BUDGET ||
@@ -198,4 +187,6 @@ void answer_call(Memory *memory, const Call *call, Answer *answer)
     do_job(&work, call, answer);
     answer->code = work.code;
     answer->units = work.units;
+    answer->first = work.first;
+    answer->second = work.second;
 }

@@ -8,7 +8,17 @@
 #include "image.h"
 #include "scans.h"
 
-typedef enum { JOB_RESOLVE, JOB_EXPAND, JOB_PARSE, JOB_EVALUATE, JOB_PANEL, JOB_SCAN } Job;
+typedef enum {
+    JOB_RESOLVE,
+    JOB_EXPAND,
+    JOB_PARSE,
+    JOB_EVALUATE,
+    JOB_PANEL,
+    JOB_SCAN,
+    JOB_READ,
+    JOB_PRINT,
+    JOBS
+} Job;
 
 /* Lines of scans may be longer than an image; a stream lends no more than this. */
 enum { LONGEST_OUTPUT = 70000 };
@@ -16,7 +26,7 @@ enum { LONGEST_OUTPUT = 70000 };
 typedef struct {
     Job job;
     uint32_t phase; /* used by resolve and expand */
-    uint32_t budget; /* not used by panel and scan, nor is the table */
+    uint32_t budget; /* not used by panel, scan, read and print, nor is the table */
     uint32_t table_words;
     uint32_t output_length; /* not used by resolve */
     const uint8_t *image;
@@ -30,13 +40,14 @@ typedef struct {
     uint32_t units;
     uint32_t name;
     uint32_t length;
+    uint32_t first, second; /* with code 6: the places of two bindings that compete */
     uint8_t output[LONGEST_OUTPUT]; /* the first length bytes are written */
 } Answer;
 
 /* Whether the job takes neither phase, budget nor table. */
 static inline bool is_unbudgeted(Job job)
 {
-    return job == JOB_PANEL || job == JOB_SCAN;
+    return job >= JOB_PANEL;
 }
 
 /* Reads a tree image and checks it against the profile: every refusal of the

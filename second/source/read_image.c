@@ -1,7 +1,6 @@
 /* Reading an image from the front; the first fault decides. */
-#include <string.h>
-
 #include "image.h"
+#include "words.h"
 
 typedef struct {
     const uint8_t *bytes;
@@ -107,11 +106,10 @@ static bool read_word(Reader *reader, uint32_t index)
         return fault(reader, BAD_LAYOUT);
     word.bytes = reader->bytes + reader->place;
     reader->place += word.length;
-    if (!is_word(word) || is_core_word(word))
+    if (!is_word(word) || core_name(word) < CORE_NAMES)
         return fault(reader, BAD_LAYOUT);
     for (uint32_t i = 0; i < index; i++)
-        if (image->words[i].length == word.length &&
-            memcmp(image->words[i].bytes, word.bytes, word.length) == 0)
+        if (same_words(image->words[i], word))
             return fault(reader, BAD_LAYOUT);
     image->words[index] = word;
     return true;

@@ -1,10 +1,49 @@
-/* Resolving an identifier at a phase. */
+/* Resolving an identifier at a phase, and who competes where that fails. */
 #include "work.h"
 
 static bool is_candidate(const Binding *binding, const Object *identifier, uint32_t phase)
 {
     return binding->symbol == identifier->content &&
            is_contained(binding->set, identifier->sets[phase]);
+}
+
+/* The candidates among the bindings of an image. */
+typedef struct {
+    const Image *image;
+    const Object *identifier;
+    uint32_t phase;
+} Candidates;
+
+static bool is_one_of(const Candidates *candidates, uint32_t place)
+{
+    return is_candidate(&candidates->image->bindings[place], candidates->identifier,
+                        candidates->phase);
+}
+
+/* Whether another candidate contains the one at a place. */
+static bool is_outdone(const Candidates *candidates, uint32_t place)
+{
+    const Image *image = candidates->image;
+    for (uint32_t i = 0; i < image->binding_count; i++)
+        if (i != place && is_one_of(candidates, i) &&
+            is_contained(image->bindings[place].set, image->bindings[i].set))
+            return true;
+    return false;
+}
+
+/* The first two candidates that no other contains, by their places from 1. Of
+   those that are contained in no other there are two at least: were there one,
+   it would contain all. */
+static void name_rivals(Work *work, const Candidates *candidates)
+{
+    for (uint32_t i = 0; i < candidates->image->binding_count && work->second == 0; i++) {
+        if (!is_one_of(candidates, i) || is_outdone(candidates, i))
+            continue;
+        if (work->first == 0)
+            work->first = i + 1;
+        else
+            work->second = i + 1;
+    }
 }
 
 /* A candidate contains every other exactly when its set is the union of all
@@ -31,6 +70,7 @@ bool resolve(Work *work, const Object *identifier, uint32_t phase, uint32_t *nam
             return true;
         }
     }
+    name_rivals(work, &(Candidates){image, identifier, phase});
     refuse(work, AMBIGUOUS);
     return false;
 }

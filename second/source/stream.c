@@ -36,7 +36,7 @@ Met read_call(FILE *stream, Call *call, Inputs *inputs)
     Met met = read_stream_number(stream, &job);
     if (met != A_CALL)
         return met;
-    if (job > JOB_SCAN)
+    if (job >= JOBS)
         return CUT;
     call->job = (Job)job;
     if (read_stream_number(stream, &call->phase) != A_CALL ||
@@ -95,8 +95,9 @@ static const char *table_column(const Call *call, const Answer *answer)
 void write_answer_line(FILE *stream, const Call *call, const Answer *answer)
 {
     static const char digits[] = "0123456789abcdef";
-    fprintf(stream, "%u %u %u %u %s ", (unsigned)answer->code, (unsigned)answer->units,
-            (unsigned)answer->name, (unsigned)answer->length, table_column(call, answer));
+    fprintf(stream, "%u %u %u %u %u %u %s ", (unsigned)answer->code, (unsigned)answer->units,
+            (unsigned)answer->name, (unsigned)answer->length, (unsigned)answer->first,
+            (unsigned)answer->second, table_column(call, answer));
     if (answer->length == 0)
         putc('-', stream);
     for (uint32_t i = 0; i < answer->length; i++) {

@@ -23,7 +23,7 @@ Met read_call(FILE *stream, Call *call, Inputs *inputs);
 
 void write_call(FILE *stream, const Call *call);
 
-/* CODE UNITS NAME LENGTH TABLE OUTPUT */
+/* CODE UNITS NAME LENGTH FIRST SECOND TABLE OUTPUT */
 void write_answer_line(FILE *stream, const Call *call, const Answer *answer);
 
 #endif

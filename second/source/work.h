@@ -15,6 +15,7 @@ typedef struct {
     uint32_t units;   /* charged so far, never over the budget */
     uint32_t entries; /* in progress */
     Code code;        /* SUCCESS until something is refused */
+    uint32_t first, second; /* with 6: the places of two bindings that compete, from 1 */
     Image *image;     /* names, scopes and bindings grow here */
     Memory *memory;
 } Work;
@@ -33,7 +34,7 @@ void leave(Work *work);
 const Object *made_object(Work *work, const Object *object);
 const Tree *made_tree(Work *work, const Tree *tree);
 
-/* What an identifier names at a phase, or 6. */
+/* What an identifier names at a phase, or 6 and who competes. */
 bool resolve(Work *work, const Object *identifier, uint32_t phase, uint32_t *name);
 
 /* ---- shapes that expand and parse ask for ---- */
