@@ -15,7 +15,8 @@ ROOT = os.path.dirname(os.path.dirname(os.path.abspath(__file__)))
 SECOND = os.path.join(ROOT, "second")
 BUILT = os.path.join(ROOT, "target", "bin")
 
-Answer = namedtuple("Answer", "line code units written")
+# The two bindings that compete are 0 but with code 6.
+Answer = namedtuple("Answer", "line code units rivals written")
 Head = namedtuple("Head", "names made scopes")
 
 
@@ -36,8 +37,9 @@ def ask(replay, job, given, budget):
     line = subprocess.run(command(replay), input=call, stdout=subprocess.PIPE, check=True).stdout.decode().strip()
     if len(line.split()) < 6:
         raise ValueError(f"{replay} prints {line!r} for a call of {job}")
-    code, units, *_, written = line.split()
-    return Answer(line, int(code), int(units), b"" if written == "-" else bytes.fromhex(written))
+    *numbers, _, written = line.split()
+    code, units, _, _, *rivals = map(int, numbers)
+    return Answer(line, code, units, rivals, b"" if written == "-" else bytes.fromhex(written))
 
 
 def expand_and_parse(replay, given, budget):

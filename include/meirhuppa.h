@@ -39,6 +39,11 @@ typedef struct meirhuppa_answer {
     uint32_t length; /* of the image or the lines written, in bytes; of the panel check, four for each bit; else 0 */
 } meirhuppa_answer;
 
+/* Who competes. With MEIRHUPPA_AMBIGUOUS, and only then, `first` and `second` say where to look: at two bindings that both fit the word, of which
+ * neither contains the other, so that nothing says which one is meant. They are places counted from 1, in image order, in the store at that moment:
+ * the image's bindings and those that expanding has made so far, each where an image written just then would have it. (Resolve and parse make
+ * none: there it is the image's own list.) first < second, and they are the first two of the fitting bindings that no other fitting one contains. */
+
 enum meirhuppa_code {
     MEIRHUPPA_SUCCESS = 0,
     MEIRHUPPA_LAYOUT = 1,            /* the image breaks the layout */
@@ -46,7 +51,7 @@ enum meirhuppa_code {
     MEIRHUPPA_UNOWNED = 3,           /* evaluate, panel, scan: a variable of the tree, outside syntax values, has no enclosing function of its name */
     MEIRHUPPA_WRONG_KIND = 4,        /* the kind is 1 or 2 but not the job's (2 for evaluate, panel and scan, 1 for the others) */
     MEIRHUPPA_SMALL_TABLE = 5,       /* budget over 4,096, or fewer than 40 table words per unit of budget */
-    MEIRHUPPA_AMBIGUOUS = 6,         /* several bindings fit and none contains the others */
+    MEIRHUPPA_AMBIGUOUS = 6,         /* several bindings fit and none contains the others; first and second are two of them */
     MEIRHUPPA_NO_MEANING = 7,        /* expand: an identifier in expression place whose name has no meaning */
     MEIRHUPPA_NO_RULE = 8,           /* a form with no rule */
     MEIRHUPPA_NO_SYNTAX = 9,         /* a macro use evaluates to no syntax object */

@@ -16,6 +16,9 @@ static int refused(const char *job, meirhuppa_answer answer)
 {
     fprintf(stderr, "%s: refused with code %u after %u units: %s\n", job, (unsigned)answer.code, (unsigned)answer.units,
             meirhuppa_meaning(answer.code));
+    if (answer.code == MEIRHUPPA_AMBIGUOUS)
+        fprintf(stderr, ": bindings %u and %u compete", (unsigned)answer.first, (unsigned)answer.second);
+    fputc('\n', stderr);
     return 1;
 }
 

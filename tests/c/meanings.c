@@ -6,7 +6,7 @@
 int main(void)
 {
     for (uint32_t code = 0; code <= 40; code++) {
-        int known = code <= MEIRHUPPA_DRIVEN_CHANGE && code != 16;
+        int known = code <= MEIRHUPPA_UNBALANCED && code != 16;
         if ((strcmp(meirhuppa_meaning(code), "unknown code") != 0) != known)
             return 1;
     }

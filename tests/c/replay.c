@@ -98,8 +98,8 @@ static void answer(Call *call)
         table[i] = TABLE_FILL;
     memset(output, OUTPUT_FILL, output_length);
     meirhuppa_answer given = ask_library(call, table, output);
-    printf("%u %u %u %u %s ", (unsigned)given.code, (unsigned)given.units, (unsigned)given.name, (unsigned)given.length,
-           table_column(call, table));
+    printf("%u %u %u %u %u %u %s ", (unsigned)given.code, (unsigned)given.units, (unsigned)given.name, (unsigned)given.length,
+           (unsigned)given.first, (unsigned)given.second, table_column(call, table));
     print_output(output, given.length, output_length);
     putchar('\n');
 }

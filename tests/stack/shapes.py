@@ -14,6 +14,8 @@ NESTING = 64
 WIDE = 4095
 HALF = 2047
 JUDGED = 13000
+LONG_TEXT = 69000
+SHORT_TEXT = 690
 
 
 def wide(parts, what="1"):
@@ -62,6 +64,15 @@ def syntax_images():
     yield "a wide macro that gives itself back", syntax(f"(let-syntax m (lambda z z) (m {'1 ' * 20}))", words=("m", "z"))
 
 
+def rival_images():
+    """For resolve, expand and parse: a word whose bindings compete."""
+    pairs = [[a, b] for a in range(1, 34) for b in range(a + 1, 34)]
+    chain = [list(range(1, last + 1)) for last in range(1, 256)]
+    for name, sets in (("512 bindings, none in another", pairs[:512]), ("255 bindings, each in the next, and one beside", [*chain, [256]])):
+        every = ",".join(map(str, range(1, 257)))
+        yield name, image.syntax_image(f"x{{{every}}}", scopes=256, bindings=[("x", scopes, 0) for scopes in sets])
+
+
 def tree_images():
     """For evaluate, the panel check and the scans."""
     yield "one application of 4,000 numbers", tree(wide(4000))
@@ -105,7 +116,7 @@ def scan_calls():
 
 def calls():
     """Names with calls of the stream."""
-    for name, given in syntax_images():
+    for name, given in (*syntax_images(), *rival_images()):
         for job in ("resolve", "expand", "parse"):
             yield f"{job}: {name}", image.call(job, given, budget=BUDGET)
     for name, given in tree_images():

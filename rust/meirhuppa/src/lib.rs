@@ -21,6 +21,8 @@ pub struct Answer {
 pub struct Refusal {
     pub code: Code,
     pub units: u32,
+    /// Who competes, of [`Code::Ambiguous`] and of no other.
+    pub rivals: Option<Rivals>,
 }
 
 /// The refusals of document 01, and of requests T-01 and T-02. Number 16 is none of them and stays unused.
@@ -37,7 +39,7 @@ pub enum Code {
     WrongKind,
     /// 5: budget over 4,096, or too few table words for it.
     SmallTable,
-    /// 6: several bindings fit and none contains the others.
+    /// 6: several bindings fit and none contains the others. The refusal has two of them: [`Rivals`].
     Ambiguous,
     /// 7: an identifier whose name has no meaning.
     NoMeaning,
@@ -164,6 +166,15 @@ mod library {
         pub units: u32,
         pub name: u32,
         pub length: u32,
+        pub first: u32,
+        pub second: u32,
+    }
+
+    impl Raw {
+        /// The library has places from 1, and 0 where none compete.
+        fn rivals(&self) -> Option<super::Rivals> {
+            (self.first != 0).then_some(super::Rivals { first: self.first, second: self.second })
+        }
     }
 
     extern "C" {
@@ -218,7 +229,7 @@ mod library {
         if raw.code == 0 {
             return Ok(super::Answer { units: raw.units, name: raw.name, length: raw.length as usize });
         }
-        Err(super::Refusal { code: super::Code::of(raw.code), units: raw.units })
+        Err(super::Refusal { code: super::Code::of(raw.code), units: raw.units, rivals: raw.rivals() })
     }
 }
 

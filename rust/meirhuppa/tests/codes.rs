@@ -1,5 +1,5 @@
-//! The refusals' numbers, on any machine.
-use meirhuppa::Code;
+//! The refusals' numbers, and how they are shown, on any machine.
+use meirhuppa::{Code, Refusal, Rivals};
 
 #[test]
 fn every_number_is_given_back() {
@@ -26,4 +26,17 @@ fn other_numbers_are_unknown() {
     for number in [0, 16, 26, 40] {
         assert_eq!(Code::of(number), Code::Unknown(number));
     }
+}
+
+#[test]
+fn an_ambiguous_refusal_names_the_two_bindings() {
+    let rivals = Some(Rivals { first: 1, second: 2 });
+    let refusal = Refusal { code: Code::Ambiguous, units: 1, rivals };
+    assert_eq!(refusal.to_string(), "ambiguous: bindings 1 and 2 compete");
+}
+
+#[test]
+fn other_refusals_show_their_number() {
+    let refusal = Refusal { code: Code::TooDeep, units: 1, rivals: None };
+    assert_eq!(refusal.to_string(), "refused with code 17");
 }

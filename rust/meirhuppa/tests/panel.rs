@@ -3,7 +3,7 @@
 
 #[cfg(target_arch = "x86_64")]
 mod on_x86_64 {
-    use meirhuppa::{expand, panel, parse, Code, Refusal, MOST_BITS, WORDS_PER_UNIT};
+    use meirhuppa::{expand, panel, parse, read, Code, Refusal, MOST_BITS, WORDS_PER_UNIT};
 
     const FILL: u32 = 0x5a5a_5a5a;
     const BUDGET: usize = 1024;
@@ -45,7 +45,7 @@ mod on_x86_64 {
     fn refused(image: &[u8], words: usize) -> Code {
         let mut lent = vec![FILL; words];
         let refusal = panel(image, &mut lent).expect_err("the tree is refused");
-        assert_eq!(refusal, Refusal { code: refusal.code, units: 0 });
+        assert_eq!(refusal, Refusal { code: refusal.code, units: 0, rivals: None });
         assert!(lent.iter().all(|&word| word == FILL));
         refusal.code
     }

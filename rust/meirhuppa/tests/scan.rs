@@ -3,7 +3,7 @@
 
 #[cfg(target_arch = "x86_64")]
 mod on_x86_64 {
-    use meirhuppa::{expand, parse, scan, Code, Refusal, MOST_LINE, WORDS_PER_UNIT};
+    use meirhuppa::{expand, parse, read, scan, Code, Refusal, MOST_LINE, WORDS_PER_UNIT};
 
     const FILL: u8 = 0x5a;
     const BUDGET: usize = 1024;
@@ -32,7 +32,7 @@ mod on_x86_64 {
     fn refused(tree: &[u8], recording: &[u8], room: usize) -> Code {
         let mut output = vec![FILL; room];
         let refusal = scan(tree, recording, &mut output).expect_err("it is refused");
-        assert_eq!(refusal, Refusal { code: refusal.code, units: 0 });
+        assert_eq!(refusal, Refusal { code: refusal.code, units: 0, rivals: None });
         assert!(output.iter().all(|&byte| byte == FILL));
         refusal.code
     }

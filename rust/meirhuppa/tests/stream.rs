@@ -1,9 +1,11 @@
-//! A slice of the second program's corpus, all six jobs, each answer held against the line that is kept for it. `tests/slice` makes the slice,
+//! A slice of the second program's corpus, all eight jobs, each answer held against the line that is kept for it. `tests/slice` makes the slice,
 //! for C as well. The archive is for x86-64, so elsewhere this says so and tests nothing.
 
 #[cfg(target_arch = "x86_64")]
 mod on_x86_64 {
-    use meirhuppa::{evaluate, expand, panel, parse, resolve, scan, Answer, Refusal, WORDS_PER_UNIT};
+    use meirhuppa::{
+        evaluate, expand, panel, parse, print, read, resolve, scan, Answer, Refusal, Rivals, WORDS_PER_UNIT,
+    };
     use std::process::Command;
 
     const TABLE_FILL: u32 = 0xa5a5_a5a5;
@@ -18,8 +20,6 @@ mod on_x86_64 {
         image: &'a [u8],
         recording: &'a [u8],
     }
-
-    const SCAN: u32 = 5;
 
     /// The stream's next number: groups of seven bits, the low group first, the top bit set on all but the last.
     fn next_number(stream: &mut &[u8]) -> u32 {
@@ -75,8 +75,7 @@ mod on_x86_64 {
             2 => parse(call.image, call.budget, table, output),
             3 => evaluate(call.image, call.budget, table, output),
             4 => ask_panel(call.image, output),
-            SCAN => ask_scan(call, output),
-            job => panic!("there is no job {job}"),
+            _ => ask_unbudgeted(call, output),
         }
     }
 
@@ -103,16 +102,20 @@ mod on_x86_64 {
         format!("{shown}{touched}")
     }
 
-    /// The line that answers a call. Name and length of a refusal are 0, and this crate does not hand them on.
+    const NONE: Rivals = Rivals { first: 0, second: 0 };
+
+    /// The line that answers a call. Name and length of a refusal are 0, and so are the two bindings where none compete: this crate does not hand
+    /// them on.
     fn line_of(call: &Call) -> String {
         let mut table = vec![TABLE_FILL; call.table_words];
         let mut output = vec![OUTPUT_FILL; call.output_length];
-        let (code, units, name, length) = match ask(call, &mut table, &mut output) {
-            Ok(Answer { units, name, length }) => (0, units, name, length),
-            Err(Refusal { code, units }) => (code.number(), units, 0, 0),
+        let (code, units, name, length, rivals) = match ask(call, &mut table, &mut output) {
+            Ok(Answer { units, name, length }) => (0, units, name, length, NONE),
+            Err(Refusal { code, units, rivals }) => (code.number(), units, 0, 0, rivals.unwrap_or(NONE)),
         };
+        let Rivals { first, second } = rivals;
         let (table, output) = (table_column(&table, call.budget), output_column(&output, length));
-        format!("{code} {units} {name} {length} {table} {output}")
+        format!("{code} {units} {name} {length} {first} {second} {table} {output}")
     }
 
     /// The slice's stream and its kept lines.

@@ -27,9 +27,10 @@ mod on_x86_64 {
     #[test]
     fn refusals_have_their_code_and_units() {
         let mut table = [0u32; WORDS_PER_UNIT * 8];
-        assert_eq!(resolve(&[], 0, 8, &mut table), Err(Refusal { code: Code::Layout, units: 0 }));
-        assert_eq!(resolve(&[], 3, 8, &mut table), Err(Refusal { code: Code::NoPhase, units: 0 }));
-        assert_eq!(resolve(&[], 0, 9, &mut table), Err(Refusal { code: Code::SmallTable, units: 0 }));
+        let refused = |code| Err(Refusal { code, units: 0, rivals: None });
+        assert_eq!(resolve(&[], 0, 8, &mut table), refused(Code::Layout));
+        assert_eq!(resolve(&[], 3, 8, &mut table), refused(Code::NoPhase));
+        assert_eq!(resolve(&[], 0, 9, &mut table), refused(Code::SmallTable));
     }
 }
 
