@@ -62,6 +62,7 @@ static void *ask_on_stack(void *call)
 static bool answers_agree(void)
 {
     return of_library.code == of_second.code && of_library.units == of_second.units && of_library.name == of_second.name &&
+           of_library.first == of_second.first && of_library.second == of_second.second &&
            of_library.length == of_second.length && memcmp(output, of_second.output, of_library.length) == 0;
 }
 
