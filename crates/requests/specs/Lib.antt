@@ -6,3 +6,8 @@ pub mod Scanning
 pub mod Binary
 pub mod Written
 pub mod ScanJob
+pub mod Tokens
+pub mod FromText
+pub mod ToText
+pub mod TextJobs
+pub mod Report
