@@ -1,0 +1,3 @@
+-- What the laws of text in and text out speak of.
+pub mod Single
+pub mod Passes

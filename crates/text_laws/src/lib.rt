@@ -1,0 +1,1 @@
+// This crate is its theorems, in proofs/: what the printer writes, the reader takes back.
