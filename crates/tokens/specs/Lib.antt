@@ -1,0 +1,4 @@
+pub mod Walk
+pub mod Decimals
+pub mod Pieces
+pub mod Nexts
