@@ -2,3 +2,4 @@ pub mod Wholes
 pub mod OneAnswer
 pub mod PanelAnswers
 pub mod ScanAnswers
+pub mod TextAnswers

@@ -1,3 +1,4 @@
 pub mod Endings
 pub mod Panels
 pub mod Scans
+pub mod Texts

@@ -7,3 +7,4 @@ pub mod panel;
 pub mod parse;
 pub mod resolve;
 pub mod scan;
+pub mod text_jobs;

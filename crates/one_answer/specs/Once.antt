@@ -5,9 +5,11 @@ use Prim.Native.Nat.{ℕ}
 use Rattle.model.specs.Jobs.{Result}
 use Rattle.requests.specs.Panel.{PanelResult}
 use Rattle.requests.specs.ScanJob.{ScanResult}
+use Rattle.requests.specs.TextJobs.{TextResult}
 use Rattle.meirhuppa.specs.Endings.{Answered}
 use Rattle.meirhuppa.specs.Panels.{PanelAnswered}
 use Rattle.meirhuppa.specs.Scans.{ScanAnswered}
+use Rattle.meirhuppa.specs.Texts.{TextAnswered}
 use Rattle.meirhuppa.specs.declared.answers.Answer.{Answer}
 
 -- they are the job's, and whatever else is the job's is the same
@@ -24,3 +26,8 @@ pub record PanelOnce (job : PanelResult) (a : Answer) (bits : List ℕ) : Type 0
 pub record ScanOnce (job : ScanResult) (a : Answer) (output : List ℕ) : Type 0 where
   pub is : ScanAnswered job a output
   pub only : (b : Answer) (p : List ℕ) → ScanAnswered job b p → (a ≡ b) × (output ≡ p)
+
+-- of the jobs of text, likewise
+pub record TextOnce (job : TextResult) (a : Answer) (output : List ℕ) : Type 0 where
+  pub is : TextAnswered job a output
+  pub only : (b : Answer) (p : List ℕ) → TextAnswered job b p → (a ≡ b) × (output ≡ p)

@@ -7,11 +7,13 @@ use meirhuppa::panel;
 use meirhuppa::parse;
 use meirhuppa::resolve;
 use meirhuppa::scan;
+use meirhuppa::text_jobs;
 ghost use mathlib.Core.List.{[]};
 ghost use Rattle.model.specs.Jobs.{resolveJob, expandJob, parseJob, evaluateJob};
 ghost use Rattle.requests.specs.Panel.{panelJob};
 ghost use Rattle.requests.specs.ScanJob.{scanJob};
-ghost use Rattle.one_answer.specs.Once.{Once, PanelOnce, ScanOnce};
+ghost use Rattle.requests.specs.TextJobs.{readJob, printJob};
+ghost use Rattle.one_answer.specs.Once.{Once, PanelOnce, ScanOnce, TextOnce};
 
 pub fn resolve_once(image: &[u8], phase: u32, budget: u32, table: &mut [u32]) -> Answer
     ensures { λ r. ⌜ Once (resolveJob (now (image .entry)) phase budget (now (table .entry))) r [] (now (table .exit)) ⌝ }
@@ -53,4 +55,16 @@ pub fn scan_once(image: &[u8], recording: &[u8], out: &mut [u8]) -> Answer
     ensures { λ r. ⌜ ScanOnce (scanJob (now (image .entry)) (now (recording .entry)) (now (out .entry))) r (now (out .exit)) ⌝ }
 {
     scan::meirhuppa_scan(image, recording, out)
+}
+
+pub fn read_once(bytes: &[u8], out: &mut [u8]) -> Answer
+    ensures { λ r. ⌜ TextOnce (readJob (now (bytes .entry)) (now (out .entry))) r (now (out .exit)) ⌝ }
+{
+    text_jobs::meirhuppa_read(bytes, out)
+}
+
+pub fn print_once(image: &[u8], out: &mut [u8]) -> Answer
+    ensures { λ r. ⌜ TextOnce (printJob (now (image .entry)) (now (out .entry))) r (now (out .exit)) ⌝ }
+{
+    text_jobs::meirhuppa_print(image, out)
 }
