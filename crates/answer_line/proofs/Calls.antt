@@ -6,11 +6,12 @@ use lib.ListN.{length, replicate, length-replicate}
 use borrow.Author.Tests.{eq-eqb, ne-eqb, le-leb, lt-leb}
 use Rattle.model.specs.Jobs.{Answer, Result, resolveJob, expandJob, parseJob, evaluateJob}
 use Rattle.requests.specs.Panel.{PanelRefusal, PanelEnding, refused, panelOf, roomFor, bitsAfter, PanelResult, panelJob}
+use Rattle.requests.specs.TextJobs.{readJob, printJob}
 use Rattle.requests.specs.ScanJob.{ScanRefusal, ScanEnding, stopped, scanOf, scanRoom, outputAfterScans, ScanResult, scanJob}
 use Rattle.text.specs.Placing.{Placed}
 use Rattle.answer_line.specs.Format.{wordFill, byteFill, answerLine}
 use Rattle.answer_line.specs.Words.{bytesFill, bytesOfWords}
-use Rattle.answer_line.specs.Calls.{keeping, jobOf, panelBytes, scanBytes, requestOf, leaving, freshJob, callLine}
+use Rattle.answer_line.specs.Calls.{keeping, jobOf, panelBytes, scanBytes, textBytes, requestOf, leaving, freshJob, callLine}
 use Rattle.answer_line.proofs.Laying.{laid-over-fill, filled-output}
 
 module _ (job : ℕ) (image : List ℕ) (ph budget : ℕ) (table output : List ℕ) where
@@ -73,7 +74,19 @@ module _ (job : ℕ) (image second : List ℕ) (bytes : ℕ) {r : Result} where
 
   pub request-scan : (job ≡ 4 → ⊥) → job ≡ 5 → r ≡ scanBytes image second bytes → r ≡ requestOf job image second bytes
   unfolding requestOf
-  request-scan n e = e ∙ simp (ne-eqb job 4 n)
+  request-scan n h e = e ∙ simp (ne-eqb job 4 n, eq-eqb job 5 h)
+
+-- the output was lent filled
+module _ (job : ℕ) (image second : List ℕ) (bytes : ℕ) {out out′ : List ℕ} {a : Answer} (p : out ≡ replicate bytes byteFill) where
+  pub request-read : (job ≡ 4 → ⊥) → (job ≡ 5 → ⊥) → job ≡ 6 → record { answer = a; output = out′ } ≡ readJob image out
+      → record { answer = a; output = out′; table = [] } ≡ requestOf job image second bytes
+  unfolding requestOf textBytes
+  request-read n m h e = ap textBytes (e ∙ ap (readJob image) p) ∙ simp (ne-eqb job 4 n, ne-eqb job 5 m, eq-eqb job 6 h)
+
+  pub request-print : (job ≡ 4 → ⊥) → (job ≡ 5 → ⊥) → (job ≡ 6 → ⊥) → record { answer = a; output = out′ } ≡ printJob image out
+      → record { answer = a; output = out′; table = [] } ≡ requestOf job image second bytes
+  unfolding requestOf textBytes
+  request-print n m k e = ap textBytes (e ∙ ap (printJob image) p) ∙ simp (ne-eqb job 4 n, ne-eqb job 5 m, ne-eqb job 6 k)
 
 module _ (job : ℕ) (image second : List ℕ) (ph budget words bytes : ℕ) where
   pub request-fresh : {a : Answer} {table output : List ℕ} → 3 < job → table ≡ replicate words wordFill

@@ -10,7 +10,7 @@ use borrow.Author.Tests.{eq-eqb, ne-eqb}
 use Rattle.model.specs.Jobs.{digits, Result}
 use Rattle.text.specs.Placing.{Placed}
 use Rattle.text.specs.Hexadecimal.{hexOf}
-use Rattle.text.proofs.Placing.{placed-then}
+use Rattle.text.proofs.Placing.{placed-then, renamed}
 use Rattle.text.proofs.Decimal.{digits-before}
 use Rattle.text.proofs.Hexadecimal.{hex-length}
 use Rattle.answer_line.specs.Format.{wordFill, byteFill, allAre, isClear, numberColumn, tableColumn, writtenColumn, outputColumn, numberColumns, bufferColumns, answerLine}

@@ -7,6 +7,7 @@ use Rattle.model.specs.Choice.{if_then_else_}
 use Rattle.model.specs.Jobs.{Result, resolveJob, expandJob, parseJob, evaluateJob}
 use Rattle.requests.specs.Panel.{panelJob}
 use Rattle.requests.specs.ScanJob.{scanJob}
+use Rattle.requests.specs.TextJobs.{TextResult, readJob, printJob}
 use Rattle.answer_line.specs.Format.{wordFill, byteFill, answerLine}
 use Rattle.answer_line.specs.Words.{bytesFill, bytesOfWords}
 
@@ -33,9 +34,17 @@ unfoldable pub scanBytes : List ℕ → List ℕ → ℕ → Result
 scanBytes image recording bytes =
     let r = scanJob image recording (replicate bytes byteFill) in record { answer = r .answer; output = r .output; table = [] }
 
+-- text to image (job 6) and image to text (job 7), with an output filled before the call; a text stands in the image's place
+unfoldable pub textBytes : TextResult → Result
+textBytes r = record { answer = r .answer; output = r .output; table = [] }
+
 -- the request of document 02 with that number, of image, second input and count of the output's bytes
 unfoldable pub requestOf : ℕ → List ℕ → List ℕ → ℕ → Result
-requestOf job image second bytes = if eqb job 4 then panelBytes image bytes else scanBytes image second bytes
+requestOf job image second bytes =
+    if eqb job 4 then panelBytes image bytes
+    else if eqb job 5 then scanBytes image second bytes
+    else if eqb job 6 then textBytes (readJob image (replicate bytes byteFill))
+    else textBytes (printJob image (replicate bytes byteFill))
 
 -- it is not lent the table, which stays
 unfoldable pub leaving : List ℕ → Result → Result

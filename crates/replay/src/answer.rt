@@ -8,6 +8,7 @@ use meirhuppa::expand;
 use meirhuppa::parse;
 use meirhuppa::resolve;
 use meirhuppa::scan;
+use meirhuppa::text_jobs;
 ghost use mathlib.Core.Path.{_≡_};
 ghost use mathlib.Core.List.{[]};
 ghost use Prim.Native.Nat.{_+_, _*_, _≤_};
@@ -62,8 +63,8 @@ fn do_job(call: Call, image: &[u8], table: &mut [u32], output: &mut [u8]) -> Ans
     evaluate::meirhuppa_evaluate(image, call.budget, table, output)
 }
 
-// The requests of document 02, with an output that is filled first. Every number but `PANEL` is the scan runner's: no call that comes here
-// has another.
+// The requests of document 02, with an output that is filled first. Every number above those of the others is the printer's: no call has one
+// over `LAST_JOB`. A text stands in the image's place.
 fn do_request(call: Call, image: &[u8], second: &[u8], output: &mut [u8]) -> Answer
     requires { ⌜ length (now output) ≤ 70000 ⌝ }
     ensures { λ r. ⌜ record { answer = answerIs r; output = now (output .exit); table = [] } ≡ requestOf (call .job) (now (image .entry)) (now (second .entry)) (length (now (output .entry))) ⌝ }
@@ -72,7 +73,13 @@ fn do_request(call: Call, image: &[u8], second: &[u8], output: &mut [u8]) -> Ans
         return as_words::panel(image, output);
     }
     buffers::fill_bytes(output);
-    scan::meirhuppa_scan(image, second, output)
+    if call.job == Call::SCAN {
+        return scan::meirhuppa_scan(image, second, output);
+    }
+    if call.job == Call::READ {
+        return text_jobs::meirhuppa_read(image, output);
+    }
+    text_jobs::meirhuppa_print(image, output)
 }
 
 // Any job, with buffers that are filled first. Every number above `EVALUATE` is a request's: no call has one over `LAST_JOB`.
