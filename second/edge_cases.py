@@ -1,15 +1,17 @@
-"""Edge cases of document 01, as requests T-01, T-02, T-03, T-07 and T-09 amend it, worked out by hand.
+"""Edge cases of document 01, as requests T-01 to T-05, T-07 and T-09 amend it, worked out by hand.
 
 Each case is a reason, a call and the answer that document 01 asks for. The
 notation is the one of image.py. `steps` walks through the charges of a call
 one after another: with a budget just short of a charge the answer is code 19
 with the units charged before it, and with the whole budget the call ends. The
 cases of the panel check (T-01) are in panel_cases.py, those of the scan runner
-(T-02) in scan_cases.py.
+(T-02) in scan_cases.py, those of who competes (T-04) in rival_cases.py, those of
+text in and text out (T-05) in text_cases.py.
 """
 import panel_cases
 import rival_cases
 import scan_cases
+import text_cases
 from image import (call, head, number, scope_set, sets, syntax_image, tree_image)
 
 CASES = []  # (reason, call bytes, job, code, units, name, rivals, output or None, table)
@@ -492,7 +494,7 @@ case("a root of size 4,096 is loaded", "resolve",
 
 # ==== resolving ====
 
-def resolving(reason, text, rows, code, name=0, phase=0, scopes=4):
+def resolving(reason, text, rows, code, name=0, phase=0, scopes=4, rivals=(0, 0)):
     case(f"resolve: {reason}", "resolve",
          syntax_image(text, words=["x", "y"], made=6, scopes=scopes, bindings=rows), code, 1, name,
          phase=phase, rivals=rivals)
@@ -1371,6 +1373,6 @@ for length in (65536, 65537):
         case("a result of 65,537 bytes in a longer output", "evaluate", image, 20, 38 + 3 + 7 + 9,
              output=70000)
 
-# ==== the panel check and the scan runner ====
+# ==== the panel check, the scan runner, who competes, text ====
 
-CASES += panel_cases.CASES + scan_cases.CASES
+CASES += panel_cases.CASES + scan_cases.CASES + rival_cases.CASES + text_cases.CASES

@@ -216,7 +216,8 @@ def recording(scans):
     return out
 
 
-# A call of the stream; the recording is empty but for the job scan, whose number is SCAN.
+# A call of the stream; the recording is empty but for the job scan, whose number is SCAN. The image is the
+# text for the job read, whose number is READ.
 Call = collections.namedtuple("Call", "job phase budget table output image recording")
 SCAN, READ = JOBS.index("scan"), JOBS.index("read")
 
@@ -379,9 +380,20 @@ def show_bits(written):
 
 def show_written(job, written):
     """What a job, given by its name, wrote, as lines."""
-    if job == "scan":
-        return written.decode("latin-1").splitlines()
+    if job in ("scan", "print"):
+        return show_text(written)
     return [show_bits(written)] if job == "panel" else show(written)
+
+
+def show_text(text):
+    """A text as lines, bytes that cannot be seen as \\x7f."""
+    shown = "".join(chr(b) if 32 <= b < 127 or b == 10 else f"\\x{b:02x}" for b in text)
+    return shown.split("\n")
+
+
+def show_given(call):
+    """The image of a call, or its text, as lines."""
+    return show_text(call.image) if call.job == READ else show(call.image)
 
 
 class RecordingShower(Shower):

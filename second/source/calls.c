@@ -189,7 +189,13 @@ static Job choose_job(uint32_t kind)
 static void make_draft(Draft *draft, Job *job)
 {
     uint32_t choice = below(100);
-    if (choice < 36) {
+    if (percent(8)) {
+        draft_text(small > 0, draft);
+        *job = JOB_READ;
+    } else if (percent(6)) {
+        *job = (Job[]){JOB_RESOLVE, JOB_EXPAND, JOB_PARSE}[below(3)];
+        draft_rivals(memory, *job, draft);
+    } else if (choice < 36) {
         draft_program(memory, draft);
         *job = percent(95) ? JOB_EXPAND : choose_job(draft->kind);
     } else if (choice < 44) {
@@ -225,8 +231,8 @@ static bool take_result(Draft *draft, const Answer *answer, uint32_t kind)
     return true;
 }
 
-/* Calls on what the last answer wrote: a program is expanded, parsed and
-   checked or evaluated in turn. */
+/* Calls on what the last answer wrote: a text is read and printed, a program
+   is expanded, parsed and checked or evaluated in turn. */
 static void go_on(Job job, Draft *draft, Answer *answer)
 {
     if (job == JOB_READ && percent(50) && take_result(draft, answer, SYNTAX_IMAGE)) {

@@ -1,4 +1,4 @@
-/* Drafts: images and recordings made up by chance, most of them well formed. */
+/* Drafts: images, recordings and texts made up by chance, most of them well formed. */
 #ifndef DRAFTS_H
 #define DRAFTS_H
 
@@ -25,6 +25,12 @@ void draft_ladder(Memory *memory, Draft *draft); /* a panel program for scans, a
 
 /* A recording for a program that drives these points; a small one is short. */
 void draft_recording(const bool driven_points[], bool is_small, Draft *draft);
+
+/* A text, most often of one object and now and then damaged. */
+void draft_text(bool is_small, Draft *draft);
+
+/* A syntax image whose text is long. */
+void draft_long_words(Memory *memory, Draft *draft);
 
 /* Breaks a draft; other is another image to take pieces from. */
 void damage_draft(Draft *draft, const Draft *other);

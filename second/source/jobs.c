@@ -2,6 +2,7 @@
 
 #include <string.h>
 
+#include "text.h"
 #include "work.h"
 
 /* Code 3: a variable, outside syntax values, without a function of its name
@@ -50,6 +51,22 @@ static void do_parse(Work *work)
 static void do_evaluate(Work *work)
 {
     work->image->tree = evaluate(work, work->image->tree);
+}
+
+/* The room for an image or a text. */
+static size_t room_of(const Call *call)
+{
+    return call->output_length < LONGEST_IMAGE ? call->output_length : LONGEST_IMAGE;
+}
+
+/* False where the image is longer than the output. */
+static bool write_result(const Call *call, const Image *image, Answer *answer)
+{
+    size_t length;
+    if (!write_image(image, answer->output, room_of(call), &length))
+        return false;
+    answer->length = (uint32_t)length;
+    return true;
 }
 
 static void do_job(Work *work, const Call *call, Answer *answer)
@@ -153,6 +170,44 @@ static void answer_scan(Memory *memory, const Call *call, Answer *answer)
     size_t room = call->output_length < LONGEST_OUTPUT ? call->output_length : LONGEST_OUTPUT;
     if (!write_lines(&runner, &recording, room, answer))
         answer->code = TOO_LONG;
+}
+
+static void answer_read(Memory *memory, const Call *call, Image *image, Answer *answer)
+{
+    answer->code = read_text(memory, call->image, call->image_length, image);
+    if (answer->code == SUCCESS && !write_result(call, image, answer))
+        answer->code = TOO_LONG;
+}
+
+static void answer_print(Memory *memory, const Call *call, Image *image, Answer *answer)
+{
+    answer->code = read_image(memory, call->image, call->image_length, SYNTAX_IMAGE, image);
+    if (answer->code != SUCCESS)
+        return;
+    size_t length;
+    if (print_text(image, answer->output, room_of(call), &length))
+        answer->length = (uint32_t)length;
+    else
+        answer->code = TOO_LONG;
+}
+
+/* A job that takes neither phase, budget nor table. */
+static void answer_unbudgeted(Memory *memory, const Call *call, Image *image, Answer *answer)
+{
+    switch (call->job) {
+    case JOB_PANEL:
+        answer_panel(memory, call, image, answer);
+        break;
+    case JOB_SCAN:
+        answer_scan(memory, call, answer);
+        break;
+    case JOB_READ:
+        answer_read(memory, call, image, answer);
+        break;
+    default:
+        answer_print(memory, call, image, answer);
+        break;
+    }
 }
 
 void answer_call(Memory *memory, const Call *call, Answer *answer)

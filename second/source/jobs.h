@@ -29,7 +29,7 @@ typedef struct {
     uint32_t budget; /* not used by panel, scan, read and print, nor is the table */
     uint32_t table_words;
     uint32_t output_length; /* not used by resolve */
-    const uint8_t *image;
+    const uint8_t *image; /* or the text, for read */
     size_t image_length;
     const uint8_t *recording; /* used by scan */
     size_t recording_length;

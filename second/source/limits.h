@@ -1,5 +1,5 @@
-/* The limits and codes of document 01 as requests T-01, T-02, T-07 and T-09 amend
-   it, each with its number. */
+/* The limits and codes of document 01 as requests T-01, T-02, T-05, T-07 and T-09
+   amend it, each with its number. */
 #ifndef LIMITS_H
 #define LIMITS_H
 
@@ -57,7 +57,9 @@ typedef enum {
     DRIVEN_TWICE = 22,
     TOO_MANY_BITS = 23,
     BAD_RECORDING = 24,
-    CHANGES_DRIVEN = 25
+    CHANGES_DRIVEN = 25,
+    BAD_TEXT = 26,
+    UNBALANCED = 27
 } Code;
 
 #endif

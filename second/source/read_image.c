@@ -70,28 +70,6 @@ static bool read_name(Reader *reader, uint32_t *name)
 
 /* ---- words ---- */
 
-static bool same_bytes(Word word, const char *text)
-{
-    return word.length == strlen(text) && memcmp(word.bytes, text, word.length) == 0;
-}
-
-static bool is_core_word(Word word)
-{
-    return same_bytes(word, "lambda") || same_bytes(word, "let-syntax") ||
-           same_bytes(word, "quote") || same_bytes(word, "syntax");
-}
-
-static bool is_word(Word word)
-{
-    for (uint32_t i = 0; i < word.length; i++) {
-        uint8_t byte = word.bytes[i];
-        if (byte < 33 || byte > 126 || strchr("();'#", byte) != NULL)
-            return false;
-    }
-    uint8_t first = word.bytes[0];
-    return !(first >= '0' && first <= '9') && first != '@';
-}
-
 static bool read_word(Reader *reader, uint32_t index)
 {
     Image *image = reader->image;
