@@ -1,5 +1,5 @@
-"""What a replay program answers when it expands an image at phase 0, parses the result and checks the tree against the panel profile; and
-what a scan program prints when it runs the tree over a recording.
+"""What a replay program answers when it expands an image at phase 0, parses the result and checks the tree against the panel profile, prints an
+image as text or reads a text; and what a scan program prints when it runs the tree over a recording.
 
 A replay program reads calls and prints a line for each: second/replay, and target/bin/replay of the proved library. Of the scan programs
 there are likewise two.
@@ -35,7 +35,7 @@ def command(program):
 def ask(replay, job, given, budget):
     call = image.call(job, given, budget=budget)
     line = subprocess.run(command(replay), input=call, stdout=subprocess.PIPE, check=True).stdout.decode().strip()
-    if len(line.split()) < 6:
+    if len(line.split()) != 8:
         raise ValueError(f"{replay} prints {line!r} for a call of {job}")
     *numbers, _, written = line.split()
     code, units, _, _, *rivals = map(int, numbers)
@@ -53,6 +53,16 @@ def expand_and_parse(replay, given, budget):
 def panel_check(replay, tree):
     """The answer for a tree image. The check has no budget."""
     return ask(replay, "panel", tree, 0)
+
+
+def print_text(replay, given):
+    """The answer for a syntax image, whose written bytes are its text. Neither this nor reading has a budget."""
+    return ask(replay, "print", given, 0)
+
+
+def read_text(replay, text):
+    """The answer for a text, whose written bytes are its image."""
+    return ask(replay, "read", text, 0)
 
 
 def bits_of(checked):

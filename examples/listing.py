@@ -1,4 +1,4 @@
-"""Listings: rung programs with macros, in the notation of second/image.py, with ';' comments and one shorthand for macros:
+"""Listings: rung programs in the text notation (request T-05) with two shorthands. Primitives may have their names, as #link; and there are macros:
 
     (macro (NAME HOLE ..) TEMPLATE BODY)
 
@@ -11,44 +11,48 @@ The last hole may be followed by `...`. Then it stands for all that is left of t
     (macro (enabled conditions ...) ('and @1 conditions ...) BODY)
 """
 import os
+import re
 import sys
 
 sys.dont_write_bytecode = True
 sys.path.insert(0, os.path.join(os.path.dirname(os.path.abspath(__file__)), "..", "second"))
 import image
+import layout
 
 ALL_LEFT = "..."
+NUMBERS = {"#" + name: f"#{number}" for number, name in enumerate(image.PRIMITIVES)}
+TOKEN = re.compile(r";.*|[()]|[^\s();]+")
 
 
 def read(text):
-    """The object of a listing, as words and lists of them."""
-    lines = (line.split(";")[0] for line in text.splitlines())
-    tokens = " ".join(lines).replace("(", " ( ").replace(")", " ) ").split()
+    """The object of a listing, as words and lists of them. A list keeps the comments that stand before it, other comments go."""
+    tokens = TOKEN.findall(text)
     place = 0
 
-    def token():
+    def comments():
+        nonlocal place
+        start = place
+        while place < len(tokens) and tokens[place].startswith(";"):
+            place += 1
+        return tokens[start:place]
+
+    def one(said):
         nonlocal place
         if place == len(tokens):
             raise ValueError("it ends before its last parenthesis is closed")
         place += 1
-        return tokens[place - 1]
-
-    def one(first):
-        if first != "(":
-            return first
-        parts = []
-        while (part := token()) != ")":
-            parts.append(one(part))
+        if tokens[place - 1] != "(":
+            return tokens[place - 1]
+        parts = layout.Parts(comments=said)
+        while (part := one(comments())) != ")":
+            parts.append(part)
         return parts
 
-    whole = one(token())
+    whole = one(comments())
+    comments()
     if place != len(tokens):
         raise ValueError("it goes on behind its last parenthesis")
     return whole
-
-
-def text_of(thing):
-    return thing if isinstance(thing, str) else "(" + " ".join(map(text_of, thing)) + ")"
 
 
 def has_hole(template, holes):
@@ -96,22 +100,26 @@ def plain_macro(thing):
 
 
 def plain(thing):
-    """The object without the shorthand."""
+    """The object without macros."""
     if isinstance(thing, str):
         return thing
-    if thing[:1] == ["macro"]:
-        return plain_macro(thing)
-    return [plain(part) for part in thing]
+    parts = plain_macro(thing) if thing[:1] == ["macro"] else map(plain, thing)
+    return layout.Parts(parts, comments=thing.comments)
 
 
-def image_of(text):
-    return image.syntax_image(text_of(plain(read(text))))
+def typed(thing):
+    """The object with the numbers of the primitives in place of their names."""
+    if isinstance(thing, str):
+        return NUMBERS.get(thing, thing)
+    return layout.Parts(map(typed, thing), comments=layout.comments_of(thing))
 
 
-def image_in(file):
-    """The image of a file, which is a listing where it ends in .rung."""
-    if file.endswith(".rung"):
-        with open(file) as text:
-            return image_of(text.read())
-    with open(file, "rb") as given:
-        return given.read()
+def text_of(listing):
+    """The text of a listing, over several lines, with its comments."""
+    return layout.text_of(typed(plain(read(listing))))
+
+
+def primitives_of(text):
+    """Names for the primitives that a text has."""
+    tokens = TOKEN.findall(text)
+    return ", ".join(f"{number} {name[1:]}" for name, number in NUMBERS.items() if number in tokens)

@@ -14,7 +14,7 @@ static uint32_t bits[MEIRHUPPA_MOST_BITS];
 
 static int refused(const char *job, meirhuppa_answer answer)
 {
-    fprintf(stderr, "%s: refused with code %u after %u units: %s\n", job, (unsigned)answer.code, (unsigned)answer.units,
+    fprintf(stderr, "%s: refused with code %u after %u units: %s", job, (unsigned)answer.code, (unsigned)answer.units,
             meirhuppa_meaning(answer.code));
     if (answer.code == MEIRHUPPA_AMBIGUOUS)
         fprintf(stderr, ": bindings %u and %u compete", (unsigned)answer.first, (unsigned)answer.second);

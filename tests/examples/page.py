@@ -1,8 +1,10 @@
 """Holds the examples against their page, examples/README.md, and ends with 'N passed, M failed'."""
+import functools
 import os
 import re
 import subprocess
 import sys
+import tempfile
 from collections import namedtuple
 
 sys.dont_write_bytecode = True
@@ -10,6 +12,7 @@ ROOT = os.path.normpath(os.path.join(os.path.dirname(os.path.abspath(__file__)),
 EXAMPLES = os.path.join(ROOT, "examples")
 sys.path.insert(0, EXAMPLES)
 import answers
+import images
 import listing
 import scans
 
@@ -26,9 +29,7 @@ def file_text(*path):
         return file.read()
 
 
-def image_of(name):
-    with open(os.path.join(EXAMPLES, name + ".image"), "rb") as file:
-        return file.read()
+image_of = functools.cache(images.example)
 
 
 def number(text):
@@ -53,8 +54,8 @@ def addresses():
 
 
 def commands(page):
-    """The images that a page hands to the program, each with the units that it says are printed."""
-    found = re.findall(r"^ +(?:\./meirhuppa|second/program <) examples/(\S+)\.image +code 0 units (\d+)$", page, re.MULTILINE)
+    """The texts that a page hands to the program, each with the units that it says are printed."""
+    found = re.findall(r"^ +(?:\./meirhuppa|second/text read <) examples/(\S+)\.text(?: \| second/program)? +code 0 units (\d+)$", page, re.MULTILINE)
     return [(name, int(units)) for name, units in found]
 
 
@@ -66,6 +67,10 @@ def plant_counts():
 
 def second_programs():
     return Programs(answers.second_program("replay"), answers.second_program("program"))
+
+
+def run_script(name, *arguments):
+    return subprocess.run([os.path.join(EXAMPLES, name), *arguments], stdout=subprocess.PIPE, stderr=subprocess.PIPE)
 
 
 def printed(program, *arguments, given=b""):
@@ -107,6 +112,13 @@ def addresses_as_said(row, replay):
     return checked.code == 0 and answers.bits_of(checked) == addresses()[row.name]
 
 
+def text_comes_back(row, replay):
+    """An example's text is read to its image, and so is what is printed of that."""
+    text = file_text("examples", row.name + ".text").encode()
+    printed = answers.print_text(replay, image_of(row.name)).written
+    return printed.startswith(b"(") and all(answers.read_text(replay, given).written == image_of(row.name) for given in (text, printed))
+
+
 def prints_as_said(row, program):
     line = printed(program, given=image_of(row.name))
     if row.budget == PROGRAM_BUDGET:
@@ -115,11 +127,41 @@ def prints_as_said(row, program):
 
 
 def shows_as_said(row):
-    shown = printed(os.path.join(EXAMPLES, "expand"), os.path.join(EXAMPLES, row.name + ".rung"), str(row.budget)).splitlines()
+    """From the text, and the same from the listing."""
+    paths = [os.path.join(EXAMPLES, row.name + ending) for ending in (".text", ".rung")]
+    shown, same = (run_script("expand", path, str(row.budget)).stdout.decode().splitlines() for path in paths)
     said = [f"{job}: code 0 units {units}" for job, units in zip(("expand", "parse"), row.units)]
     bits = ["panel: code 0"] + [f"bit {name}: address {address}" for name, address in addresses()[row.name]]
-    return ([" ".join(line.split()[:5]) for line in shown[1:3]] == said
+    return (shown == same and [" ".join(line.split()[:5]) for line in shown[1:3]] == said
             and (row.tree is None or shown[3] == row.tree) and shown[4:] == bits)
+
+
+def image_is_made(row):
+    """By examples/image, from the text, the listing and the image."""
+    with tempfile.NamedTemporaryFile(suffix=".image") as file:
+        file.write(image_of(row.name))
+        file.flush()
+        paths = [os.path.join(EXAMPLES, row.name + ending) for ending in (".text", ".rung")] + [file.name]
+        return all(run_script("image", path).stdout == image_of(row.name) for path in paths)
+
+
+def bad_text_is_refused():
+    """Nothing is printed but the code."""
+    with tempfile.NamedTemporaryFile(suffix=".text") as file:
+        file.write(b"('all")
+        file.flush()
+        runs = [run_script(script, file.name) for script in ("image", "expand")]
+    return all((run.returncode, run.stdout) == (1, b"") and b"code 27" in run.stderr for run in runs)
+
+
+def rivals_are_shown():
+    """Of an ambiguous word: sample 3 of document 01."""
+    bindings = [("x", [1], 4), ("x", [2], 4)]
+    with tempfile.NamedTemporaryFile(suffix=".image") as file:
+        file.write(listing.image.syntax_image("x{1,2}", scopes=2, bindings=bindings))
+        file.flush()
+        shown = run_script("expand", file.name).stdout.decode().splitlines()
+    return shown[1] == "expand: code 6 units 2" and shown[2].startswith("Bindings 1 and 2 compete: ")
 
 
 def same_lines(row, second, proved):
@@ -146,7 +188,7 @@ def scopes_without(dropped, replay):
     for rung in dropped:
         assert rung in text
         text = text.replace(rung, "")
-    return counts(listing.image_of(text), replay)[1]
+    return counts(images.image_of(listing.text_of(text).encode()), replay)[1]
 
 
 def nineteenth_passes_older_limit(replay):
@@ -160,20 +202,25 @@ def page_checks(second):
     yield "the commands of the README", commands_fit(file_text("README.md"))
     yield "the mixing plant's counts", plant_counts_as_said(second.replay)
     yield "the mixing plant's nineteenth macro", nineteenth_passes_older_limit(second.replay)
+    yield "who competes, by examples/expand", rivals_are_shown()
+    yield "a text that is refused", bad_text_is_refused()
     for row in rows():
+        yield f"{row.name} by examples/image", image_is_made(row)
         yield f"{row.name} by examples/expand", shows_as_said(row)
 
 
 def program_checks(row, programs):
     for check, program in ((answers_as_said, programs.replay), (prints_as_said, programs.line)):
         yield f"{row.name} by {os.path.relpath(program, ROOT)}", check(row, program)
-    yield f"the addresses of {row.name} by {os.path.relpath(programs.replay, ROOT)}", addresses_as_said(row, programs.replay)
+    by = f"by {os.path.relpath(programs.replay, ROOT)}"
+    yield f"the addresses of {row.name} {by}", addresses_as_said(row, programs.replay)
+    yield f"the text of {row.name} {by}", text_comes_back(row, programs.replay)
 
 
 def checks(second, proved):
-    """Each check with what it is about. Where an image or a recording is stale, the others have nothing to say."""
+    """Each check with what it is about. Where a text or a recording is stale, the others have nothing to say."""
     fresh = files_are_fresh()
-    yield "the images and recordings", fresh
+    yield "the texts and recordings", fresh
     if not fresh:
         return
     yield from page_checks(second)

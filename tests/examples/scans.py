@@ -10,7 +10,7 @@ ROOT = os.path.normpath(os.path.join(os.path.dirname(os.path.abspath(__file__)),
 EXAMPLES = os.path.join(ROOT, "examples")
 sys.path.insert(0, EXAMPLES)
 import answers
-import listing
+import images
 import recordings
 
 BUDGET = 4096
@@ -20,7 +20,7 @@ Table = namedtuple("Table", "program recording changes lines")
 Programs = namedtuple("Programs", "replay scan")
 
 HEADING = re.compile(r"### .*: `(\S+)\.recording`")
-COMMAND = re.compile(r" +examples/scan examples/(\S+)\.image examples/(\S+)\.recording\b.*")
+COMMAND = re.compile(r" +examples/scan examples/(\S+)\.text examples/(\S+)\.recording\b.*")
 ROW = re.compile(r"\| `([^`]*)` \| `(\d[^`]*)` \| .* \|")
 
 
@@ -97,14 +97,14 @@ def changes_as_said(table):
 
 
 def lines_as_said(table, asked):
-    run = scanned(asked, bytes_in(table.program + ".image"), bytes_in(table.recording + ".recording"))
+    run = scanned(asked, images.example(table.program), bytes_in(table.recording + ".recording"))
     return (run.returncode, run.stdout, run.stderr) == (0, text_of(table.lines), b"")
 
 
 def shows_as_said(table):
     """From what the programs read, and from the listings."""
     runs = [example("scan", table.program + program, table.recording + recording)
-            for program, recording in ((".image", ".recording"), (".rung", ".scans"))]
+            for program, recording in ((".text", ".recording"), (".rung", ".scans"))]
     return all(run.returncode == 0 and run.stdout == text_of(table.lines) for run in runs)
 
 
@@ -114,25 +114,25 @@ def lines_of(program):
 
 
 def accident_has_the_same_lines(asked):
-    run = scanned(asked, bytes_in("accident.image"), bytes_in("feeder-and-fan.recording"))
+    run = scanned(asked, images.example("accident"), bytes_in("feeder-and-fan.recording"))
     return run.stdout == lines_of("feeder-and-fan") != lines_of("one-bit")
 
 
 def order_hides_the_one_bit(asked):
     """With each motor right behind its `set`, one bit and two print the same."""
-    hidden = "((lambda run ('all ('set run ('and @1 ('not @2))) ('out @10 run) ('set run @5) ('out @13 run))) 0)"
-    return scanned(asked, listing.image_of(hidden), bytes_in("feeder-and-fan.recording")).stdout == lines_of("feeder-and-fan")
+    hidden = b"((lambda run ('all ('set run ('and @1 ('not @2))) ('out @10 run) ('set run @5) ('out @13 run))) 0)"
+    return scanned(asked, images.image_of(hidden), bytes_in("feeder-and-fan.recording")).stdout == lines_of("feeder-and-fan")
 
 
 def refusals_print_nothing():
-    """The start-stop drives the fan's motor, and a recording is no image."""
-    runs = (example("scan", "start-stop.image", "fan-with-overrun.recording"),
+    """The start-stop drives the fan's motor, and a recording is no program."""
+    runs = (example("scan", "start-stop.text", "fan-with-overrun.recording"),
             example("scan", "start-stop.recording", "start-stop.recording"))
     return all((run.returncode, run.stdout) == (1, b"") for run in runs)
 
 
 def refused_with(code, asked, recording):
-    run = scanned(asked, bytes_in("start-stop.image"), recording)
+    run = scanned(asked, images.example("start-stop"), recording)
     return (run.stdout, run.stderr) == (b"", f"code {code}\n".encode())
 
 
