@@ -1,8 +1,9 @@
-/* Meirhuppa: the macro expander of document 01, with the panel check of request T-01 and the scan runner of T-02, as a library.
+/* Meirhuppa: the macro expander of document 01, with the panel check of request T-01, the scan runner of T-02 and the reader and printer of text of
+ * T-05, as a library.
  *
- * Six jobs on lent byte images. Each answers with a code (0 is success), the units charged, a name (resolve only) and the length in bytes
- * of what it wrote. No job keeps anything, allocates anything or fails in any other way: every image, phase, budget and buffer gets an
- * answer, and the work ends.
+ * Eight jobs on lent byte images, one of them on a text. Each answers with a code (0 is success), the units charged, a name (resolve only), the
+ * length in bytes of what it wrote and, where a word is ambiguous, two bindings that compete for it (request T-04). No job keeps anything, allocates
+ * anything or fails in any other way: every image, text, phase, budget and buffer gets an answer, and the work ends.
  *
  * The caller's duties, which nothing here can check:
  *  - every pointer is good for as many elements as its length says (a length of 0 still wants a pointer that is not null);
@@ -20,6 +21,10 @@
  * The scan runner takes none of them either, and a recording beside the image. Its units and name are always 0. Every refusal leaves the output
  * untouched, with length 0; success writes the lines from its start, as text without a byte 0 at the end, and touches no byte after them.
  *
+ * The reader and the printer take none of them either. Their units and name are always 0. Every refusal leaves the output untouched, with length 0;
+ * success writes the image or the text from its start, the text without a byte 0 or a line end, and touches no byte after it. Neither is ever longer
+ * than 65,536 bytes (MEIRHUPPA_MOST_IMAGE), so a longer output is of no use.
+ *
  * An image may have up to 256 scopes, 1,024 names (core names and words counted) and 512 bindings.
  */
 #ifndef MEIRHUPPA_H
@@ -36,7 +41,9 @@ typedef struct meirhuppa_answer {
     uint32_t code;   /* 0, or one of the refusals below */
     uint32_t units;  /* charged; before a refusal, those charged before it */
     uint32_t name;   /* of a successful resolve, else 0 */
-    uint32_t length; /* of the image or the lines written, in bytes; of the panel check, four for each bit; else 0 */
+    uint32_t length; /* of the image, lines or text written, in bytes; of the panel check, four for each bit; else 0 */
+    uint32_t first;  /* with MEIRHUPPA_AMBIGUOUS, which two bindings compete; else both are 0 */
+    uint32_t second;
 } meirhuppa_answer;
 
 /* Who competes. With MEIRHUPPA_AMBIGUOUS, and only then, `first` and `second` say where to look: at two bindings that both fit the word, of which
@@ -71,7 +78,9 @@ enum meirhuppa_code {
     MEIRHUPPA_DRIVEN_TWICE = 22,     /* panel, scan: two `out` drive one point, wherever they stand */
     MEIRHUPPA_TOO_MANY_BITS = 23,    /* panel, scan: more than 256 bits */
     MEIRHUPPA_BAD_RECORDING = 24,    /* scan: the recording breaks its layout or is longer than 65,536 bytes */
-    MEIRHUPPA_DRIVEN_CHANGE = 25     /* scan: a change names a point that the program drives */
+    MEIRHUPPA_DRIVEN_CHANGE = 25,    /* scan: a change names a point that the program drives */
+    MEIRHUPPA_BAD_TEXT = 26,         /* read: something that is no part of a text, no object at all, or a second one */
+    MEIRHUPPA_UNBALANCED = 27        /* read: a closing parenthesis with nothing open, or one left open at the end */
 };
 
 enum {
@@ -113,6 +122,8 @@ static inline const char *meirhuppa_meaning(uint32_t code)
     case MEIRHUPPA_TOO_MANY_BITS: return "the program has more than 256 bits";
     case MEIRHUPPA_BAD_RECORDING: return "the recording breaks its layout, or is longer than 65,536 bytes";
     case MEIRHUPPA_DRIVEN_CHANGE: return "the recording changes a point that the program drives";
+    case MEIRHUPPA_BAD_TEXT: return "something in the text cannot be read, or it has no object or a second one";
+    case MEIRHUPPA_UNBALANCED: return "a parenthesis of the text has no partner";
     default: return "unknown code";
     }
 }
@@ -145,6 +156,19 @@ meirhuppa_answer meirhuppa_panel(const uint8_t *image, size_t image_length, uint
  * lines are longer than the output. */
 meirhuppa_answer meirhuppa_scan(const uint8_t *image, size_t image_length, const uint8_t *recording, size_t recording_length,
                                 uint8_t *output, size_t output_length);
+
+/* The syntax image of the object that a text holds, with no scopes and its words numbered as first met. The text has parentheses, words, decimal
+ * numbers without leading zeros, `@12` for a point, `#0` for a primitive, `'and` (or, not, out, set, all) or `'6` to `'15` for a rung word, all
+ * parted by spaces, tabs or line ends, and comments from `;` to the end of the line, as `('out @10 ('or @1 @10)) ; holds itself`. It may be of any
+ * length, with parentheses to any depth. Of several refusals the order is 26 and 27, whichever comes first from the front, over the whole text; then
+ * 2 where an image could not hold what is written (a number over 4,294,967,295, a point over 1,023, a primitive over 6, a word over 32 bytes, nesting
+ * over 64, more than 1,020 different words), and 20. */
+meirhuppa_answer meirhuppa_read(const uint8_t *text, size_t text_length, uint8_t *output, size_t output_length);
+
+/* The text of the object that a syntax image holds, without its scopes, with single spaces. Reading it gives the same objects again, words by their
+ * spelling, where the new image has room. Of several refusals the order is 2 for an image over 65,536 bytes, then 1, 2 and 4 as the image is read
+ * from the front, and 20. */
+meirhuppa_answer meirhuppa_print(const uint8_t *image, size_t image_length, uint8_t *output, size_t output_length);
 
 #ifdef __cplusplus
 }

@@ -22,9 +22,13 @@ static inline meirhuppa_answer ask_library(const Call *call, uint32_t *table, vo
                                   output, call->output_length);
     case JOB_PANEL:
         return meirhuppa_panel(call->image, call->image_length, output, call->output_length / sizeof(uint32_t));
-    default:
+    case JOB_SCAN:
         return meirhuppa_scan(call->image, call->image_length, call->recording, call->recording_length,
                               output, call->output_length);
+    case JOB_READ:
+        return meirhuppa_read(call->image, call->image_length, output, call->output_length);
+    default:
+        return meirhuppa_print(call->image, call->image_length, output, call->output_length);
     }
 }
 

@@ -8,6 +8,7 @@ sys.path.insert(0, SECOND)
 import image
 from large_panel import large_panel
 from large_recording import large_recording
+from texts import ENDLESS, PARTS, large_text
 
 BUDGET = 4096
 NESTING = 64
@@ -114,6 +115,22 @@ def scan_calls():
         yield f"scan: {name}", image.call("scan", small, recording=recorded)
 
 
+def text_calls():
+    """The longest texts and what they are read to; and every other syntax image, printed."""
+    for name in PARTS:
+        text = large_text(name)
+        yield f"read: {name}", image.call("read", text.encode())
+        yield f"print: {name}", image.call("print", image.syntax_image(text))
+    for name, given in (*syntax_images(), *rival_images()):
+        yield f"print: {name}", image.call("print", given)
+
+
+def endless_texts():
+    """Names with two calls that read a text: a short one and a long one."""
+    for name, text in ENDLESS.items():
+        yield f"read: {name}", *(image.call("read", text(size).encode()) for size in (SHORT_TEXT, LONG_TEXT))
+
+
 def calls():
     """Names with calls of the stream."""
     for name, given in (*syntax_images(), *rival_images()):
@@ -125,3 +142,6 @@ def calls():
     for name, given in panel_programs():
         yield f"panel: {name}", image.call("panel", given)
     yield from scan_calls()
+    yield from text_calls()
+    for name, _, long in endless_texts():
+        yield f"{name}, {LONG_TEXT:,} bytes", long

@@ -1,6 +1,6 @@
-//! Meirhuppa's four jobs, its panel check and its scan runner over slices. What they promise is document 01, and requests T-01 and T-02 for the last
-//! two, and is proved of the code behind the boundary; this crate adds names for the refusals and the lengths of the slices, which are true by
-//! their type.
+//! Meirhuppa's four jobs, its panel check, its scan runner and its reader and printer of text over slices. What they promise is document 01, with
+//! the two bindings of request T-04, and requests T-01, T-02 and T-05 for the others, and is proved of the code behind the boundary; this crate adds
+//! names for the refusals and the lengths of the slices, which are true by their type.
 //!
 //! A call takes at most 160 KiB of the calling thread's stack. That is measured, on x86-64, and not proved.
 #![deny(warnings)]
@@ -16,7 +16,7 @@ pub struct Answer {
     pub length: usize,
 }
 
-/// Why a job was refused, and the units charged before it: none of a panel check or a scan. The output is as it was.
+/// Why a job was refused, and the units charged before it: none of a panel check, a scan or a text. The output is as it was.
 #[derive(Clone, Copy, Debug, PartialEq, Eq)]
 pub struct Refusal {
     pub code: Code,
@@ -25,7 +25,33 @@ pub struct Refusal {
     pub rivals: Option<Rivals>,
 }
 
-/// The refusals of document 01, and of requests T-01 and T-02. Number 16 is none of them and stays unused.
+/// Two bindings that both fit an ambiguous word, of which neither contains the other: their places, counted from 1 in image order, in the store at
+/// that moment, `first` before `second`. That store has the image's bindings and those that expanding has made so far, each where an image written
+/// just then would have it.
+#[derive(Clone, Copy, Debug, PartialEq, Eq)]
+pub struct Rivals {
+    pub first: u32,
+    pub second: u32,
+}
+
+impl std::fmt::Display for Rivals {
+    fn fmt(&self, out: &mut std::fmt::Formatter) -> std::fmt::Result {
+        write!(out, "bindings {} and {} compete", self.first, self.second)
+    }
+}
+
+impl std::fmt::Display for Refusal {
+    fn fmt(&self, out: &mut std::fmt::Formatter) -> std::fmt::Result {
+        match self.rivals {
+            Some(rivals) => write!(out, "ambiguous: {rivals}"),
+            None => write!(out, "refused with code {}", self.code.number()),
+        }
+    }
+}
+
+impl std::error::Error for Refusal {}
+
+/// The refusals of document 01, and of requests T-01, T-02 and T-05. Number 16 is none of them and stays unused.
 #[derive(Clone, Copy, Debug, PartialEq, Eq)]
 #[non_exhaustive]
 pub enum Code {
@@ -78,11 +104,15 @@ pub enum Code {
     BadRecording,
     /// 25: a change of the recording names a point that the program drives.
     DrivenChange,
+    /// 26: something that is no part of a text, no object at all, or a second one.
+    BadText,
+    /// 27: a closing parenthesis with nothing open, or one left open at the end of the text.
+    Unbalanced,
     /// A number that this crate has no name for.
     Unknown(u32),
 }
 
-const NUMBERED: [(u32, Code); 24] = [
+const NUMBERED: [(u32, Code); 26] = [
     (1, Code::Layout),
     (2, Code::OverLimit),
     (3, Code::Unowned),
@@ -107,6 +137,8 @@ const NUMBERED: [(u32, Code); 24] = [
     (23, Code::TooManyBits),
     (24, Code::BadRecording),
     (25, Code::DrivenChange),
+    (26, Code::BadText),
+    (27, Code::Unbalanced),
 ];
 
 impl Code {
@@ -132,6 +164,9 @@ pub const MOST_BITS: usize = 256;
 
 /// Bytes of a scan's line, with its end, at most: so many for each scan are always enough.
 pub const MOST_LINE: usize = 7088;
+
+/// No image is longer, and no printed text: to read or print, a longer output is of no use.
+pub const MOST_IMAGE: usize = 65536;
 
 /// The lines of scans, the first scan's first. Each comes without its line end.
 #[derive(Clone, Debug, PartialEq, Eq)]
@@ -223,6 +258,8 @@ mod library {
             output: *mut u8,
             output_length: usize,
         ) -> Raw;
+        pub fn meirhuppa_read(text: *const u8, text_length: usize, output: *mut u8, output_length: usize) -> Raw;
+        pub fn meirhuppa_print(image: *const u8, image_length: usize, output: *mut u8, output_length: usize) -> Raw;
     }
 
     pub fn answer(raw: Raw) -> Result<super::Answer, super::Refusal> {
@@ -329,4 +366,24 @@ pub fn scan<'a>(image: &[u8], recording: &[u8], output: &'a mut [u8]) -> Result<
     let answer = library::answer(raw)?;
     let left = std::str::from_utf8(&output[..answer.length]).expect("lines are digits, spaces, @, = and line ends");
     Ok(Lines { left })
+}
+
+/// The syntax image of the one object that a text holds, at the front of `output`: no scopes, and the words numbered as first met. A text may be of
+/// any length, with parentheses to any depth; its bytes may be any, and what cannot be read is [`Code::BadText`]. A refusal leaves all of `output`
+/// as it was, success what is behind the image.
+#[cfg(target_arch = "x86_64")]
+pub fn read<'a>(text: &[u8], output: &'a mut [u8]) -> Result<&'a [u8], Refusal> {
+    // SAFETY: as in `resolve`.
+    let raw = unsafe { library::meirhuppa_read(text.as_ptr(), text.len(), output.as_mut_ptr(), output.len()) };
+    library::answer(raw).map(|answer| &output[..answer.length])
+}
+
+/// The text of the object that a syntax image holds, without its scopes, at the front of `output`: single spaces, and no line end. [`read`] gives
+/// the same objects again, words by their spelling. A refusal leaves all of `output` as it was, success what is behind the text.
+#[cfg(target_arch = "x86_64")]
+pub fn print<'a>(image: &[u8], output: &'a mut [u8]) -> Result<&'a str, Refusal> {
+    // SAFETY: as in `resolve`.
+    let raw = unsafe { library::meirhuppa_print(image.as_ptr(), image.len(), output.as_mut_ptr(), output.len()) };
+    let answer = library::answer(raw)?;
+    Ok(std::str::from_utf8(&output[..answer.length]).expect("a text has bytes from 32 to 126"))
 }

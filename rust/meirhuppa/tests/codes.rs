@@ -19,11 +19,13 @@ fn numbers_are_those_of_the_documents() {
     assert_eq!(Code::of(23), Code::TooManyBits);
     assert_eq!(Code::of(24), Code::BadRecording);
     assert_eq!(Code::of(25), Code::DrivenChange);
+    assert_eq!(Code::of(26), Code::BadText);
+    assert_eq!(Code::of(27), Code::Unbalanced);
 }
 
 #[test]
 fn other_numbers_are_unknown() {
-    for number in [0, 16, 26, 40] {
+    for number in [0, 16, 28, 40] {
         assert_eq!(Code::of(number), Code::Unknown(number));
     }
 }

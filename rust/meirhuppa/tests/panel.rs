@@ -1,4 +1,4 @@
-//! From an image to the names of its bits, and the refusals of the panel check. The archive is for x86-64, so elsewhere this says so and tests
+//! From a text to the names of its bits, and the refusals of the panel check. The archive is for x86-64, so elsewhere this says so and tests
 //! nothing.
 
 #[cfg(target_arch = "x86_64")]
@@ -52,9 +52,9 @@ mod on_x86_64 {
 
     #[test]
     fn the_accident_has_two_addresses() {
-        let image = include_bytes!("../../../examples/accident.image");
         let mut table = vec![0; WORDS_PER_UNIT * BUDGET];
-        let (mut expanded, mut tree) = (vec![0; 65536], vec![0; 65536]);
+        let (mut typed, mut expanded, mut tree) = (vec![0; 65536], vec![0; 65536], vec![0; 65536]);
+        let image = read(include_bytes!("../../../examples/accident.text"), &mut typed).expect("it is read");
         let first = expand(image, 0, BUDGET as u32, &mut table, &mut expanded).expect("it expands");
         let second = parse(&expanded[..first.length], BUDGET as u32, &mut table, &mut tree).expect("it parses");
         let mut lent = [FILL; MOST_BITS];

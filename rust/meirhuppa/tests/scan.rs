@@ -1,4 +1,4 @@
-//! The examples' recordings, from an image to lines, and the refusals of the scan runner. The archive is for x86-64, so elsewhere this says so and
+//! The examples' recordings, from a text to lines, and the refusals of the scan runner. The archive is for x86-64, so elsewhere this says so and
 //! tests nothing.
 
 #[cfg(target_arch = "x86_64")]
@@ -9,10 +9,11 @@ mod on_x86_64 {
     const BUDGET: usize = 1024;
     const POINTS: u16 = 1024;
 
-    /// The tree image of a syntax image.
-    fn tree_of(image: &[u8]) -> Vec<u8> {
+    /// The tree image of a text.
+    fn tree_of(text: &[u8]) -> Vec<u8> {
         let mut table = vec![0; WORDS_PER_UNIT * BUDGET];
-        let (mut expanded, mut tree) = (vec![0; 65536], vec![0; 65536]);
+        let (mut typed, mut expanded, mut tree) = (vec![0; 65536], vec![0; 65536], vec![0; 65536]);
+        let image = read(text, &mut typed).expect("it is read");
         let first = expand(image, 0, BUDGET as u32, &mut table, &mut expanded).expect("it expands");
         let second = parse(&expanded[..first.length], BUDGET as u32, &mut table, &mut tree).expect("it parses");
         tree.truncate(second.length);
@@ -38,7 +39,7 @@ mod on_x86_64 {
     }
 
     fn start_stop() -> Vec<u8> {
-        tree_of(include_bytes!("../../../examples/start-stop.image"))
+        tree_of(include_bytes!("../../../examples/start-stop.text"))
     }
 
     /// A number below 16,384 in groups of seven bits.
@@ -59,7 +60,7 @@ mod on_x86_64 {
 
     #[test]
     fn the_feeder_stays_still_while_the_fan_runs() {
-        let tree = tree_of(include_bytes!("../../../examples/feeder-and-fan.image"));
+        let tree = tree_of(include_bytes!("../../../examples/feeder-and-fan.text"));
         let lines = lines_of(&tree, include_bytes!("../../../examples/feeder-and-fan.recording"));
         assert_eq!(lines.len(), 8);
         assert_eq!(lines[1], "2 @10=1 @13=0");
