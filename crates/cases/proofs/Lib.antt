@@ -8,3 +8,5 @@ pub mod Rivals
 pub mod PanelPrograms
 pub mod Panel
 pub mod Scans
+pub mod Texts
+pub mod Reports

@@ -8,3 +8,5 @@ pub mod Undriven
 pub mod Unset
 pub mod Starts
 pub mod Recordings
+pub mod Division
+pub mod Report
