@@ -1,0 +1,5 @@
+pub mod Dividing
+pub mod Totalling
+pub mod Lines
+pub mod Settling
+pub mod Exact
