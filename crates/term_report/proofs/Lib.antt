@@ -1,0 +1,4 @@
+pub mod Singles
+pub mod Takings
+pub mod Files
+pub mod Sizes
