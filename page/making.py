@@ -1,0 +1,147 @@
+"""One page for the class: a program, its rungs, and a recording run on them, in one file that needs nothing else.
+
+    page_of(Shown(title, text, image, expanded, tree, recording, lines))    the page, as text
+
+text is the program as written, or as the printer gives it, or None. image and expanded are the bytes of the syntax images as read and as expanded,
+and None where the program came as a tree; tree is that of the tree image. lines are what the proved runner printed. Every tree and line comes
+from the proved programs. What the page works out for itself, contact by contact, is held against the runner's lines; where they differ there
+is no page, but a ValueError.
+"""
+import json
+import os
+import sys
+from collections import namedtuple
+from html import escape
+
+HERE = os.path.dirname(os.path.abspath(__file__))
+sys.path[:0] = [HERE, os.path.join(os.path.dirname(HERE), "command")]
+import front
+import ladder
+import names
+import notes
+import program
+import reading
+import rungs
+import spots
+import tracks
+import uses
+import working
+
+Shown = namedtuple("Shown", "title text image expanded tree recording lines")
+# What is shown of it: the ladder, the uses and macros of the text, the labels, the drawings, and the scans that the page has.
+Found = namedtuple("Found", "panel uses macros places labels drawings scans changes")
+
+LONGEST = 4000     # scans that a page shows
+ROOM = 1000000     # rungs times scans that a page shows
+NO_TEXT = "The program came as a tree. A tree has no text, no words and no macros, so its bits are called by their names."
+NO_IMAGE = "What each macro became cannot be told here, since the program came without its image."
+NO_MACRO = "No macro is used in this program."
+
+
+def uses_in(shown):
+    """The uses by their place in what was expanded, and the macros; both empty where they cannot be had."""
+    if None in (shown.text, shown.image, shown.expanded):
+        return uses.Found({}, [])
+    return uses.uses_of(spots.spot_of(shown.text), reading.image_of(shown.image), reading.image_of(shown.expanded))
+
+
+def kept(panel, scans):
+    """How many scans the page shows."""
+    return min(len(scans), LONGEST, max(100, ROOM // len(panel.rungs)))
+
+
+def worked_out(shown, panel, drawings, places, changes):
+    """The scans that the page shows. All are held against the runner's lines."""
+    if len(changes) != len(shown.lines):
+        raise ValueError(f"the page cannot be made: the runner has {len(shown.lines)} lines for {len(changes)} scans")
+    if not changes:
+        raise ValueError("the page cannot be made: the recording has no scan")
+    most = kept(panel, changes)
+    scans = working.held(panel, working.worked(panel, drawings, places, changes), shown.lines)
+    return [scan for number, scan in enumerate(scans) if number < most]
+
+
+def found_in(shown):
+    found = uses_in(shown)
+    expanded = reading.image_of(shown.expanded).root if shown.expanded else None
+    panel = ladder.ladder_of(reading.image_of(shown.tree).root, expanded, found.uses)
+    changes = working.scans_of(shown.recording)
+    places = names.places_of(panel, changes)
+    labels = names.labels_of(panel, places, notes.notes_of(shown.text or ""))
+    drawings = rungs.drawings_of(panel, labels)
+    scans = worked_out(shown, panel, drawings, places, changes)
+    return Found(panel, list(found.uses.values()), found.macros, places, labels, drawings, scans, changes)
+
+
+def changes_text(changes):
+    return " ".join(f"@{point}={value}" for point, value in changes) or "none"
+
+
+def data_of(shown, found):
+    """What the script shows, scan by scan."""
+    count = len(found.scans)
+    return {
+        "scans": count,
+        "changes": tracks.track(map(changes_text, found.changes[:count])),
+        "lines": tracks.track(line.partition(" ")[2] for line in shown.lines[:count]),
+        "places": {names.key_of(place): tracks.track(scan.values[place] for scan in found.scans) for place in found.places},
+        "rungs": [tracks.track(flags) for flags in zip(*(scan.flags for scan in found.scans))],
+    }
+
+
+def program_part(shown, found):
+    """The text and the uses, or why they are not there."""
+    if shown.text is None:
+        return f"<p>{NO_TEXT if shown.image is None else NO_IMAGE}</p>"
+    said = program.uses_list(found.panel, found.uses, shown.text) if found.uses else f"<p>{NO_MACRO if shown.expanded else NO_IMAGE}</p>"
+    fold = '<label class="fold"><input type="checkbox" id="rights"> show how the macros are defined</label>' if found.macros else ""
+    return f'{said}<div class="text">{fold}<pre tabindex="0" aria-label="The program as written">{program.text_of(shown.text, found.uses, found.macros)}</pre></div>'
+
+
+def left_out(shown, found):
+    count, whole = len(found.scans), len(shown.lines)
+    return f"The recording has {whole} scans. All were held against the runner; the page shows the first {count}." if count < whole else ""
+
+
+def file(name):
+    with open(os.path.join(HERE, name), encoding="utf-8") as given:
+        return given.read()
+
+
+def in_script(data):
+    """JSON that cannot end a script."""
+    return json.dumps(data, separators=(",", ":")).replace("<", "\\u003c")
+
+
+def parts_of(shown, found):
+    """What stands in the template's places."""
+    first = found.scans[0]
+
+    def written(use):
+        return " ".join(shown.text[use.spot.start:use.spot.end].split())
+
+    return {
+        "style": file("page.css"),
+        "title": escape(shown.title),
+        "count": str(len(found.scans)),
+        "changes": changes_text(found.changes[0]),
+        "line": escape(shown.lines[0]),
+        "left_out": left_out(shown, found),
+        "points": front.points(found.panel, found.places, first.values, found.labels),
+        "bits": front.bits(found.panel, first.values, written),
+        "program": program_part(shown, found),
+        "rungs": rungs.list_of(found.panel, found.drawings, first.flags, found.labels, written),
+        "timeline": front.timeline(found.places, found.labels),
+        "data": in_script(data_of(shown, found)),
+        "script": file("page.js"),
+    }
+
+
+def filled(template, parts):
+    """The template's parts stand between double braces, each name in a place of its own."""
+    pieces = template.split("{{")
+    return pieces[0] + "".join(parts[name] + rest for name, _, rest in (piece.partition("}}") for piece in pieces[1:]))
+
+
+def page_of(shown):
+    return filled(file("page.html"), parts_of(shown, found_in(shown)))
