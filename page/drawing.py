@@ -14,7 +14,7 @@ TOP = 46            # from the upper edge to the first row: room for labels
 BELOW = 30          # from the last row to the lower edge
 JOINT = 18          # before and after a parallel: the wire that joins its branches
 LEAD = 20           # from the left rail
-COIL = 120          # room for the coil
+SPARE = 12          # room for the coil, beyond that of a contact
 PLATES = 7          # from the middle of a contact to its plates
 HALF = 14           # half the height of a contact's plates
 ROUND = 15          # a coil
@@ -67,13 +67,13 @@ class Pen:
 
     # ---- parts
 
-    def wire(self, path, power):
-        if path:
-            self.wires += ['<path class="wire s', power, f'" d="{path}"/>']
-
     def across(self, x, y, to, power):
         if to > x:
-            self.wire(f"M{x} {y}H{to}", power)
+            # a little over, so that no seam is seen
+            self.wires += ['<path class="wire s', power, f'" d="M{x - 0.4:g} {y}H{to + 0.4:g}"/>']
+
+    def down(self, x, y, to, power):
+        self.wires += ['<path class="wire down s', power, f'" d="M{x:g} {y}V{to}"/>']
 
     def dot(self, x, y, power):
         self.wires += ['<circle class="dot s', power, f'" cx="{x}" cy="{y}" r="3.5"/>']
@@ -128,8 +128,8 @@ class Pen:
         for place in range(1, len(rows)):
             above, here = rows[place - 1], rows[place]
             up = self.circuit.any(outs[place:])
-            self.wire(f"M{left} {above}V{here}", power)
-            self.wire(f"M{right} {here}V{above}", up)
+            self.down(left, above, here, power)
+            self.down(right, above, here, up)
             self.dot(left, above, power)
             self.dot(right, above, self.circuit.any(outs[place - 1:]))
 
@@ -150,7 +150,7 @@ class Pen:
 
 def least_width(condition, cell):
     """The width of a rung that is no wider than it must be."""
-    return LEAD + Pen({}, cell).width(condition) + COIL
+    return LEAD + Pen({}, cell).width(condition) + cell + SPARE
 
 
 def drawing_of(rung, labels, cell, width):
@@ -159,7 +159,7 @@ def drawing_of(rung, labels, cell, width):
     width = max(width, least_width(rung.condition, cell))
     pen.across(0, TOP, LEAD, circuit.RAIL)
     power = pen.draw(rung.condition, LEAD, TOP, circuit.RAIL)
-    middle = width - COIL / 2
+    middle = width - (cell + SPARE) / 2
     pen.across(LEAD + pen.width(rung.condition), TOP, middle - ROUND + 1, power)
     pen.across(middle + ROUND - 1, TOP, width, power)
     pen.coil(rung, middle, TOP, power)

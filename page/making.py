@@ -130,6 +130,7 @@ def parts_of(shown, found):
         "points": front.points(found.panel, found.places, first.values, found.labels),
         "bits": front.bits(found.panel, first.values, written),
         "program": program_part(shown, found),
+        "most": str(rungs.most_of(found.drawings)),
         "rungs": rungs.list_of(found.panel, found.drawings, first.flags, found.labels, written),
         "timeline": front.timeline(found.places, found.labels),
         "data": in_script(data_of(shown, found)),

@@ -187,7 +187,7 @@
   function layOut() {
     all("svg, .scale", timeline).forEach(old => old.remove());
     const room = timeline.clientWidth - rows[0].querySelector(".name").offsetWidth - 4;
-    step = Math.max(4, Math.min(48, room / data.scans));
+    step = Math.max(4, Math.min(80, room / data.scans));
     scale();
     rows.forEach(bars);
     showHere();
@@ -203,6 +203,7 @@
 
   layOut();
   addEventListener("resize", layOut);
+  new ResizeObserver(() => document.documentElement.style.setProperty("--bar", one("bar").offsetHeight + "px")).observe(one("bar"));
   const asked = () => Number(location.hash.slice(1)) || 1;
   addEventListener("hashchange", () => go(asked()));
   show(asked());

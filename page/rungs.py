@@ -6,6 +6,7 @@ import ladder
 import names
 
 COMMON = 900  # up to this width all rungs are as wide as the widest, so that the right rail is one line
+LARGEST, SMALLEST = 1.6, 0.66  # how far a drawing is made larger for a projector, or smaller for a narrow screen
 
 
 def drawings_of(panel, labels):
@@ -13,6 +14,11 @@ def drawings_of(panel, labels):
     widths = [drawing.least_width(rung.condition, cell) for rung in panel.rungs]
     width = max((each for each in widths if each <= COMMON), default=0)
     return [drawing.drawing_of(rung, labels, cell, width) for rung in panel.rungs]
+
+
+def most_of(drawings):
+    """How wide the ladder may be drawn."""
+    return round(min(drawn.width for drawn in drawings) * LARGEST)
 
 
 def uses_inside(rung):
@@ -26,9 +32,14 @@ def tag(use, before, written):
             f'<span class="from">{before}</span> <code>{escape(written(use))}</code></button>')
 
 
+def together(rung, other):
+    """Whether one use made both."""
+    return None not in (rung, other) and rung.use is other.use
+
+
 def tags_of(rung, before, written):
     """Where a rung comes from, said once for rungs of the same use in a row."""
-    whole = [rung.use] if rung.use and (before is None or before.use is not rung.use) else []
+    whole = [rung.use] if rung.use and not together(before, rung) else []
     return "".join([tag(use, "from", written) for use in whole] + [tag(use, "with", written) for use in uses_inside(rung)])
 
 
@@ -38,14 +49,22 @@ def told(number, rung, labels):
     return f"Rung {number} {verb} {label.word} {label.below} to: {names.said(rung.condition, labels)}"
 
 
-def item(number, rung, before, drawn, flags, labels, written):
-    use = f' data-use="{rung.use.number}"' if rung.use else ""
+def attributes(before, rung, after):
+    """The use that a rung comes from, and whether it is the first or the last of it."""
+    ends = " begins" * (not together(before, rung)) + " ends" * (not together(rung, after))
+    return f'class="rung{ends}" data-use="{rung.use.number}"' if rung.use else 'class="rung"'
+
+
+def item(number, neighbours, drawn, flags, labels, written):
+    before, rung, _ = neighbours
     head = f'<div class="head"><span class="number">{number}</span>{tags_of(rung, before, written)}</div>'
-    least = f"--least:{round(drawn.width * 0.66)}px"
-    return f'<li class="rung"{use} style="{least}">{head}{drawing.markup_of(drawn, flags, told(number, rung, labels))}</li>'
+    least = f"--least:{round(drawn.width * SMALLEST)}px"
+    svg = drawing.markup_of(drawn, flags, told(number, rung, labels))
+    return f'<li {attributes(*neighbours)} style="{least}">{head}{svg}</li>'
 
 
 def list_of(panel, drawings, flags, labels, written):
     """written gives the text of a use."""
-    rows = zip(panel.rungs, [None, *panel.rungs], drawings, flags)
+    neighbours = zip([None, *panel.rungs], panel.rungs, [*panel.rungs[1:], None])
+    rows = zip(neighbours, drawings, flags)
     return "\n".join(item(number, *row, labels, written) for number, row in enumerate(rows, 1))

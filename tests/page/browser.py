@@ -1,0 +1,113 @@
+"""A real browser, driven by hand: Debian's chromium without a window, spoken to over a pair of pipes (its remote debugging pipe)."""
+import base64
+import json
+import os
+import shutil
+import subprocess
+import tempfile
+
+SECONDS = 20  # for one answer
+
+
+def program():
+    """The path of the browser, or None."""
+    return shutil.which("chromium") or shutil.which("chromium-browser")
+
+
+def install():
+    """Installs it where that can be done. Why not, or None."""
+    if program():
+        return None
+    if os.geteuid() != 0 or not shutil.which("apt-get"):
+        return "there is no chromium, and it cannot be installed here"
+    quiet = {"stdout": subprocess.DEVNULL, "stderr": subprocess.DEVNULL, "env": {**os.environ, "DEBIAN_FRONTEND": "noninteractive"}}
+    subprocess.run(["apt-get", "update"], check=False, **quiet)
+    subprocess.run(["apt-get", "install", "-y", "--no-install-recommends", "chromium"], check=False, **quiet)
+    return None if program() else "chromium could not be installed"
+
+
+class Browser:
+    """One page at a time. Use it in a `with`."""
+
+    def __enter__(self):
+        self.folder = tempfile.TemporaryDirectory()
+        ours, its = os.pipe(), os.pipe()
+        flags = ["--headless", "--disable-gpu", "--no-first-run", "--disable-background-networking", "--remote-debugging-pipe",
+                 f"--user-data-dir={self.folder.name}"] + ["--no-sandbox"] * (os.geteuid() == 0)
+        command = f'exec "$0" "$@" 3<&{ours[0]} 4>&{its[1]}'
+        self.process = subprocess.Popen(["sh", "-c", command, program(), *flags, "about:blank"], pass_fds=(ours[0], its[1]),
+                                        stdout=subprocess.DEVNULL, stderr=subprocess.DEVNULL)
+        os.close(ours[0])
+        os.close(its[1])
+        self.out, self.into, self.number, self.page = ours[1], os.fdopen(its[0], "rb"), 0, None
+        self.attach()
+        return self
+
+    def __exit__(self, *_):
+        os.close(self.out)
+        self.process.terminate()
+        try:
+            self.process.wait(5)
+        except subprocess.TimeoutExpired:
+            self.process.kill()
+            self.process.wait()
+        self.into.close()
+        shutil.rmtree(self.folder.name, ignore_errors=True)
+
+    def message(self):
+        """The next message that the browser sends; messages end with a zero byte."""
+        given = bytearray()
+        while not given.endswith(b"\0"):
+            byte = self.into.read(1)
+            if not byte:
+                raise RuntimeError("the browser has gone")
+            given += byte
+        return json.loads(given[:-1])
+
+    def ask(self, method, **settings):
+        """What the browser answers. What it tells of itself in between is passed over."""
+        self.number += 1
+        call = {"id": self.number, "method": method, "params": settings, **({"sessionId": self.page} if self.page else {})}
+        os.write(self.out, json.dumps(call).encode() + b"\0")
+        while (answer := self.message()).get("id") != self.number:
+            pass
+        if "error" in answer:
+            raise RuntimeError(f"{method}: {answer['error']}")
+        return answer["result"]
+
+    def attach(self):
+        target = next(each for each in self.ask("Target.getTargets")["targetInfos"] if each["type"] == "page")
+        self.page = self.ask("Target.attachToTarget", targetId=target["targetId"], flatten=True)["sessionId"]
+        self.ask("Page.enable")
+
+    def wait_for(self, event):
+        while self.message().get("method") != event:
+            pass
+
+    def open(self, path, place=""):
+        self.ask("Page.navigate", url="about:blank")
+        self.ask("Page.navigate", url=f"file://{path}{place}")
+        self.run("new Promise(done => document.readyState === 'complete' ? done() : addEventListener('load', done))")
+
+    def run(self, script):
+        """The value of a script in the page."""
+        answer = self.ask("Runtime.evaluate", expression=script, returnByValue=True, awaitPromise=True)
+        if "exceptionDetails" in answer:
+            raise RuntimeError(str(answer["exceptionDetails"].get("exception", answer["exceptionDetails"])))
+        return answer["result"].get("value")
+
+    def key(self, name, code, text=""):
+        """A key pressed and let go, as by a hand."""
+        about = {"key": name, "code": name if name != " " else "Space", "windowsVirtualKeyCode": code}
+        self.ask("Input.dispatchKeyEvent", type="keyDown", **about, **({"text": text} if text else {}))
+        self.ask("Input.dispatchKeyEvent", type="keyUp", **about)
+
+    def size(self, width, height):
+        self.ask("Emulation.setDeviceMetricsOverride", width=width, height=height, deviceScaleFactor=1, mobile=False)
+
+    def media(self, kind="", scheme="light"):
+        """kind is `print` or nothing; scheme is light or dark."""
+        self.ask("Emulation.setEmulatedMedia", media=kind, features=[{"name": "prefers-color-scheme", "value": scheme}])
+
+    def picture(self):
+        return base64.b64decode(self.ask("Page.captureScreenshot", format="png")["data"])
