@@ -10,7 +10,7 @@ import circuit
 import ladder
 
 ROW = 78            # from one row of contacts to the next
-TOP = 46            # from the upper edge to the first row: room for labels
+TOP = 52            # from the upper edge to the first row: room for labels
 BELOW = 30          # from the last row to the lower edge
 JOINT = 18          # before and after a parallel: the wire that joins its branches
 LEAD = 20           # from the left rail
@@ -41,7 +41,7 @@ def shortened(word, room, letter):
 def told_origin(origin):
     if origin is None:
         return ""
-    return f"written by {origin.macro}, which the macro uses" if origin.kind == "inner" else ORIGINS[origin.kind]
+    return f"written by {origin.macro or 'a macro'} on the way" if origin.kind == "inner" else ORIGINS[origin.kind]
 
 
 class Pen:
@@ -83,7 +83,7 @@ class Pen:
         kind = f" {origin.kind}" if origin else ""
         below = escape(shortened(label.below, self.cell, SMALL))
         low = f'<text class="below" x="{x}" y="{y - 20}">{below}</text>' if below else ""
-        high = y - 33 if below else y - 21
+        high = y - 35 if below else y - 21
         word = escape(shortened(label.word, self.cell, LETTER))
         told = ", ".join(filter(None, (label.told, told_origin(origin))))
         return f'<title>{escape(told)}</title><text class="label{kind}" x="{x}" y="{high}">{word}</text>{low}'
@@ -95,10 +95,10 @@ class Pen:
         left, right = middle - PLATES, middle + PLATES
         self.across(x, y, left, power)
         self.across(right, y, x + self.cell, out)
-        use = f' data-use="{part.use.number}"' if part.use else ""
+        about = f' data-contact="{part.place.kind}{part.place.number}"' + (f' data-use="{part.use.number}"' if part.use else "")
         slash = f'<path class="slash" d="M{left - 3} {y + HALF}L{right + 3} {y - HALF}"/>' if part.broken else ""
         self.marks += [
-            '<g class="contact s', closed, f'"{use}>', self.label(middle, y, part.place, part.origin),
+            '<g class="contact s', closed, f'"{about}>', self.label(middle, y, part.place, part.origin),
             '<g class="s', out, f'"><rect class="fill" x="{left}" y="{y - HALF + 2}" width="{2 * PLATES}" height="{2 * HALF - 4}"/>'
             f'<path class="plate" d="M{left} {y - HALF}v{2 * HALF}M{right} {y - HALF}v{2 * HALF}"/>{slash}</g></g>']
         return out

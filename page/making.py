@@ -28,21 +28,22 @@ import uses
 import working
 
 Shown = namedtuple("Shown", "title text image expanded tree recording lines")
-# What is shown of it: the ladder, the uses and macros of the text, the labels, the drawings, and the scans that the page has.
-Found = namedtuple("Found", "panel uses macros places labels drawings scans changes")
+# What is shown of it: the ladder; the uses and macros, and what is told where there are none; labels, drawings, and the scans that the page has.
+Found = namedtuple("Found", "panel uses macros told places labels drawings scans changes")
 
 LONGEST = 4000     # scans that a page shows
 ROOM = 1000000     # rungs times scans that a page shows
-NO_TEXT = "The program came as a tree. A tree has no text, no words and no macros, so its bits are called by their names."
-NO_IMAGE = "What each macro became cannot be told here, since the program came without its image."
-NO_MACRO = "No macro is used in this program."
+NO_WORDS = "The program came as a tree. A tree has no words and no macros, so its bits are called by their names."
+NO_MACROS = "What each macro became cannot be told here: the program came expanded, and its macros are gone."
+NO_USE = "No macro is used in this program."
 
 
 def uses_in(shown):
-    """The uses by their place in what was expanded, and the macros; both empty where they cannot be had."""
+    """The uses by their place in what was expanded, and the macros; None where they cannot be told."""
     if None in (shown.text, shown.image, shown.expanded):
-        return uses.Found({}, [])
-    return uses.uses_of(spots.spot_of(shown.text), reading.image_of(shown.image), reading.image_of(shown.expanded))
+        return None
+    read, expanded = reading.image_of(shown.image), reading.image_of(shown.expanded)
+    return None if read.scopes else uses.uses_of(spots.spot_of(shown.text), read, expanded)
 
 
 def kept(panel, scans):
@@ -63,6 +64,8 @@ def worked_out(shown, panel, drawings, places, changes):
 
 def found_in(shown):
     found = uses_in(shown)
+    told = NO_WORDS if shown.expanded is None else NO_MACROS if found is None else NO_USE
+    found = found or uses.Found({}, [])
     expanded = reading.image_of(shown.expanded).root if shown.expanded else None
     panel = ladder.ladder_of(reading.image_of(shown.tree).root, expanded, found.uses)
     changes = working.scans_of(shown.recording)
@@ -70,7 +73,7 @@ def found_in(shown):
     labels = names.labels_of(panel, places, notes.notes_of(shown.text or ""))
     drawings = rungs.drawings_of(panel, labels)
     scans = worked_out(shown, panel, drawings, places, changes)
-    return Found(panel, list(found.uses.values()), found.macros, places, labels, drawings, scans, changes)
+    return Found(panel, list(found.uses.values()), found.macros, told, places, labels, drawings, scans, changes)
 
 
 def changes_text(changes):
@@ -90,12 +93,12 @@ def data_of(shown, found):
 
 
 def program_part(shown, found):
-    """The text and the uses, or why they are not there."""
-    if shown.text is None:
-        return f"<p>{NO_TEXT if shown.image is None else NO_IMAGE}</p>"
-    said = program.uses_list(found.panel, found.uses, shown.text) if found.uses else f"<p>{NO_MACRO if shown.expanded else NO_IMAGE}</p>"
-    fold = '<label class="fold"><input type="checkbox" id="rights"> show how the macros are defined</label>' if found.macros else ""
-    return f'{said}<div class="text">{fold}<pre tabindex="0" aria-label="The program as written">{program.text_of(shown.text, found.uses, found.macros)}</pre></div>'
+    """The uses, or why there are none, and the text."""
+    if found.uses:
+        said = program.uses_list(found.panel, found.uses, shown.text)
+    else:
+        said = f"<p>{found.told}</p>"
+    return said + (program.text_part(shown.text, found.uses, found.macros) if shown.text is not None else "")
 
 
 def left_out(shown, found):

@@ -137,7 +137,7 @@
 
   // ---- the timeline
 
-  const SVG = "http://www.w3.org/2000/svg";
+  const SVG = document.querySelector("svg").namespaceURI;
   const HIGH = 22;
   const timeline = one("timeline");
   const rows = all(".row", timeline);

@@ -71,5 +71,10 @@ def marked(text, marks):
     return "".join([*pieces, escape(text[place:])])
 
 
-def text_of(text, found, macros):
-    return marked(text, [*use_marks(found), *macro_marks(macros), *comment_marks(text)])
+FOLD = '<label class="fold"><input type="checkbox" id="rights"> show how the macros are defined</label>'
+
+
+def text_part(text, found, macros):
+    inside = marked(text, [*use_marks(found), *macro_marks(macros), *comment_marks(text)])
+    pre = f'<pre tabindex="0" aria-label="The program as written">{inside}</pre>'
+    return f'<div class="text">{FOLD if macros else ""}{pre}</div>'

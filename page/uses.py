@@ -1,9 +1,10 @@
 """Which macro made what: the program as read and as expanded, walked side by side.
 
-A `let-syntax` or `lambda` adds one scope to its body: the one that its binding has beyond the scopes around it. A macro use takes two scopes,
-the use scope and, next to it, the introduction scope. What the use hands in carries the first, what the macro itself wrote carries the second.
-What carries neither, but another new scope, comes from a macro that this macro uses. A bit is known by its binder's scopes, so of one that is
-bound further out nobody can say by scopes who wrote it.
+A `let-syntax` or `lambda` adds one scope to its body: the one that its binding has beyond the scopes around it. What a macro use hands in stood
+inside all these, and carries them all. What a macro wrote stood before its own `let-syntax` did anything, and lacks that one's scope; it carries
+the introduction scope of the use instead, the smallest that is new. So scopes tell what the use handed in, what its macro wrote, and what was
+written by another macro, or by another use of the same one, on the way. A bit is known by its binder's scopes: of one that is bound further out
+nobody can say by scopes who wrote it.
 """
 from collections import namedtuple
 
@@ -14,11 +15,11 @@ LAMBDA, LET_SYNTAX, QUOTE, SYNTAX = range(4)
 
 # A binder around a place, with the scope that it adds. macro is its word where it is a let-syntax.
 Binder = namedtuple("Binder", "scope macro")
-# A use: its place in the text and its place in what was expanded, as part numbers from the root; the binders around it, outermost first.
-Use = namedtuple("Use", "number macro spot binders handing introducing")
+# A use: its place in the text, its macro's binder, all binders around it, outermost first, and its introduction scope.
+Use = namedtuple("Use", "number spot macro binders introducing")
 # What is known of a part: where it comes from, and from which inner macro.
 Origin = namedtuple("Origin", "kind macro")
-# For the text: the uses by their place in what was expanded, and each macro's spots: its word and its right-hand side.
+# The uses by their places in what was expanded, as part numbers from the root; and each macro's spots, of its word and its right-hand side.
 Found = namedtuple("Found", "uses macros")
 
 
@@ -44,18 +45,28 @@ def lambdas_in(right):
     return (head == reading.Symbol("lambda")) + sum(map(lambdas_in, parts_of(right)))
 
 
+def first_missing(binders, scopes):
+    """The outermost binder whose scope is not among these."""
+    return next((binder for binder in binders if binder.scope not in scopes), None)
+
+
+def introducing_in(made, macro, binders):
+    """The introduction scope of a use: the smallest new one on what its macro wrote."""
+    around = {binder.scope for binder in binders}
+    wrote = (scopes_of(piece) for piece in pieces(made) if first_missing(binders, scopes_of(piece)) == macro)
+    return min(set().union(*wrote) - around, default=None)
+
+
 def origin_of(use, leaf):
     """Of an object in what a use became."""
     scopes = scopes_of(leaf)
-    if use.introducing in scopes:
-        return Origin(OWN, None)
-    if use.handing in scopes:
-        return Origin(HANDED, None)
-    around = {binder.scope for binder in use.binders}
-    if scopes <= around:
+    missing = first_missing(use.binders, scopes)
+    if scopes <= {binder.scope for binder in use.binders}:
         return Origin(AROUND, None)
-    # A macro's text has the scopes around its let-syntax, and not the one that the let-syntax adds.
-    return Origin(INNER, next((binder.macro for binder in use.binders if binder.scope not in scopes), None))
+    if missing is None:
+        return Origin(HANDED, None)
+    own = missing == use.macro and use.introducing in scopes
+    return Origin(OWN, None) if own else Origin(INNER, missing.macro)
 
 
 class Walk:
@@ -78,9 +89,11 @@ class Walk:
         scopes = scopes_of(binder) | around
         named = (binding for binding in self.bindings if binding.symbol == binder.content.word and scopes < set(binding.scopes))
         fresh = [(*set(binding.scopes) - scopes, binding) for binding in named if len(binding.scopes) == len(scopes) + 1]
-        scope, binding = min((pair for pair in fresh if pair[0] > self.last), key=lambda pair: pair[0])
-        self.last = scope
-        return scope, binding
+        found = min((pair for pair in fresh if pair[0] > self.last), key=lambda pair: pair[0], default=None)
+        if found is None:
+            raise LookupError(f"no binding for {binder.content.word}")
+        self.last = found[0]
+        return found
 
     def walk(self, spot, read, made, path, binders):
         """read stood at spot, and became made."""
@@ -112,18 +125,15 @@ class Walk:
         self.walk(spot.parts[3], body, made, path, (*binders, binder))
 
     def use(self, spot, macro, made, path, binders):
-        around = {binder.scope for binder in binders}
-        new = set().union(*map(scopes_of, pieces(made))) - around
-        first = min(new, default=0)
-        # What is handed in has the scope of the macro's let-syntax, what the macro wrote has not.
-        handed = any({first, macro.scope} <= scopes_of(piece) for piece in pieces(made))
-        handing = first if handed else first - 1
-        self.uses[path] = Use(len(self.uses), macro.macro, spot, binders, handing, handing + 1)
-        self.last = max(new, default=self.last)
+        self.uses[path] = Use(len(self.uses), spot, macro, binders, introducing_in(made, macro, binders))
+        self.last = max(self.last, *(scope for piece in pieces(made) for scope in scopes_of(piece)), 0)
 
 
 def uses_of(spot, read, expanded):
-    """The uses in a program: its spot in the text, its image as read and its image as expanded."""
+    """The uses in a program: its spot in the text, its image as read and its image as expanded. None where they cannot be told."""
     walk = Walk(expanded.bindings)
-    walk.walk(spot, read.root, expanded.root, (), ())
+    try:
+        walk.walk(spot, read.root, expanded.root, (), ())
+    except LookupError:
+        return None
     return Found(walk.uses, walk.macros)

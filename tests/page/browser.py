@@ -2,9 +2,11 @@
 import base64
 import json
 import os
+import select
 import shutil
 import subprocess
 import tempfile
+import time
 
 SECONDS = 20  # for one answer
 
@@ -39,7 +41,7 @@ class Browser:
                                         stdout=subprocess.DEVNULL, stderr=subprocess.DEVNULL)
         os.close(ours[0])
         os.close(its[1])
-        self.out, self.into, self.number, self.page = ours[1], os.fdopen(its[0], "rb"), 0, None
+        self.out, self.into, self.given, self.number, self.page, self.faults = ours[1], its[0], b"", 0, None, []
         self.attach()
         return self
 
@@ -51,25 +53,33 @@ class Browser:
         except subprocess.TimeoutExpired:
             self.process.kill()
             self.process.wait()
-        self.into.close()
+        os.close(self.into)
         shutil.rmtree(self.folder.name, ignore_errors=True)
 
     def message(self):
         """The next message that the browser sends; messages end with a zero byte."""
-        given = bytearray()
-        while not given.endswith(b"\0"):
-            byte = self.into.read(1)
-            if not byte:
-                raise RuntimeError("the browser has gone")
-            given += byte
-        return json.loads(given[:-1])
+        while b"\0" not in self.given:
+            ready, _, _ = select.select([self.into], [], [], SECONDS)
+            given = os.read(self.into, 1 << 16) if ready else b""
+            if not given:
+                raise RuntimeError("the browser has gone" if ready else f"the browser has said nothing for {SECONDS} seconds")
+            self.given += given
+        message, _, self.given = self.given.partition(b"\0")
+        return json.loads(message)
+
+    def heard(self):
+        """The next message. What goes wrong in the page is kept."""
+        message = self.message()
+        if message.get("method") == "Runtime.exceptionThrown":
+            self.faults.append(message["params"]["exceptionDetails"].get("exception", {}).get("description", "a fault"))
+        return message
 
     def ask(self, method, **settings):
         """What the browser answers. What it tells of itself in between is passed over."""
         self.number += 1
         call = {"id": self.number, "method": method, "params": settings, **({"sessionId": self.page} if self.page else {})}
         os.write(self.out, json.dumps(call).encode() + b"\0")
-        while (answer := self.message()).get("id") != self.number:
+        while (answer := self.heard()).get("id") != self.number:
             pass
         if "error" in answer:
             raise RuntimeError(f"{method}: {answer['error']}")
@@ -79,15 +89,14 @@ class Browser:
         target = next(each for each in self.ask("Target.getTargets")["targetInfos"] if each["type"] == "page")
         self.page = self.ask("Target.attachToTarget", targetId=target["targetId"], flatten=True)["sessionId"]
         self.ask("Page.enable")
-
-    def wait_for(self, event):
-        while self.message().get("method") != event:
-            pass
+        self.ask("Runtime.enable")
+        self.ask("Emulation.setFocusEmulationEnabled", enabled=True)
 
     def open(self, path, place=""):
         self.ask("Page.navigate", url="about:blank")
         self.ask("Page.navigate", url=f"file://{path}{place}")
-        self.run("new Promise(done => document.readyState === 'complete' ? done() : addEventListener('load', done))")
+        while self.run("document.readyState") != "complete":
+            time.sleep(0.02)
 
     def run(self, script):
         """The value of a script in the page."""
