@@ -18,8 +18,5 @@ def notes_in(comment):
 
 def notes_of(text):
     """The note of each point; the first that is found counts."""
-    notes = {}
-    for start, end in spots.comments_of(text):
-        for point, note in notes_in(text[start:end]):
-            notes.setdefault(point, note)
-    return notes
+    found = [note for start, end in spots.comments_of(text) for note in notes_in(text[start:end])]
+    return dict(reversed(found))

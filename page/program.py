@@ -59,13 +59,15 @@ def comment_marks(text):
         yield start, end, '<span class="comment">', "</span>"
 
 
+def inserts_of(marks):
+    """Markup with its places, in order: at one place the ends first, inner ones before outer ones; then the starts, outer ones first."""
+    return sorted(insert for start, end, before, after in marks for insert in ((start, 1, -end, before), (end, 0, -start, after)))
+
+
 def marked(text, marks):
     """The text with markup around its marked parts, which lie inside or outside one another."""
-    inserts = []
-    for start, end, before, after in marks:
-        inserts += [(start, 1, -end, before), (end, 0, -start, after)]
     place, pieces = 0, []
-    for at, _, _, markup in sorted(inserts):
+    for at, _, _, markup in inserts_of(marks):
         pieces += [escape(text[place:at]), markup]
         place = at
     return "".join([*pieces, escape(text[place:])])

@@ -65,8 +65,7 @@ def origin_of(use, leaf):
         return Origin(AROUND, None)
     if missing is None:
         return Origin(HANDED, None)
-    own = missing == use.macro and use.introducing in scopes
-    return Origin(OWN, None) if own else Origin(INNER, missing.macro)
+    return Origin(OWN, None) if use.introducing in scopes else Origin(INNER, missing.macro)
 
 
 class Walk:

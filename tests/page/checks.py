@@ -215,31 +215,56 @@ def browser_checks(made, folder):
         yield fault_free("faults told by the browser", "; ".join(opened.faults))
 
 
-def counted(checks):
-    """How many passed and failed. What failed is told."""
-    results = list(checks)
-    for label, passed in results:
+class Count:
+    """How many checks passed and failed. What failed is told."""
+
+    def __init__(self):
+        self.passed = self.failed = 0
+
+    def one(self, label, passed):
+        self.passed, self.failed = self.passed + bool(passed), self.failed + (not passed)
         if not passed:
             print(f"failed: {label}")
-    return sum(passed for _, passed in results), sum(not passed for _, passed in results)
+
+    def all(self, checks):
+        """A check that cannot be made to the end has failed, and those behind it are not tried."""
+        try:
+            for label, passed in checks:
+                self.one(label, passed)
+        except (ValueError, RuntimeError, OSError, KeyError) as fault:
+            self.one(f"{type(fault).__name__}: {fault}", False)
 
 
-def main():
+def made_pages():
     made = {}
     for name, recording in pages.EXAMPLES:
         shown = pages.example(name, recording)
         made[name] = shown, making.page_of(shown)
-    print("page: lines by", os.path.relpath(pages.program("scan"), pages.ROOT))
-    passed, failed = counted(making_checks(made))
+    return made
+
+
+def all_checks(count):
+    """Why the browser was skipped, or None."""
+    made = made_pages()
+    count.all(making_checks(made))
     why = browser.install()
+    if why is None:
+        with tempfile.TemporaryDirectory() as folder:
+            count.all(browser_checks(made, folder))
+    return why
+
+
+def main():
+    count, why = Count(), None
+    print("page: lines by", os.path.relpath(pages.program("scan"), pages.ROOT))
+    try:
+        why = all_checks(count)
+    except ValueError as fault:
+        count.one(str(fault), False)
     if why:
         print(f"page: the browser is skipped, {why}")
-    else:
-        with tempfile.TemporaryDirectory() as folder:
-            more = counted(browser_checks(made, folder))
-        passed, failed = passed + more[0], failed + more[1]
-    print(f"{passed} passed, {failed} failed" + (", 1 skipped" if why else ""))
-    return 1 if failed else 0
+    print(f"{count.passed} passed, {count.failed} failed" + (", 1 skipped" if why else ""))
+    return 1 if count.failed else 0
 
 
 if __name__ == "__main__":

@@ -1,5 +1,5 @@
-"""Programs with their recordings, what the proved programs say of them, and the pages made of that. Where the proved programs are not built the second
-program, which is tested and not proved, stands in."""
+"""Programs with their recordings, what the proved programs say of them, and the pages made of that. Where the proved programs are not
+built the second program stands in, which is tested and not proved."""
 import os
 import sys
 from collections import namedtuple

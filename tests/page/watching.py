@@ -1,5 +1,6 @@
 """What a page shows in a real browser, scan by scan, held against what is right."""
 import os
+from itertools import product
 
 import image
 import pages
@@ -7,6 +8,7 @@ import recordings
 
 LEFT, RIGHT, HOME, END, SPACE, ENTER = ("ArrowLeft", 37), ("ArrowRight", 39), ("Home", 36), ("End", 35), (" ", 32, " "), ("Enter", 13, "\r")
 WIDTHS = (1400, 1000, 390)
+MEDIA = (("", "light"), ("", "dark"), ("print", "light"))
 
 with open(os.path.join(pages.HERE, "seen.js")) as file:
     SEEN = file.read()
@@ -167,11 +169,10 @@ class Watch:
     def layout_faults(self):
         """In light, dark and print, wide and narrow."""
         faults = []
-        for width in WIDTHS:
+        for width, (kind, scheme) in product(WIDTHS, MEDIA):
             self.browser.size(width, 900)
-            for kind, scheme in (("", "light"), ("", "dark"), ("print", "light")):
-                self.browser.media(kind, scheme)
-                faults += [f"{width} {kind or scheme}: {fault}" for fault in self.browser.run(FAULTS)]
+            self.browser.media(kind, scheme)
+            faults += [f"{width} {kind or scheme}: {fault}" for fault in self.browser.run(FAULTS)]
         self.browser.media()
         self.browser.size(1400, 900)
         return faults
