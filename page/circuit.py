@@ -1,12 +1,12 @@
 """The power in one rung, from left to right: signals, each worked out from those before it.
 
-A signal is the live rail; a contact that is closed; power let through by a contact; or power from any of several branches.
+A signal is the live rail; a contact that is closed; power let through by a contact; or power from either of two wires.
 """
 from collections import namedtuple
 
 Closed = namedtuple("Closed", "place broken")
 Through = namedtuple("Through", "power closed")
-Any = namedtuple("Any", "powers")
+Either = namedtuple("Either", "power other")
 RAIL = 0  # the first signal, always on
 
 
@@ -24,8 +24,12 @@ class Circuit:
     def through(self, power, closed):
         return self.add(Through(power, closed))
 
-    def any(self, powers):
-        return powers[0] if len(powers) == 1 else self.add(Any(powers))
+    def gathered(self, outs):
+        """For each of several branches the power from it and those below it, which is gathered upward."""
+        ups = [outs[-1]]
+        for out in reversed(outs[:-1]):
+            ups.append(self.add(Either(out, ups[-1])))
+        return ups[::-1]
 
     def reads(self):
         """The places that the contacts read."""
@@ -36,7 +40,7 @@ class Circuit:
             return bool(values[signal.place]) != signal.broken
         if isinstance(signal, Through):
             return worked[signal.power] and worked[signal.closed]
-        return any(worked[power] for power in signal.powers)
+        return worked[signal.power] or worked[signal.other]
 
     def worked(self, values):
         """Every signal, where each place has the value given."""

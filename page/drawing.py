@@ -118,20 +118,19 @@ class Pen:
             self.across(left + self.width(inner), y, right, outs[-1])
             rows.append(y)
             y += ROW * self.rows(inner)
-        self.joints(left, right, rows, power, outs)
-        out = self.circuit.any(outs)
-        self.across(right, rows[0], right + JOINT, out)
-        return out
+        ups = self.circuit.gathered(outs)
+        self.joints(left, right, rows, power, ups)
+        self.across(right, rows[0], right + JOINT, ups[0])
+        return ups[0]
 
-    def joints(self, left, right, rows, power, outs):
+    def joints(self, left, right, rows, power, ups):
         """The wires down to the branches, and up from them."""
         for place in range(1, len(rows)):
             above, here = rows[place - 1], rows[place]
-            up = self.circuit.any(outs[place:])
             self.down(left, above, here, power)
-            self.down(right, above, here, up)
+            self.down(right, above, here, ups[place])
             self.dot(left, above, power)
-            self.dot(right, above, self.circuit.any(outs[place - 1:]))
+            self.dot(right, above, ups[place - 1])
 
     def draw(self, part, x, y, power):
         """Draws a part from x on, and gives the signal of its power at the right."""
