@@ -58,7 +58,8 @@ def attributes(before, rung, after):
 def item(number, neighbours, drawn, flags, labels, written):
     before, rung, _ = neighbours
     head = f'<div class="head"><span class="number">{number}</span>{tags_of(rung, before, written)}</div>'
-    least = f"--least:{round(drawn.width * SMALLEST)}px"
+    # What is wider than the others is seen by moving sideways, and need not be made smaller as well.
+    least = f"--least:{round(drawn.width * (SMALLEST if drawn.width <= COMMON else 1))}px"
     svg = drawing.markup_of(drawn, flags, told(number, rung, labels))
     return f'<li {attributes(*neighbours)} style="{least}">{head}{svg}</li>'
 
