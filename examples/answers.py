@@ -15,8 +15,8 @@ ROOT = os.path.dirname(os.path.dirname(os.path.abspath(__file__)))
 SECOND = os.path.join(ROOT, "second")
 BUILT = os.path.join(ROOT, "target", "bin")
 
-# The two bindings that compete are 0 but with code 6.
-Answer = namedtuple("Answer", "line code units rivals written")
+# The name is 0 but from a resolve, and the two bindings that compete but with code 6.
+Answer = namedtuple("Answer", "line code units name rivals written")
 Head = namedtuple("Head", "names made scopes")
 
 
@@ -26,20 +26,25 @@ def second_program(name):
     return os.path.join(SECOND, name)
 
 
+def proved(name):
+    """The path of one of the proved library's programs."""
+    return os.path.join(BUILT, name)
+
+
 def command(program):
     """How to run a program: the proved ones, which are built for x86-64, by way of run-built."""
     folder, name = os.path.split(os.path.abspath(program))
     return [os.path.join(ROOT, "run-built"), name] if folder == BUILT else [program]
 
 
-def ask(replay, job, given, budget):
-    call = image.call(job, given, budget=budget)
+def ask(replay, job, given, budget, phase=0):
+    call = image.call(job, given, phase=phase, budget=budget)
     line = subprocess.run(command(replay), input=call, stdout=subprocess.PIPE, check=True).stdout.decode().strip()
     if len(line.split()) != 8:
         raise ValueError(f"{replay} prints {line!r} for a call of {job}")
     *numbers, _, written = line.split()
-    code, units, _, _, *rivals = map(int, numbers)
-    return Answer(line, code, units, rivals, b"" if written == "-" else bytes.fromhex(written))
+    code, units, name, _, *rivals = map(int, numbers)
+    return Answer(line, code, units, name, rivals, b"" if written == "-" else bytes.fromhex(written))
 
 
 def expand_and_parse(replay, given, budget):

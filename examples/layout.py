@@ -4,15 +4,23 @@ WIDTH = 80
 
 
 class Parts(list):
-    """A list, with the comments that stand before it."""
+    """A list, with the comments that stand before it, and what it begins and ends with."""
 
-    def __init__(self, parts=(), comments=()):
+    def __init__(self, parts=(), comments=(), ends=("(", ")")):
         super().__init__(parts)
         self.comments = list(comments)
+        self.ends = ends
+
+
+def ends_of(thing):
+    return getattr(thing, "ends", ("(", ")"))
 
 
 def in_one_line(thing):
-    return thing if isinstance(thing, str) else "(" + " ".join(map(in_one_line, thing)) + ")"
+    if isinstance(thing, str):
+        return thing
+    first, last = ends_of(thing)
+    return first + " ".join(map(in_one_line, thing)) + last
 
 
 def comments_of(thing):
@@ -33,13 +41,14 @@ def lines_of(thing, room=WIDTH):
     if isinstance(thing, str) or not thing or not has_comments(thing) and len(in_one_line(thing)) <= room:
         return [in_one_line(thing)]
     count = words_in_front(thing)
-    indent = "  " if count else " "
+    first, last = ends_of(thing)
+    indent = "  " if count else " " * len(first)
     lines = [indent + line for part in thing[count:] for line in (*comments_of(part), *lines_of(part, room - len(indent)))]
     if count:
-        lines.insert(0, "(" + " ".join(thing[:count]))
+        lines.insert(0, first + " ".join(thing[:count]))
     else:
-        lines[0] = "(" + lines[0][1:]
-    lines[-1] += ")"
+        lines[0] = first + lines[0][len(first):]
+    lines[-1] += last
     return lines
 
 
