@@ -1,6 +1,6 @@
 """The words of the command. Each gives the bytes for standard output."""
+import os
 import subprocess
-import sys
 from collections import namedtuple
 
 import paths  # noqa: F401
@@ -36,7 +36,7 @@ def shown(image):
 
 def out(image):
     """An image's bytes; at a terminal, what people can read."""
-    return shown(image) if sys.stdout.isatty() else image
+    return shown(image) if os.isatty(1) else image
 
 
 def print_(call):

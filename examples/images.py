@@ -6,41 +6,20 @@ import sys
 
 sys.dont_write_bytecode = True
 import answers
-import listing
 
-PROVED = os.path.join(answers.BUILT, "text_image")
-KINDS = (1, 2)  # the first byte of an image; no text that is read begins with one of these
+PROVED = answers.proved("text_image")
 
 
 def reader():
-    """How to run the program that reads texts, and how to call it."""
-    if os.path.exists(PROVED):
-        return answers.command(PROVED), os.path.relpath(PROVED, answers.ROOT)
-    return [answers.second_program("text"), "read"], "the second program (tested, not proved)"
+    """How to run the program that reads texts."""
+    return answers.command(PROVED) if os.path.exists(PROVED) else [answers.second_program("text"), "read"]
 
 
 def image_of(text):
-    run = subprocess.run(reader()[0], input=text, stdout=subprocess.PIPE, stderr=subprocess.PIPE)
+    run = subprocess.run(reader(), input=text, stdout=subprocess.PIPE, stderr=subprocess.PIPE)
     if not run.stdout:
         raise ValueError(f"the text is refused: {run.stderr.decode().strip()}")
     return run.stdout
-
-
-def text_or_image_in(file):
-    if file.endswith(".rung"):
-        with open(file) as given:
-            return listing.text_of(given.read()).encode()
-    with open(file, "rb") as given:
-        return given.read()
-
-
-def image_in(file):
-    """The image of a file, which is a listing where it ends in .rung, else an image or a text. Standard error says who reads the text."""
-    given = text_or_image_in(file)
-    if given[:1] and given[0] in KINDS:
-        return given
-    print("text read by", reader()[1], file=sys.stderr)
-    return image_of(given)
 
 
 def example(name):

@@ -15,13 +15,20 @@ import image
 
 LAST_POINT = 1023
 STILL = "-"
+LONGEST_SHOWN = 40
+
+
+def shown(word):
+    """A word as it can be said in a line."""
+    seen = "".join(letter if letter.isprintable() else "?" for letter in word)
+    return seen if len(seen) <= LONGEST_SHOWN else seen[:LONGEST_SHOWN] + "..."
 
 
 def change_of(word):
     """Point and value of a change."""
-    parts = re.fullmatch(r"@(\d+)=([01])", word)
+    parts = re.fullmatch(r"@([0-9]{1,4})=([01])", word)
     if not parts or int(parts[1]) > LAST_POINT:
-        raise ValueError(f"{word} is no change: that is @, a point up to {LAST_POINT}, = and 0 or 1")
+        raise ValueError(f"{shown(word)} is no change: that is @, a point up to {LAST_POINT}, = and 0 or 1")
     return int(parts[1]), int(parts[2])
 
 

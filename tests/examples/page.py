@@ -4,7 +4,6 @@ import os
 import re
 import subprocess
 import sys
-import tempfile
 from collections import namedtuple
 
 sys.dont_write_bytecode = True
@@ -69,17 +68,13 @@ def second_programs():
     return Programs(answers.second_program("replay"), answers.second_program("program"))
 
 
-def run_script(name, *arguments):
-    return subprocess.run([os.path.join(EXAMPLES, name), *arguments], stdout=subprocess.PIPE, stderr=subprocess.PIPE)
-
-
 def printed(program, *arguments, given=b""):
     return subprocess.run([*answers.command(program), *arguments], input=given, stdout=subprocess.PIPE).stdout.decode()
 
 
 def proved_programs():
     """None where they are not built."""
-    programs = Programs(*(os.path.join(answers.BUILT, name) for name in ("replay", "expander")))
+    programs = Programs(*map(answers.proved, ("replay", "expander")))
     return programs if all(map(os.path.exists, programs)) else None
 
 
@@ -126,44 +121,6 @@ def prints_as_said(row, program):
     return line.startswith("code 19 units ")
 
 
-def shows_as_said(row):
-    """From the text, and the same from the listing."""
-    paths = [os.path.join(EXAMPLES, row.name + ending) for ending in (".text", ".rung")]
-    shown, same = (run_script("expand", path, str(row.budget)).stdout.decode().splitlines() for path in paths)
-    said = [f"{job}: code 0 units {units}" for job, units in zip(("expand", "parse"), row.units)]
-    bits = ["panel: code 0"] + [f"bit {name}: address {address}" for name, address in addresses()[row.name]]
-    return (shown == same and [" ".join(line.split()[:5]) for line in shown[1:3]] == said
-            and (row.tree is None or shown[3] == row.tree) and shown[4:] == bits)
-
-
-def image_is_made(row):
-    """By examples/image, from the text, the listing and the image."""
-    with tempfile.NamedTemporaryFile(suffix=".image") as file:
-        file.write(image_of(row.name))
-        file.flush()
-        paths = [os.path.join(EXAMPLES, row.name + ending) for ending in (".text", ".rung")] + [file.name]
-        return all(run_script("image", path).stdout == image_of(row.name) for path in paths)
-
-
-def bad_text_is_refused():
-    """Nothing is printed but the code."""
-    with tempfile.NamedTemporaryFile(suffix=".text") as file:
-        file.write(b"('all")
-        file.flush()
-        runs = [run_script(script, file.name) for script in ("image", "expand")]
-    return all((run.returncode, run.stdout) == (1, b"") and b"code 27" in run.stderr for run in runs)
-
-
-def rivals_are_shown():
-    """Of an ambiguous word: sample 3 of document 01."""
-    bindings = [("x", [1], 4), ("x", [2], 4)]
-    with tempfile.NamedTemporaryFile(suffix=".image") as file:
-        file.write(listing.image.syntax_image("x{1,2}", scopes=2, bindings=bindings))
-        file.flush()
-        shown = run_script("expand", file.name).stdout.decode().splitlines()
-    return shown[1] == "expand: code 6 units 2" and shown[2].startswith("Bindings 1 and 2 compete: ")
-
-
 def same_lines(row, second, proved):
     return (answers.expand_and_parse(second, image_of(row.name), row.budget)
             == answers.expand_and_parse(proved, image_of(row.name), row.budget))
@@ -196,17 +153,20 @@ def nineteenth_passes_older_limit(replay):
     return (scopes_without([nineteenth, twentieth], replay) <= OLDER_SCOPES < scopes_without([twentieth], replay))
 
 
+def one_listing_is_printed(row):
+    """By examples/make, without writing a file."""
+    made = subprocess.run([os.path.join(EXAMPLES, "make"), os.path.join(EXAMPLES, row.name + ".rung")], stdout=subprocess.PIPE)
+    return made.stdout.decode() == file_text("examples", row.name + ".text")
+
+
 def page_checks(second):
     yield "the page has every listing", page_has_every_listing()
     yield "the commands of the page", commands_fit(PAGE)
     yield "the commands of the README", commands_fit(file_text("README.md"))
     yield "the mixing plant's counts", plant_counts_as_said(second.replay)
     yield "the mixing plant's nineteenth macro", nineteenth_passes_older_limit(second.replay)
-    yield "who competes, by examples/expand", rivals_are_shown()
-    yield "a text that is refused", bad_text_is_refused()
     for row in rows():
-        yield f"{row.name} by examples/image", image_is_made(row)
-        yield f"{row.name} by examples/expand", shows_as_said(row)
+        yield f"the text of {row.name} by examples/make", one_listing_is_printed(row)
 
 
 def program_checks(row, programs):
