@@ -54,7 +54,7 @@ def addresses():
 
 def commands(page):
     """The texts that a page hands to the program, each with the units that it says are printed."""
-    found = re.findall(r"^ +(?:\./meirhuppa|second/text read <) examples/(\S+)\.text(?: \| second/program)? +code 0 units (\d+)$", page, re.MULTILINE)
+    found = re.findall(r"^ +(?:\./meirhuppa|second/text read <) examples/(\S+)\.text(?: \| second/program)? +# code 0 units (\d+)$", page, re.MULTILINE)
     return [(name, int(units)) for name, units in found]
 
 
