@@ -1,0 +1,41 @@
+"""The one table of refusals is document 01's list, as the requests amend it, and document 02's numbers that have landed."""
+import re
+
+import calls
+import refusals
+
+# Document 02: T-07 takes 16 out, T-09 makes 16 table words 40.
+TAKEN_OUT = 16
+OLD_TABLE, NEW_TABLE = "fewer than 16 table words", "fewer than 40 table words"
+ROOMS = {13: "name", 14: "scope", 15: "binding"}
+
+
+def paper(name):
+    return calls.bytes_in("docs", "paper", name).decode()
+
+
+def document_01():
+    """The rows of the list, without the job that stands before some of them."""
+    rows = re.findall(r"^\| (\d+) \| (.*) \|$", paper("01-scope.md"), re.MULTILINE)
+    found = {int(code): re.sub(r"^(evaluate|expand): ", "", text).replace(OLD_TABLE, NEW_TABLE) for code, text in rows}
+    found.update({code: f"no {room} room left" for code, room in ROOMS.items()})
+    del found[TAKEN_OUT]
+    return found
+
+
+def document_02():
+    """The requests that have landed name their refusals as `21 outside the profile, 22 point driven twice`."""
+    said = " ".join(re.findall(r"Refusals: (.*)", paper("02-change-requests.md")))
+    return {int(code): text for code, text in re.findall(r"\b(2[1-7]) ((?:(?!, 2\d |, in that|, tested|;|, the first).)*)", said)}
+
+
+def of_header():
+    """The numbers that the library's header has."""
+    return {int(code) for code in re.findall(r"^    MEIRHUPPA_[A-Z_]+ = (\d+),?  */\*", calls.bytes_in("include", "meirhuppa.h").decode(), re.MULTILINE)}
+
+
+def checks():
+    yield "rooms are those of document 01", lambda: "| 13, 14, 15 | no name, scope, binding room left |" in paper("01-scope.md")
+    yield "document 01's list", lambda: {c: t for c, t in refusals.MEANINGS.items() if c <= 20} == document_01()
+    yield "document 02's numbers", lambda: {c: t for c, t in refusals.MEANINGS.items() if c > 20} == document_02()
+    yield "the header's numbers", lambda: set(refusals.MEANINGS) | {0} == of_header()
