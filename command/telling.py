@@ -15,9 +15,11 @@ class BadUse(Exception):
 
 
 def say(line):
-    """A line on standard error; where that is closed, nobody hears it."""
-    if sys.stderr is not None:
+    """A line on standard error. Where nobody hears it, the work goes on."""
+    try:
         print(line, file=sys.stderr, flush=True)
+    except OSError:
+        pass
 
 
 def refuse(*lines):

@@ -94,11 +94,11 @@ def text_of(found):
 
 
 def page(call):
-    import making
     program, recording = call.files
     found = way.to_tree(program)
     lines = jobs.scan(found.tree, recording).decode().splitlines()
     title = given.title_of(call.names[0])
+    import making  # large, and no other word needs it
     try:
         made = making.page_of(making.Shown(title, text_of(found), found.image, found.expanded, found.tree, recording, lines))
     except ValueError as fault:
