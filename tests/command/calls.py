@@ -1,4 +1,5 @@
 """How the tests call the command, what they expect of every call, and the second program's answers."""
+import functools
 import os
 import subprocess
 import sys
@@ -48,12 +49,15 @@ def shown(found):
 
 # ---- the second program
 
+second_program = functools.cache(answers.second_program)
+
+
 def second(job, given, phase=0):
-    return answers.ask(answers.second_program("replay"), job, given, BUDGET, phase)
+    return answers.ask(second_program("replay"), job, given, BUDGET, phase)
 
 
 def second_scan(tree, recording):
-    return answers.scan(answers.second_program("scan"), tree, recording).stdout
+    return answers.scan(second_program("scan"), tree, recording).stdout
 
 
 Stages = namedtuple("Stages", "text image expanded tree expand_said parse_said")
@@ -68,5 +72,6 @@ def stages(text):
     return Stages(text, image, expanded.written, parsed.written, *said)
 
 
+@functools.cache
 def example(name):
     return stages(bytes_in("examples", name + ".text"))

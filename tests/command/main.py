@@ -16,7 +16,7 @@ import helps
 import meanings
 import printing
 
-AT_ONCE = 2
+AT_ONCE = 3
 NOT_LOOKED_AT = {".git", "target"}
 
 
@@ -31,34 +31,35 @@ def contents(folder):
     return found
 
 
-def of_checks(checks):
-    """The faults of checks, each a name and a question."""
-    return [None if holds() else name for name, holds in checks]
+def fault_of(check):
+    """A check is a name and a question."""
+    name, holds = check
+    return None if holds() else name
 
 
-def in_a_folder():
-    """The cases of bad input, in a folder that must stay as it is."""
-    with tempfile.TemporaryDirectory() as folder, ThreadPoolExecutor(AT_ONCE) as pool:
+def with_bad_input(pool):
+    """In a folder that must stay as it is."""
+    with tempfile.TemporaryDirectory() as folder:
         bad.make_files(Path(folder))
         before = contents(folder)
         faults = list(pool.map(lambda case: calls.fault_of(case, folder), bad.cases()))
         return [*faults, None if contents(folder) == before else "bad input: something was written"]
 
 
-def faults():
+def faults(pool):
     """What failed, and None for each that passed."""
     before = contents(calls.ROOT)
-    with ThreadPoolExecutor(AT_ONCE) as pool:
-        yield from pool.map(calls.fault_of, good.cases())
-    yield from in_a_folder()
+    yield from pool.map(calls.fault_of, good.cases())
+    yield from with_bad_input(pool)
     for part in (printing, helps, endings, meanings):
-        yield from of_checks(part.checks())
+        yield from pool.map(fault_of, part.checks())
     yield from (None if holds else f"building: {name}" for name, holds in building.results())
     yield None if contents(calls.ROOT) == before else "something was written into the project's folder"
 
 
 def main():
-    found = list(faults())
+    with ThreadPoolExecutor(AT_ONCE) as pool:
+        found = list(faults(pool))
     failed = [fault for fault in found if fault]
     for fault in failed:
         print(f"command: {fault}")
