@@ -1,7 +1,6 @@
 """The files that a word is handed. `-` is standard input."""
 import os
 
-import paths  # noqa: F401
 import recordings
 from telling import BadUse, refuse
 

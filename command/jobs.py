@@ -2,7 +2,6 @@
 import re
 import subprocess
 
-import paths  # noqa: F401
 import answers
 import reading
 from telling import BadUse, judge

@@ -5,6 +5,7 @@ import subprocess
 import sys
 
 sys.dont_write_bytecode = True
+import paths  # noqa: F401
 import given
 import words
 from telling import BAD_USE, DONE, REFUSED, BadUse, Refused, say

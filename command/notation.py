@@ -7,7 +7,6 @@
     `(a b){1}             syntax value, with its scopes
     x{1,2}  x{1,2|3|4}    an object and its scopes, of phase 0 or of all phases
 """
-import paths  # noqa: F401
 import layout
 import listing
 import reading

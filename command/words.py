@@ -3,7 +3,6 @@ import os
 import subprocess
 from collections import namedtuple
 
-import paths  # noqa: F401
 import answers
 import given
 import jobs

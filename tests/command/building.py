@@ -34,8 +34,7 @@ class Copy:
             (self.root / part).parent.mkdir(exist_ok=True)
             shutil.copy(calls.path(part), self.root / part)
         (self.root / "crates" / "expander" / "src").mkdir(parents=True)
-        self.source = self.root / "crates" / "expander" / "src" / "main.rt"
-        self.source.write_text("// a source\n")
+        (self.root / "crates" / "expander" / "src" / "main.rt").write_text("// a source\n")
         self.set_tools()
 
     def set_tools(self):
@@ -58,8 +57,8 @@ class Copy:
                               stderr=subprocess.PIPE, stdin=subprocess.DEVNULL)
         return done.returncode, done.stdout, done.stderr, asked.read_text().splitlines() if asked.exists() else []
 
-    def edit(self):
-        """A source that is newer than all programs by a minute; then they are all older than now, too."""
+    def age(self):
+        """Makes the programs older than every source."""
         for program in (self.root / "target" / "bin").iterdir():
             os.utime(program, (0, 0))
 
@@ -75,10 +74,10 @@ def first_run(copy):
 
 
 def newer_sources(copy):
-    copy.edit()
+    copy.age()
     yield "a newer source is noticed", copy.run(TEXT) == (0, LINE, AGAIN, ["rt check expander text_image"])
     yield "and once, though the programs are the same", copy.run(TEXT) == (0, LINE, b"", [])
-    copy.edit()
+    copy.age()
     (copy.folder / "broken").touch()
     stopped = AGAIN + b"meirhuppa: the programs could not be built\n"
     yield "what cannot be built is not run", copy.run(TEXT)[:3] == (2, b"", stopped)

@@ -62,15 +62,22 @@ def of_scans(program, recording):
 
 
 def of_recordings():
-    """Lines with comments, line ends of all kinds, in any order; no scans at all; and on standard input."""
+    """Lines with comments, line ends of all kinds, in any order; and no scans at all."""
     found = calls.example("interlock")
     said = ("read: code 0", found.expand_said, found.parse_said, "scan: code 0")
-    for name, given, scans in (
-            ("comments and line ends", b"; none\r\n@4=1 @3=0 ; \xc3\xb6ne\r\r\n- ; three\n", [(3, 0), (4, 1)]),
-            ("a comment alone", b"; nothing\n", None),
-            ("a recording of no scans", b"\0", None)):
-        recording = b"\3\2\3\0\4\1\0\0" if scans else b"\0"
+    for name, given, recording in (
+            ("comments and line ends", b"; none\r\n@4=1 @3=0 ; \xc3\xb6ne\r\r\n- ; three\n", b"\3\2\3\0\4\1\0\0"),
+            ("a comment alone", b"; nothing\n", b"\0"),
+            ("no scans", b"\0", b"\0")):
         yield Case(f"a recording with {name}", ["scan", "examples/interlock.text", "-"], given, out=calls.second_scan(found.tree, recording), said=said)
+
+
+def of_pages():
+    """What a page shows is for its own test. Of an image the text is printed first."""
+    found = calls.example("accident")
+    for form, given, said in (*forms(found), ("tree", found.tree, ())):
+        printed = ("print: code 0",) if form.endswith("image") else ()
+        yield Case(f"page, {form}", ["page", "-", "examples/feeder-and-fan.scans"], given, out=None, said=(*said, "scan: code 0", *printed))
 
 
 def of_evaluating():
@@ -82,7 +89,7 @@ def of_evaluating():
 
 
 def of_resolving():
-    """Samples 2, 4 and 6 of document 01, and a word."""
+    """Samples 2 and 6 of document 01, and a word."""
     names = {"words": ["x", "y"], "made": 3, "scopes": 2}
     two = image.syntax_image("x{1,2}", bindings=[("x", [], 6), ("x", [1], 7)], **names)
     phases = image.syntax_image("x{|1,2}", bindings=[("x", [1], 6)], **names)
@@ -123,4 +130,4 @@ def cases():
         yield from of_panels(name)
     yield from of_scans("start-stop", "start-stop")
     yield from of_scans("one-bit", "feeder-and-fan")
-    yield from (*of_recordings(), *of_evaluating(), *of_resolving(), *of_phases(), *of_reports(), *of_lines())
+    yield from (*of_recordings(), *of_pages(), *of_evaluating(), *of_resolving(), *of_phases(), *of_reports(), *of_lines())
