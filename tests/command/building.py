@@ -9,16 +9,19 @@ import calls
 
 RT = """#!/bin/sh
 echo "rt $*" >> {folder}/calls
+echo "fn of a crate: proved"
+echo "rt: a crate proved" >&2
 [ ! -e {folder}/broken ] || exit 1
 shift
 mkdir -p target/bin
 for name in "$@"; do [ -e target/bin/$name ] || cp {programs}/$name target/bin/; done
 """
-FIRST = b"meirhuppa: proving and building the programs first, about ten minutes\n"
-AGAIN = b"meirhuppa: a source is newer than the programs: proving and building them again, up to ten minutes\n"
+CRATE = b"rt: a crate proved\n"
+FIRST = b"meirhuppa: proving and building the programs first, about ten minutes\n" + CRATE
+AGAIN = b"meirhuppa: a source is newer than the programs: proving and building them again, up to ten minutes\n" + CRATE
 LINE = b"code 0 units 367\n"
 TEXT = "examples/accident.text"
-TOOLS = "bash env cat head od tr sed find date touch mktemp rm dirname uname readlink paste cp mkdir".split()
+TOOLS = "bash env cat head od tr sed find date touch mktemp rm dirname uname readlink paste cp mkdir tee grep".split()
 
 
 class Copy:
@@ -79,8 +82,9 @@ def newer_sources(copy):
     yield "and once, though the programs are the same", copy.run(TEXT) == (0, LINE, b"", [])
     copy.age()
     (copy.folder / "broken").touch()
-    stopped = AGAIN + b"meirhuppa: the programs could not be built\n"
+    stopped = AGAIN + b"meirhuppa: the programs could not be built: target/build.log says why\n"
     yield "what cannot be built is not run", copy.run(TEXT)[:3] == (2, b"", stopped)
+    yield "all that rt said is kept", "fn of a crate: proved\n" in (copy.root / "target" / "build.log").read_text()
     yield "nor by a word", copy.run("print", TEXT)[:3] == (2, b"", stopped)
 
 
