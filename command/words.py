@@ -4,6 +4,7 @@ import subprocess
 from collections import namedtuple
 
 import answers
+import bits
 import given
 import jobs
 import notation
@@ -77,7 +78,7 @@ def resolve(call):
 
 def panel_(call):
     found = way.to_tree(call.files[0])
-    return panel.table(panel.rows(jobs.bits(found.tree), found.expanded, found.tree)).encode()
+    return panel.table(bits.bits_of(jobs.bits(found.tree), found.tree, found.expanded)).encode()
 
 
 def scan(call):
@@ -96,12 +97,13 @@ def page(call):
     program, recording = call.files
     found = way.to_tree(program)
     lines = jobs.scan(found.tree, recording).decode().splitlines()
+    names = jobs.bits(found.tree)
     title = given.title_of(call.names[0])
     import making  # large, and no other word needs it
     try:
-        made = making.page_of(making.Shown(title, text_of(found), found.image, found.expanded, found.tree, recording, lines))
+        made = making.page_of(making.Shown(title, text_of(found), found.image, found.expanded, found.tree, names, recording, lines))
     except ValueError as fault:
-        refuse(f"page: {fault}")
+        refuse(f"page: it cannot be made: {fault}")
     return made.encode()
 
 

@@ -1,10 +1,11 @@
 """The rungs of a panel program: its tree, as the panel profile has it (crates/requests/specs/Panel.antt), as contacts and coils.
 
 `and` is contacts in series, `or` in parallel. A `not` is pushed inward until it stands at a single contact, which is then a break contact.
-The expanded object, where it is had, is walked beside the tree: it has the words of the bits, and tells which macro made what.
+The expanded object, where it is had, is walked beside the tree, and tells which macro made what.
 """
 from collections import namedtuple
 
+import bits
 import reading
 import uses
 
@@ -17,7 +18,7 @@ Series = namedtuple("Series", "parts")
 Parallel = namedtuple("Parallel", "parts")
 # use is that which the whole rung comes from, or None.
 Rung = namedtuple("Rung", "coil origin condition use")
-Bit = namedtuple("Bit", "address name word start use")
+Bit = namedtuple("Bit", (*bits.Bit._fields, "use"))
 Ladder = namedtuple("Ladder", "bits rungs")
 
 
@@ -36,9 +37,6 @@ class Beside:
         quoted = isinstance(self.thing.content, reading.List)
         return self.thing.content.parts[-1] if quoted else self.thing
 
-    def word(self):
-        return self.leaf().content.word
-
     def origin(self):
         return uses.origin_of(self.use, self.leaf()) if self.use else None
 
@@ -49,9 +47,6 @@ class NothingBeside:
 
     def part(self, place):
         return self
-
-    def word(self):
-        return None
 
     def origin(self):
         return None
@@ -64,23 +59,24 @@ def joined(kind, parts):
 
 
 class Walk:
-    def __init__(self):
-        self.bits, self.rungs = [], []
+    def __init__(self, known):
+        self.known, self.bits, self.rungs = iter(known), [], []
 
     def program(self, tree, beside, around):
         """around has the bits in scope by their names."""
         head, *rest = tree.parts
         word = reading.rung_word(head)
         if isinstance(head, reading.Function):
-            self.bit(head, rest[0].value, beside.part(0), around)
+            self.bit(head, beside.part(0), around)
         elif word == "all":
             for place, part in enumerate(rest, 1):
                 self.program(part, beside.part(place), around)
         else:
             self.rung(rest, beside, around)
 
-    def bit(self, function, start, beside, around):
-        bit = Bit(len(self.bits), function.name, beside.part(1).word(), start, beside.use)
+    def bit(self, function, beside, around):
+        """The next one, for functions are met in order of address."""
+        bit = Bit(*next(self.known), beside.use)
         self.bits.append(bit)
         self.program(function.body, beside.part(2), {**around, function.name: bit})
 
@@ -106,9 +102,9 @@ class Walk:
         return joined(Series if (word == "and") != inverse else Parallel, parts)
 
 
-def ladder_of(tree, expanded=None, found=None):
-    """The ladder of a tree, and of the expanded object beside it with the uses that were found in it."""
-    walk = Walk()
+def ladder_of(tree, known, expanded=None, found=None):
+    """The ladder of a tree whose bits are known, and of the expanded object beside it with the uses that were found in it."""
+    walk = Walk(known)
     walk.program(tree, Beside(expanded, found or {}) if expanded else NothingBeside(), {})
     return Ladder(walk.bits, walk.rungs)
 

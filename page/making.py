@@ -1,11 +1,11 @@
 """One page for the class: a program, its rungs, and a recording run on them, in one file that needs nothing else.
 
-    page_of(Shown(title, text, image, expanded, tree, recording, lines))    the page, as text
+    page_of(Shown(title, text, image, expanded, tree, names, recording, lines))    the page, as text
 
 text is the program as written, or as the printer gives it, or None. image and expanded are the bytes of the syntax images as read and as expanded,
-and None where the program came as a tree; tree is that of the tree image. lines are what the proved runner printed. Every tree and line comes
-from the proved programs. What the page works out for itself, contact by contact, is held against the runner's lines; where they differ there
-is no page, but a ValueError.
+and None where the program came as a tree; tree is that of the tree image. names are those of its bits in order of address, as the panel check lists
+them, and lines are what the runner printed. All of this comes from the proved programs. What the page finds for itself, the functions of the tree and
+what each rung does contact by contact, is held against names and lines; where they differ there is no page, but a ValueError.
 """
 import json
 import os
@@ -15,6 +15,7 @@ from html import escape
 
 HERE = os.path.dirname(os.path.abspath(__file__))
 sys.path[:0] = [HERE, os.path.join(os.path.dirname(HERE), "command")]
+import bits
 import front
 import ladder
 import names
@@ -27,7 +28,7 @@ import tracks
 import uses
 import working
 
-Shown = namedtuple("Shown", "title text image expanded tree recording lines")
+Shown = namedtuple("Shown", "title text image expanded tree names recording lines")
 # What is shown of it: the ladder; the uses and macros, and what is told where there are none; labels, drawings, and the scans that the page has.
 Found = namedtuple("Found", "panel uses macros told places labels drawings scans changes")
 
@@ -54,9 +55,9 @@ def kept(panel, scans):
 def worked_out(shown, panel, drawings, places, changes):
     """The scans that the page shows. All are held against the runner's lines."""
     if len(changes) != len(shown.lines):
-        raise ValueError(f"the page cannot be made: the runner has {len(shown.lines)} lines for {len(changes)} scans")
+        raise ValueError(f"the runner has {len(shown.lines)} lines for {len(changes)} scans")
     if not changes:
-        raise ValueError("the page cannot be made: the recording has no scan")
+        raise ValueError("the recording has no scan")
     most = kept(panel, changes)
     scans = working.held(panel, working.worked(panel, drawings, places, changes), shown.lines)
     return [scan for number, scan in enumerate(scans) if number < most]
@@ -67,7 +68,8 @@ def found_in(shown):
     told = NO_WORDS if shown.expanded is None else NO_MACROS if found is None else NO_USE
     found = found or uses.Found({}, [])
     expanded = reading.image_of(shown.expanded).root if shown.expanded else None
-    panel = ladder.ladder_of(reading.image_of(shown.tree).root, expanded, found.uses)
+    known = bits.bits_of(shown.names, shown.tree, shown.expanded)
+    panel = ladder.ladder_of(reading.image_of(shown.tree).root, known, expanded, found.uses)
     changes = working.scans_of(shown.recording)
     places = names.places_of(panel, changes)
     labels = names.labels_of(panel, places, notes.notes_of(shown.text or ""))

@@ -68,5 +68,5 @@ def held(panel, scans, lines):
     for number, (scan, line) in enumerate(zip(scans, lines), 1):
         own = line_of(number, places, scan.values)
         if own != line:
-            raise ValueError(f"the page cannot be made: its calculation of scan {number} gives '{own}', the runner's line is '{line}'")
+            raise ValueError(f"the page's calculation of scan {number} gives '{own}', the runner's line is '{line}'")
         yield scan

@@ -69,7 +69,8 @@ def of_phases():
         usage = calls.bytes_in("command", "help", word + ".txt").decode().splitlines()[0]
         yield Case(f"{word}, no phase", [word, "good", "--phase"], status=2, said=(f"meirhuppa: usage: {usage}",))
         for phase in ("x", "", "4294967296", "\u0661"):
-            yield Case(f"{word}, phase {phase}", [word, "good", f"--phase={phase}"], status=2, said=(f"meirhuppa: --phase takes a number, not '{phase}'",))
+            said = f"meirhuppa: --phase takes a number, not '{phase}'"
+            yield Case(f"{word}, phase {phase}", [word, "good", f"--phase={phase}"], status=2, said=(said,))
         yield Case(f"{word}, phase 3", [word, "good", "--phase", "3"], status=1, said=("read: code 0", line(word, 12, "phase over 2")))
 
 
@@ -89,6 +90,9 @@ def of_recordings(word):
             ("too many bytes", b"\0" * 70000, (*said, layout)),
             ("a driven point", b"@10=1", (*said, "scan: code 25: a change names a driven point"))):
         yield Case(f"{word}, a recording with {name}", [word, calls.path("examples", "start-stop.text"), "-"], given, 1, said=lines)
+    if word == "page":
+        yield Case("page, no scan to show", [word, calls.path("examples", "start-stop.text"), "-"], b"\0", 1,
+                   said=(*said, "scan: code 0", "panel: code 0", "page: it cannot be made: the recording has no scan"))
     yield Case(f"{word}, both on standard input", [word, "-", "-"], b"x", 2, said=("meirhuppa: only one of two files can be standard input",))
 
 
@@ -107,7 +111,8 @@ def of_ambiguity():
         yield Case(f"{word}, ambiguous", [word, "-"], competing("x{1,2,3}"), 1, said=(f"{word}: code 6 units {units}: ambiguous", rivals))
     yield Case("expand, ambiguous late", ["expand", "-"], long, 1,
                said=(f"expand: code 6 units {second('expand', long).units}: ambiguous", places))
-    yield Case("expand, ambiguous at phase 1", ["expand", "-", "--phase=1"], competing("x{|1,2,3}"), 1, said=("expand: code 6 units 2: ambiguous", places))
+    yield Case("expand, ambiguous at phase 1", ["expand", "-", "--phase=1"], competing("x{|1,2,3}"), 1,
+               said=("expand: code 6 units 2: ambiguous", places))
 
 
 def refused(word, text, *said):

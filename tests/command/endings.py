@@ -59,7 +59,8 @@ def says_what_it_can_do():
 
 
 def a_file_like_a_word():
-    return shell("cd $(mktemp -d) && cp $OLDPWD/examples/accident.text expand && $OLDPWD/meirhuppa ./expand && rm -r $PWD") == (0, b"code 0 units 367\n", b"")
+    line = "cd $(mktemp -d) && cp $OLDPWD/examples/accident.text expand && $OLDPWD/meirhuppa ./expand && rm -r $PWD"
+    return shell(line) == (0, b"code 0 units 367\n", b"")
 
 
 def checks():

@@ -69,7 +69,8 @@ def of_recordings():
             ("comments and line ends", b"; none\r\n@4=1 @3=0 ; \xc3\xb6ne\r\r\n- ; three\n", b"\3\2\3\0\4\1\0\0"),
             ("a comment alone", b"; nothing\n", b"\0"),
             ("no scans", b"\0", b"\0")):
-        yield Case(f"a recording with {name}", ["scan", "examples/interlock.text", "-"], given, out=calls.second_scan(found.tree, recording), said=said)
+        lines = calls.second_scan(found.tree, recording)
+        yield Case(f"a recording with {name}", ["scan", "examples/interlock.text", "-"], given, out=lines, said=said)
 
 
 def of_pages():
@@ -77,7 +78,8 @@ def of_pages():
     found = calls.example("accident")
     for form, given, said in (*forms(found), ("tree", found.tree, ())):
         printed = ("print: code 0",) if form.endswith("image") else ()
-        yield Case(f"page, {form}", ["page", "-", "examples/feeder-and-fan.scans"], given, out=None, said=(*said, "scan: code 0", *printed))
+        yield Case(f"page, {form}", ["page", "-", "examples/feeder-and-fan.scans"], given, out=None,
+                   said=(*said, "scan: code 0", "panel: code 0", *printed))
 
 
 def of_evaluating():

@@ -1,6 +1,7 @@
 """Checks the page: what it is made of without a browser, and what it shows in one."""
 import os
 import random
+import re
 import subprocess
 import tempfile
 
@@ -71,18 +72,26 @@ def changed_lines_are_refused(shown):
     *first, last = shown.lines
     wrong = ([*first, other_line(last)], first, [*shown.lines, last], shown.lines[::-1])
     said = [refusal(shown._replace(lines=lines)) for lines in wrong]
-    return all(each and "\n" not in each and each.startswith("the page cannot be made: ") for each in said)
+    return all(each and "\n" not in each for each in said)
 
 
 def is_self_contained(page):
     return not any(word in page for word in FORBIDDEN) and page.count("<script") == 2 and page.startswith("<!DOCTYPE html>")
 
 
-def addresses_are_the_check_s(shown):
-    """Names in order of address, as the panel check lists them."""
-    checked = answers.panel_check(pages.program("replay"), shown.tree)
-    panel = making.ladder.ladder_of(reading.image_of(shown.tree).root)
-    return answers.bits_of(checked) == [(bit.name, bit.address) for bit in panel.bits]
+BIT_ROW = re.compile(r'<td class="address">(\d+)</td><th scope="row">[^<]*</th><td>(\d+)</td>')
+
+
+def addresses_are_the_check_s(shown, page):
+    """Names and addresses in the memory, and in every label, are those that the panel check lists."""
+    right = [(str(address), str(name)) for address, name in enumerate(shown.names)]
+    return BIT_ROW.findall(page) == right and set(re.findall(r"address (\d+), name (\d+)", page)) == set(right)
+
+
+def other_names_are_refused(shown):
+    """A bit too few or too many, another name, and bits in another order."""
+    wrong = [shown.names[1:], [*shown.names, 99], [*shown.names[:-1], 99], shown.names[::-1]]
+    return all("the panel check lists" in (refusal(shown._replace(names=names)) or "") for names in wrong)
 
 
 def tree_has_a_page(shown):
@@ -142,7 +151,7 @@ def one_page_checks(name, shown, page):
     yield f"{name}: changed lines", changed_lines_are_refused(shown)
     yield f"{name}: one file alone", is_self_contained(page)
     yield f"{name}: {len(page)} bytes", len(page) < 160000
-    yield f"{name}: addresses", addresses_are_the_check_s(shown)
+    yield f"{name}: addresses", addresses_are_the_check_s(shown, page)
     if name in WRITTEN:
         yield f"{name}: who wrote what", origins_in(page) == WRITTEN[name]
     if name in BECAME:
@@ -154,6 +163,7 @@ def making_checks(made):
         yield from one_page_checks(name, shown, page)
     shown = made["feeder-and-fan"][0]
     yield "damaged images", damage_is_told(shown)
+    yield "bits that the panel check does not list", other_names_are_refused(shown)
     yield "a program that came as a tree", tree_has_a_page(shown)
     yield "a program that came expanded", expanded_image_has_a_page(shown)
     yield "a long recording", long_recording_is_cut(shown)

@@ -9,6 +9,7 @@ HERE = os.path.dirname(os.path.abspath(__file__))
 ROOT = os.path.normpath(os.path.join(HERE, "..", ".."))
 sys.path[:0] = [os.path.join(ROOT, folder) for folder in ("examples", "second", "command", "page")]
 import answers
+import bits
 import image
 import images
 import making
@@ -51,10 +52,20 @@ def lines_of(tree, recording):
     return run.stdout.decode().splitlines()
 
 
+def names_of(tree):
+    """Those of the bits, in order of address, as the panel check lists them."""
+    return [name for name, _ in answers.bits_of(answers.panel_check(program("replay"), tree))]
+
+
+def shown_tree(title, tree, recording):
+    """A program that came as a tree."""
+    return making.Shown(title, None, None, None, tree, names_of(tree), recording, lines_of(tree, recording))
+
+
 def shown_of(title, text, recording):
     read = images.image_of(text.encode())
     expanded, parsed = answers.expand_and_parse(program("replay"), read, BUDGET)
-    return making.Shown(title, text, read, expanded.written, parsed.written, recording, lines_of(parsed.written, recording))
+    return shown_tree(title, parsed.written, recording)._replace(text=text, image=read, expanded=expanded.written)
 
 
 def example(name, recording):

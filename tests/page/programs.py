@@ -50,7 +50,7 @@ def by_chance(seed):
     text = f"('all {maker.program([], 5)} {maker.program([], 5)} {maker.program([], 5)})"
     tree = image.tree_image(text, made=maker.name - 3)
     recording = image.recording([" ".join(f"@{point}={chance.choice('01')}" for point in (1, 2, 3)) for _ in range(12)])
-    return making.Shown(f"program {seed}", None, None, None, tree, recording, pages.lines_of(tree, recording))
+    return pages.shown_tree(f"program {seed}", tree, recording)
 
 
 def agrees(seed):

@@ -85,8 +85,7 @@ def scan_fault(number, seen, right, changes, state):
 
 def starts_of(shown):
     """The bits at the start, by the proved check's order and the tree's own numbers."""
-    panel = pages.making.ladder.ladder_of(pages.reading.image_of(shown.tree).root)
-    return {f"${bit.address}": bit.start for bit in panel.bits}
+    return {f"${bit.address}": bit.start for bit in pages.bits.bits_of(shown.names, shown.tree)}
 
 
 def fault_in(seen, shown, right):
