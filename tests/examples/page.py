@@ -11,6 +11,7 @@ ROOT = os.path.normpath(os.path.join(os.path.dirname(os.path.abspath(__file__)),
 EXAMPLES = os.path.join(ROOT, "examples")
 sys.path.insert(0, EXAMPLES)
 import answers
+import by_command
 import images
 import listing
 import scans
@@ -75,7 +76,7 @@ def printed(program, *arguments, given=b""):
 def proved_programs():
     """None where they are not built."""
     programs = Programs(*map(answers.proved, ("replay", "expander")))
-    return programs if all(map(os.path.exists, programs)) else None
+    return programs if scans.is_built() else None
 
 
 # ---- the checks ----
@@ -190,6 +191,7 @@ def checks(second, proved):
         if proved:
             yield from program_checks(row, proved)
             yield f"{row.name}: the lines of both", same_lines(row, second.replay, proved.replay)
+            yield from by_command.checks(row, addresses()[row.name])
 
 
 def main():
