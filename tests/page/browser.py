@@ -8,7 +8,8 @@ import subprocess
 import tempfile
 import time
 
-SECONDS = 20  # for one answer
+SECONDS = 60  # for one answer
+INSTALLING = ["timeout", "--kill-after=10", "300", "sh", "-c", "apt-get update && apt-get install -y --no-install-recommends chromium"]
 
 
 def program():
@@ -17,15 +18,26 @@ def program():
 
 
 def install():
-    """Installs it where that can be done. Why not, or None."""
+    """Installs it where that can be done in five minutes. Why not, or None."""
     if program():
         return None
     if os.geteuid() != 0 or not shutil.which("apt-get"):
         return "there is no chromium, and it cannot be installed here"
-    quiet = {"stdout": subprocess.DEVNULL, "stderr": subprocess.DEVNULL, "env": {**os.environ, "DEBIAN_FRONTEND": "noninteractive"}}
-    subprocess.run(["apt-get", "update"], check=False, **quiet)
-    subprocess.run(["apt-get", "install", "-y", "--no-install-recommends", "chromium"], check=False, **quiet)
-    return None if program() else "chromium could not be installed"
+    quiet = dict.fromkeys(("stdin", "stdout", "stderr"), subprocess.DEVNULL)
+    subprocess.run(INSTALLING, env={**os.environ, "DEBIAN_FRONTEND": "noninteractive"}, **quiet)
+    return None if program() else "there is no chromium, and it could not be installed"
+
+
+def missing():
+    """Why there is no browser to be had, or None."""
+    why = install()
+    if why:
+        return why
+    try:
+        with Browser():
+            return None
+    except (RuntimeError, OSError) as fault:
+        return f"chromium does not start here: {fault}"
 
 
 class Browser:
@@ -34,15 +46,19 @@ class Browser:
     def __enter__(self):
         self.folder = tempfile.TemporaryDirectory()
         ours, its = os.pipe(), os.pipe()
-        flags = ["--headless", "--disable-gpu", "--no-first-run", "--disable-background-networking", "--remote-debugging-pipe",
-                 f"--user-data-dir={self.folder.name}"] + ["--no-sandbox"] * (os.geteuid() == 0)
+        flags = ["--headless", "--disable-gpu", "--no-first-run", "--disable-background-networking", "--disable-dev-shm-usage",
+                 "--remote-debugging-pipe", f"--user-data-dir={self.folder.name}"] + ["--no-sandbox"] * (os.geteuid() == 0)
         command = f'exec "$0" "$@" 3<&{ours[0]} 4>&{its[1]}'
         self.process = subprocess.Popen(["sh", "-c", command, program(), *flags, "about:blank"], pass_fds=(ours[0], its[1]),
                                         stdout=subprocess.DEVNULL, stderr=subprocess.DEVNULL)
         os.close(ours[0])
         os.close(its[1])
         self.out, self.into, self.given, self.number, self.page, self.faults = ours[1], its[0], b"", 0, None, []
-        self.attach()
+        try:
+            self.attach()
+        except (RuntimeError, OSError):
+            self.__exit__()
+            raise
         return self
 
     def __exit__(self, *_):
@@ -85,9 +101,18 @@ class Browser:
             raise RuntimeError(f"{method}: {answer['error']}")
         return answer["result"]
 
+    def first_page(self):
+        """It may not be there at once."""
+        until = time.monotonic() + SECONDS
+        while time.monotonic() < until:
+            pages = [each["targetId"] for each in self.ask("Target.getTargets")["targetInfos"] if each["type"] == "page"]
+            if pages:
+                return pages[0]
+            time.sleep(0.1)
+        raise RuntimeError("the browser has no page")
+
     def attach(self):
-        target = next(each for each in self.ask("Target.getTargets")["targetInfos"] if each["type"] == "page")
-        self.page = self.ask("Target.attachToTarget", targetId=target["targetId"], flatten=True)["sessionId"]
+        self.page = self.ask("Target.attachToTarget", targetId=self.first_page(), flatten=True)["sessionId"]
         self.ask("Page.enable")
         self.ask("Runtime.enable")
         self.ask("Emulation.setFocusEmulationEnabled", enabled=True)

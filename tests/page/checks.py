@@ -3,8 +3,10 @@ import os
 import random
 import re
 import subprocess
+import sys
 import tempfile
 
+sys.dont_write_bytecode = True
 import pages
 import browser
 import programs
@@ -257,7 +259,7 @@ def all_checks(count):
     """Why the browser was skipped, or None."""
     made = made_pages()
     count.all(making_checks(made))
-    why = browser.install()
+    why = browser.missing()
     if why is None:
         with tempfile.TemporaryDirectory() as folder:
             count.all(browser_checks(made, folder))
