@@ -1,9 +1,10 @@
 """What is said on standard error, and how a word of the command ends."""
-import sys
+import os
 
 import refusals
 
 DONE, REFUSED, BAD_USE = range(3)
+STANDARD_ERROR = 2
 
 
 class Refused(Exception):
@@ -17,7 +18,7 @@ class BadUse(Exception):
 def say(line):
     """A line on standard error. Where nobody hears it, the work goes on."""
     try:
-        print(line, file=sys.stderr, flush=True)
+        os.write(STANDARD_ERROR, f"{line}\n".encode(errors="replace"))
     except OSError:
         pass
 

@@ -44,8 +44,10 @@ def output_is_closed():
     return status == 2 and said.endswith(b"meirhuppa: standard output: Bad file descriptor\n")
 
 
-def errors_are_closed():
-    return shell("./meirhuppa panel examples/interlock.text 2>&-") == (0, b"address  name  word  start\n", b"")
+def nobody_hears():
+    """Standard error is closed, or full."""
+    wanted = (0, b"address  name  word  start\n", b"")
+    return all(shell(f"./meirhuppa panel examples/interlock.text {errors}") == wanted for errors in ("2>&-", "2>/dev/full"))
 
 
 def input_is_closed():
@@ -69,7 +71,7 @@ def checks():
     yield "interrupted", is_interrupted
     yield "standard output is full", output_is_full
     yield "standard output is closed", output_is_closed
-    yield "standard error is closed", errors_are_closed
+    yield "standard error is closed or full", nobody_hears
     yield "standard input is closed", input_is_closed
     yield "what it can do, where nothing comes in", says_what_it_can_do
     yield "a file named like a word", a_file_like_a_word
