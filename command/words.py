@@ -94,6 +94,8 @@ def text_of(found):
 
 
 def page(call):
+    if os.isatty(1):
+        raise BadUse("a page is for a browser, so write it to a file: put > panel.html behind the command")
     program, recording = call.files
     found = way.to_tree(program)
     lines = jobs.scan(found.tree, recording).decode().splitlines()

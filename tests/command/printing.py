@@ -17,6 +17,7 @@ binding 2: x{1,3} to 6
 (x{1,2,3}
   %s){1|2}
 """ % " ".join(["x"] * 40)
+NO_PAGE = b"meirhuppa: a page is for a browser, so write it to a file: put > panel.html behind the command\n"
 
 
 def in_one_line(text):
@@ -51,13 +52,13 @@ def all_is_shown():
     return in_one_line(printed(given, "--all")) == " ".join(ALL.split())
 
 
-def at_a_terminal(word, given):
-    """What a word writes where standard output is a terminal."""
+def at_a_terminal(word, given, *more):
+    """What a word writes where standard output is a terminal, and what is said."""
     reader, terminal = pty.openpty()
     with open(reader, "rb", buffering=0) as seen:
-        subprocess.run([calls.COMMAND, word, "-"], input=given, stdout=terminal, stderr=subprocess.DEVNULL)
+        done = subprocess.run([calls.COMMAND, word, "-", *more], input=given, stdout=terminal, stderr=subprocess.PIPE)
         os.close(terminal)
-        return all_of(seen).replace(b"\r\n", b"\n")
+        return all_of(seen).replace(b"\r\n", b"\n"), done.stderr
 
 
 def all_of(seen):
@@ -81,5 +82,6 @@ def checks():
     yield "print, every kind of tree", lambda: in_one_line(printed(ODD_TREE)) == calls.answers.root_of(ODD_TREE).replace("#stx-e", "#0")
     yield "print --all", all_is_shown
     yield "print --all, a tree", lambda: in_one_line(printed(accident.tree, "--all")).endswith(calls.answers.root_of(accident.tree))
-    yield "expand at a terminal", lambda: at_a_terminal("expand", accident.image) == printed(accident.expanded)
-    yield "parse at a terminal", lambda: at_a_terminal("parse", accident.image) == printed(accident.tree)
+    yield "expand at a terminal", lambda: at_a_terminal("expand", accident.image)[0] == printed(accident.expanded)
+    yield "parse at a terminal", lambda: at_a_terminal("parse", accident.image)[0] == printed(accident.tree)
+    yield "page at a terminal", lambda: at_a_terminal("page", accident.image, calls.path("examples", "feeder-and-fan.scans")) == (b"", NO_PAGE)
