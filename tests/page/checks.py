@@ -186,7 +186,8 @@ def written(folder, name, page):
 
 def page_checks(opened, folder, name, shown, page):
     watch = watching.Watch(opened, written(folder, name, page))
-    yield fault_free(f"{name} shows what the runner says", watching.fault_in(watch.forward(), shown, pages.right_of(shown)))
+    yield fault_free(f"{name} shows what the runner says", watching.fault_in(watch.forward(), watch.times(), shown, pages.right_of(shown)))
+    yield f"{name}: a row of the timeline for each point and bit", len(watch.times()) == page.count('<div class="row"') > 0
     yield fault_free(f"{name}: keys", watch.keys_fault(len(shown.lines)))
     yield fault_free(f"{name}: layout", "; ".join(watch.layout_faults()[:3]))
 

@@ -18,6 +18,13 @@ FORWARD = """(() => { const all = [seen()];
     document.getElementById("on").click(); all.push(seen()); }
   return all; })()"""
 
+# For each row of the timeline whether a bar stands in the middle of each scan's place.
+TIMES = """Object.fromEntries([...document.querySelectorAll("#timeline .row[data-place]")].map(row => {
+  const strip = row.querySelector(".strip"), bars = strip.querySelector(".high"), count = Number(document.getElementById("slider").max);
+  const step = strip.getAttribute("width") / count, middle = strip.getAttribute("height") / 2;
+  const isHigh = (_, scan) => bars.isPointInFill(new DOMPoint((scan + 0.5) * step, middle));
+  return [row.dataset.place, Array.from({length: count}, isHigh)]; }))"""
+
 # Labels of one rung that lie on one another or outside its drawing, and text that is cut.
 FAULTS = """(() => { const faults = [];
   const over = (a, b) => a.left < b.right - 1 && b.left < a.right - 1 && a.top < b.bottom - 1 && b.top < a.bottom - 1;
@@ -88,13 +95,19 @@ def starts_of(shown):
     return {f"${bit.address}": bit.start for bit in pages.bits.bits_of(shown.names, shown.tree)}
 
 
-def fault_in(seen, shown, right):
-    """The first fault in what was seen of all scans, or None."""
+def times_fault(times, number, state):
+    """The timeline against how things stand after a scan."""
+    wrong = [place for place, high in times.items() if high[number - 1] != bool(state.get(place, 0))]
+    return f"the timeline of {wrong[0]}" if wrong else None
+
+
+def fault_in(seen, times, shown, right):
+    """The first fault in what was seen of all scans, and in the timeline, or None."""
     state, scans = starts_of(shown), [scan.strip("-") for scan in recordings.listing_of(shown.recording).splitlines()]
     if len(seen) != len(scans):
         return f"{len(seen)} scans are shown of {len(scans)}"
     for number, (one, *expected, changes) in enumerate(zip(seen, right.lines, right.coils, scans), 1):
-        fault = scan_fault(number, one, expected, changes, state)
+        fault = scan_fault(number, one, expected, changes, state) or times_fault(times, number, state)
         if fault:
             return f"scan {number}: {fault}"
     return None
@@ -117,6 +130,9 @@ class Watch:
         """What is seen at each scan, stepping with the page's own button."""
         self.open()
         return self.browser.run(FORWARD)
+
+    def times(self):
+        return self.browser.run(TIMES)
 
     def after(self, *keys):
         """The number of the scan after each key."""
