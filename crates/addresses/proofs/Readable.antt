@@ -60,7 +60,7 @@ what-expand-writes-can-be-read image b ph budget table output q =
 
 -- ---- parse and evaluate, which leave the counts as they are
 
-reached-same : {R : Type 0} (budget : ℕ) (i : Image R) (s : State) → Kept (start budget i) s → reached (i .head) s ≡ i .head
+pub reached-same : {R : Type 0} (budget : ℕ) (i : Image R) (s : State) → Kept (start budget i) s → reached (i .head) s ≡ i .head
 unfolding reached start
 reached-same budget i s k =
     ap (λ (n : ℕ). record { words = i .head .words; names = n; scopes = s .scopes }) (sym (k .names-is))
@@ -80,7 +80,7 @@ tree-wrote budget room i t s k f =
     same : reached (i .head) s ≡ i .head
     same = reached-same budget i s k
 
-parse-root : (budget : ℕ) (i : Image Stx) (f : SyntaxFits (i .head) (i .binds) (i .root))
+pub parse-root : (budget : ℕ) (i : Image Stx) (f : SyntaxFits (i .head) (i .binds) (i .root))
     → Outcome Tree (Parsed (symbols (i .head)) (i .head .names) (i .head .scopes) (i .binds) (f .binds-fit) (f .head-fits .names-from) (f .ascending) (i .root) (start budget i)) (parseRoot (i .root) (start budget i))
 unfolding start
 parse-root budget i f =

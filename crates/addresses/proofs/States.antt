@@ -53,7 +53,7 @@ insert-fits k n m b (c ∷ l) f g = go (bindBefore b c) (insert-fits k n m b l f
     go true r = (f, g)
     go false r = (g .0, r)
 
-insert-length : (b : Bind) (l : List Bind) → length (insert b l) ≡ suc (length l)
+pub insert-length : (b : Bind) (l : List Bind) → length (insert b l) ≡ suc (length l)
 unfolding insert
 insert-length b [] = refl
 insert-length b (c ∷ l) = go (bindBefore b c) (insert-length b l)

@@ -26,7 +26,7 @@ use Rattle.laws.proofs.Members.{Asc, Small, asc-of, addAll, set-of-members, mem
 pub pow-mono : (k n : ℕ) → k < n → 2 ^ k < 2 ^ n
 pow-mono k n h = omega (arith, pow-le-pow-right {n = 2} (zero-lt-suc 1) h, pow-suc 2 k, pow-pos k)
 
-add-small : (k n : ℕ) (m : Scopes) → k ≤ n → m < 2 ^ n → add k m < 2 ^ n
+pub add-small : (k n : ℕ) (m : Scopes) → k ≤ n → m < 2 ^ n → add k m < 2 ^ n
 unfolding add only
 add-small zero n m h q = q
 add-small (suc k) n m h q = or-lt n (2 ^ k) m (pow-mono k n h) q
@@ -104,7 +104,7 @@ members-back n p m (k ∷ l) rest h a =
     rw (append-assoc (numBytes k) (numsBytes l) rest, num-back k (numsBytes l ++ rest) (omega (arith, a .1)), lt-ltb p k (a .0), le-leb k n (a .1))
     (members-back n k (add k m) l rest h (a .2))
 
-asc-length : (p n : ℕ) (l : List ℕ) → Asc p n l → p + length l ≤ n ⊎ (l ≡ [])
+pub asc-length : (p n : ℕ) (l : List ℕ) → Asc p n l → p + length l ≤ n ⊎ (l ≡ [])
 asc-length p n [] a = inr refl
 asc-length p n (k ∷ []) a = inl (omega (arith, a .0, a .1))
 asc-length p n (k ∷ k′ ∷ l) a = inl (longer (asc-length k n (k′ ∷ l) (a .2)))

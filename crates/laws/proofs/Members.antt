@@ -159,7 +159,7 @@ swap-or true false z = refl
 swap-or false true z = refl
 swap-or false false z = refl
 
-has-addAll : (p n : ℕ) (l : List ℕ) → Asc p n l → (j : ℕ) (m : Scopes) → has j (addAll l m) ≡ (member j l || has j m)
+pub has-addAll : (p n : ℕ) (l : List ℕ) → Asc p n l → (j : ℕ) (m : Scopes) → has j (addAll l m) ≡ (member j l || has j m)
 unfolding addAll member
 has-addAll p n [] a j m = refl
 has-addAll p n (zero ∷ l) a j m = absurd (not-suc-le-zero (a .0))

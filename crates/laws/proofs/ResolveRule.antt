@@ -51,14 +51,14 @@ pub data Rule (x : ℕ) (l : List Bind) : Found → Type 0 where
 
 -- ---- the tests
 
-over-sound : (b : Bind) (l : List Bind) → over b l ≡ true → (c : Bind) → In c l → within (c .set) (b .set) ≡ true
+pub over-sound : (b : Bind) (l : List Bind) → over b l ≡ true → (c : Bind) → In c l → within (c .set) (b .set) ≡ true
 unfolding over
 over-sound b [] e c i = absurd i
 over-sound b (d ∷ l) e c (inl p) =
     ap (λ (z : Bind). within (z .set) (b .set)) p ∙ and-both (within (d .set) (b .set)) (over b l) e .0
 over-sound b (d ∷ l) e c (inr i) = over-sound b l (and-both (within (d .set) (b .set)) (over b l) e .1) c i
 
-over-complete : (b : Bind) (l : List Bind) → ((c : Bind) → In c l → within (c .set) (b .set) ≡ true) → over b l ≡ true
+pub over-complete : (b : Bind) (l : List Bind) → ((c : Bind) → In c l → within (c .set) (b .set) ≡ true) → over b l ≡ true
 unfolding over
 over-complete b [] h = refl
 over-complete b (d ∷ l) h =

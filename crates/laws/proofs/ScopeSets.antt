@@ -9,6 +9,7 @@ use borrow.Author.Tests.{eqb-true, eq-eqb}
 use lib.Bits.{bitAnd, bitOr, bitXor, differ, and-step, or-step, xor-step}
 use Rattle.model.specs.Choice.{if_then_else_}
 use Rattle.model.specs.Scopes.{Scopes, digit, has, only, add, flip, prune, within}
+use Rattle.laws.proofs.Tests.{or-left, or-right, same-test}
 
 two-pos : zero < 2
 two-pos = zero-lt-suc 1
@@ -218,15 +219,17 @@ pub within-trans : (a b c : Scopes) → within a b ≡ true → within b c ≡ t
 within-trans a b c p q = sub→within a c (λ k h. within→sub b c q k (within→sub a b p k h))
 
 pub within-antisym : (a b : Scopes) → within a b ≡ true → within b a ≡ true → a ≡ b
-within-antisym a b p q = set-ext a b (λ k. both (has k a) (has k b) (within→sub a b p k) (within→sub b a q k))
-  where
-    both : (x y : Bool) → (x ≡ true → y ≡ true) → (y ≡ true → x ≡ true) → x ≡ y
-    both true y f g = sym (f refl)
-    both false true f g = g refl
-    both false false f g = refl
+within-antisym a b p q = set-ext a b (λ k. same-test (has k a) (has k b) (within→sub a b p k) (within→sub b a q k))
 
 pub none-within : (a : Scopes) → within 0 a ≡ true
 none-within a = sub→within 0 a (λ k h. absurd (false≢true (sym (has-none k) ∙ h)))
+
+-- each is within the union
+pub within-left : (a b : Scopes) → within a (bitOr a b) ≡ true
+within-left a b = sub→within a (bitOr a b) (λ k h. has-or k a b ∙ or-left (has k a) (has k b) h)
+
+pub within-right : (a b : Scopes) → within b (bitOr a b) ≡ true
+within-right a b = sub→within b (bitOr a b) (λ k h. has-or k a b ∙ or-right (has k a) (has k b) h)
 
 -- ---- flipping twice changes nothing, and a set that has the scope is taken from it
 

@@ -7,8 +7,8 @@ use lib.Bits.{bitOr}
 use Rattle.model.specs.Choice.{if_then_else_}
 use Rattle.model.specs.Scopes.{Scopes, has, within}
 use Rattle.model.specs.Resolving.{Bind, means, several, candidate, candidates, over, largest, choose, resolve}
-use Rattle.laws.proofs.Tests.{or-left, or-right}
-use Rattle.laws.proofs.ScopeSets.{has-or, within→sub, sub→within, within-refl, within-trans}
+use Rattle.laws.proofs.Tests.{not-so}
+use Rattle.laws.proofs.ScopeSets.{has-or, within→sub, sub→within, within-refl, within-trans, within-left, within-right}
 use Rattle.store.specs.Pass.{unclear, Seen, noneSeen, alone, joined, beyondAll, takingBy, taking, seeing, passing, meaning}
 
 -- ---- the union of two sets
@@ -17,22 +17,12 @@ or-cases : (x y : Bool) {z : Bool} → (x ≡ true → z ≡ true) → (y ≡ tr
 or-cases true y f g e = f refl
 or-cases false y f g e = g e
 
-within-left : (a b : Scopes) → within a (bitOr a b) ≡ true
-within-left a b = sub→within a (bitOr a b) (λ k h. has-or k a b ∙ or-left (has k a) (has k b) h)
-
-within-right : (a b : Scopes) → within b (bitOr a b) ≡ true
-within-right a b = sub→within b (bitOr a b) (λ k h. has-or k a b ∙ or-right (has k a) (has k b) h)
-
 within-both : (a b c : Scopes) → within a c ≡ true → within b c ≡ true → within (bitOr a b) c ≡ true
 within-both a b c p q =
     sub→within (bitOr a b) c
     (λ k h. or-cases (has k a) (has k b) (within→sub a c p k) (within→sub b c q k) (sym (has-or k a b) ∙ h))
 
 -- ---- a test that fails
-
-not-so : (t : Bool) → (t ≡ true → ⊥) → t ≡ false
-not-so true h = absurd (h refl)
-not-so false h = refl
 
 is-not : {t : Bool} → t ≡ false → t ≡ true → ⊥
 is-not p q = false≢true (sym p ∙ q)

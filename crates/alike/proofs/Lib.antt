@@ -1,0 +1,9 @@
+pub mod Alike
+pub mod SetLaws
+pub mod Leads
+pub mod Stores
+pub mod Things
+pub mod Runs
+pub mod ParseAlike
+pub mod RenumberedSets
+pub mod Answers
