@@ -24,7 +24,7 @@ use Rattle.addresses.proofs.Outcomes.{Possible, Outcome, gives, stops, 
 use Rattle.addresses.proofs.States.{StateFits, kept-grows}
 use Rattle.addresses.proofs.Results.{Expanded, expanded-after}
 use Rattle.addresses.proofs.Expansion.{Piece, piece-grows, weaken, expand-good}
-use Rattle.addresses.proofs.Faults.{Reads, reads, faults, image-reads}
+use Rattle.addresses.proofs.Faults.{possible, Reads, reads, faults, image-reads}
 use Rattle.addresses.proofs.Endings.{lent-cases, expandRoot-is, expandWork, expandEnding-is, expandJob-is}
 
 -- ---- the work of the expand job on an image that was read
@@ -129,7 +129,7 @@ image-fine : (o : Read (Image Stx)) → Reads (Image Stx) o → (f : Image Stx �
     → Fine (withImage o f)
 unfolding withImage
 image-fine o (reads i rest) f h = h i rest refl
-image-fine o (faults r p) f h = p
+image-fine o (faults r p) f h = possible r p
 
 pub expand-fine : (image : List ℕ) → Bytes image → (ph budget room : ℕ) → Fine (expandEnding image ph budget room)
 expand-fine image b ph budget room =

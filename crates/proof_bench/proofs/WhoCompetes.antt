@@ -25,7 +25,7 @@ use Rattle.laws.proofs.CodeSix.{Ends, Always, NoneToldBut6, Not6, ToldBy, Has, 
 use Rattle.codec_laws.specs.WellFormed.{Bytes}
 use Rattle.codec_laws.proofs.ImageLaws.{syntax-read-keeps-limits}
 use Rattle.addresses.proofs.Outcomes.{Possible}
-use Rattle.addresses.proofs.Faults.{Reads, reads, faults, image-reads, tree-image-reads}
+use Rattle.addresses.proofs.Faults.{possible, Reads, reads, faults, image-reads, tree-image-reads}
 use Rattle.addresses.proofs.ExpandJob.{Fine, expand-fine}
 use Rattle.addresses.proofs.Endings.{lent-cases, resolveWork, expandWork, parseWork, evaluateWork, resolveEnding-is, expandEnding-is, parseEnding-is, evaluateEnding-is, resolveJob-is, expandJob-is, parseJob-is, evaluateJob-is}
 use Rattle.proof_bench.proofs.ResolveJob.{places}
@@ -148,7 +148,7 @@ possible-6 tooLong p h e = absurd (omega arith)
 
 faulted-not-6 : (Q : Rivals → Type 0) {A : Type 0} (o : Read A) → Reads A o → Faulted (Six Q) o
 faulted-not-6 Q o (reads a s) = tt
-faulted-not-6 Q o (faults r p) = λ q. absurd (none-is-untold (possible-6 r noRivals p q))
+faulted-not-6 Q o (faults r p) = λ q. absurd (none-is-untold (possible-6 r noRivals (possible r p) q))
 
 faulted-untold : {A : Type 0} (o : Read A) → Faulted NoneToldBut6 o
 faulted-untold (got a s) = tt

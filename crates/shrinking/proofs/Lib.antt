@@ -1,0 +1,10 @@
+pub mod Ranks
+pub mod Within
+pub mod Kept
+pub mod Trees
+pub mod Readable
+pub mod Parses
+pub mod Twice
+pub mod Shorter
+pub mod Finished
+pub mod Samples

@@ -1,0 +1,2 @@
+pub mod Shrunk
+pub mod Finished
