@@ -25,11 +25,11 @@ struct NumberAt {
 }
 
 // An object up to its parts.
-struct Front {
-    tag: u32,
-    sets: Sets,
-    number: u32,
-    past: usize,
+pub struct Front {
+    pub tag: u32,
+    pub sets: Sets,
+    pub number: u32,
+    pub past: usize,
 }
 
 // Tags of trees in an image; that of a list value is left over.
@@ -63,7 +63,7 @@ fn read_number(image: &[u8], at: usize) -> NumberAt
 
 // ---- syntax objects
 
-fn read_front(image: &[u8], at: usize, scopes: u32) -> Front
+pub fn read_front(image: &[u8], at: usize, scopes: u32) -> Front
     requires { ⌜ FrontHere (now image) at scopes ⌝ }
     ensures { λ r. ⌜ FrontRead (now (image .entry)) at scopes (r .tag) (r .sets) (r .number) (r .past) ⌝ }
 {

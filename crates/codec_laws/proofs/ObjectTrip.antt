@@ -39,7 +39,7 @@ sets-w n c s rest h b e =
       (set-same n (g₁ .0) s (g₁ .1) h b (g₁ .2) .0, set-same n (g₂ .0) (g₁ .1) (g₂ .1) h (w₁ .1) (g₂ .2) .0, set-same n (g₃ .0) (g₂ .1) (g₃ .1) h (w₂ .1) (g₃ .2) .0),
     )
 
-sets-back : (n : ℕ) (c : Sets) (rest : List ℕ) → n ≤ 256 → SetsIn n c → readSets n (setsBytes c ++ rest) ≡ got c rest
+pub sets-back : (n : ℕ) (c : Sets) (rest : List ℕ) → n ≤ 256 → SetsIn n c → readSets n (setsBytes c ++ rest) ≡ got c rest
 unfolding readSets setsBytes
 sets-back n c rest h i =
     rw (

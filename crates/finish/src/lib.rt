@@ -1,6 +1,6 @@
 // The last step of a job that writes: the result's length is known before the first byte is stored, so that a refusal leaves the output
 // untouched.
-mod heading;
+pub mod heading;
 
 use head::Front;
 use head::Head;

@@ -37,11 +37,11 @@ digit-is (suc k) m = digit-is k (m / 2)
 unfoldable pub above : ℕ → Scopes → List ℕ
 above k m = membersFrom (256 - k) (suc k) (halved k m)
 
-above-all : (m : Scopes) → above 0 m ≡ members m
+pub above-all : (m : Scopes) → above 0 m ≡ members m
 unfolding above members halved mostScopes
 above-all m = refl
 
-above-none : (k : ℕ) (m : Scopes) → 256 ≤ k → above k m ≡ []
+pub above-none : (k : ℕ) (m : Scopes) → 256 ≤ k → above k m ≡ []
 unfolding above membersFrom
 above-none k m h = let e : 256 - k ≡ 0 = omega arith in rw e
 
@@ -55,11 +55,11 @@ module _ (k : ℕ) (m : Scopes) (h : k < 256) {b : Bool} (e : b ≡ has (k + 1) 
   is : above k m ≡ keep b (k + 1) (above (k + 1) m)
   is = rw (e, add-one) (above-next k m h)
 
-  above-there : b ≡ true → above k m ≡ (k + 1) ∷ above (k + 1) m
+  pub above-there : b ≡ true → above k m ≡ (k + 1) ∷ above (k + 1) m
   unfolding keep
   above-there t = rw t at is
 
-  above-absent : b ≡ false → above k m ≡ above (k + 1) m
+  pub above-absent : b ≡ false → above k m ≡ above (k + 1) m
   unfolding keep
   above-absent t = rw t at is
 
@@ -145,7 +145,7 @@ put-members-start {out} {at} {count} {m} e =
       bytes = ap (λ (l : List ℕ). sets out at (numsBytes l)) (above-all m);
     }
 
-no-members : (l : List ℕ) → length l ≡ 0 → l ≡ []
+pub no-members : (l : List ℕ) → length l ≡ 0 → l ≡ []
 no-members [] h = refl
 no-members (x ∷ l) h = absurd (omega arith)
 
