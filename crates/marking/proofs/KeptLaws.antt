@@ -23,10 +23,10 @@ use Rattle.marking.specs.Marks.{marked}
 use Rattle.marking.specs.Kept.{keptFrom, keptOf, Keeps}
 
 -- of the bindings from place i on
-abbrev keptBehind : List ℕ → List ℕ → ℕ → List Bind
+abbrev pub keptBehind : List ℕ → List ℕ → ℕ → List Bind
 keptBehind store marks i = keptFrom marks i (bindsFrom store i (length marks - i))
 
-kept-none : (store marks : List ℕ) (i : ℕ) → i ≡ length marks → keptBehind store marks i ≡ []
+pub kept-none : (store marks : List ℕ) (i : ℕ) → i ≡ length marks → keptBehind store marks i ≡ []
 unfolding keptFrom bindsFrom
 kept-none store marks i e =
     let z : length marks - i ≡ 0 = omega arith in
@@ -46,10 +46,10 @@ unmarked-is : (marks : List ℕ) (i : ℕ) → getD marks i 0 ≡ 0 → marked m
 unmarked-is marks i e = ap not (eq-eqb (getD marks i 0) 0 e)
 
 module _ (store marks : List ℕ) (i : ℕ) (h : i < length marks) where
-  kept-there : (getD marks i 0 ≡ 0 → ⊥) → keptBehind store marks i ≡ bindAt store i ∷ keptBehind store marks (suc i)
+  pub kept-there : (getD marks i 0 ≡ 0 → ⊥) → keptBehind store marks i ≡ bindAt store i ∷ keptBehind store marks (suc i)
   kept-there n = kept-next store marks i h ∙ ap (λ (t : Bool). if t then bindAt store i ∷ keptBehind store marks (suc i) else keptBehind store marks (suc i)) (marked-is marks i n)
 
-  kept-absent : getD marks i 0 ≡ 0 → keptBehind store marks i ≡ keptBehind store marks (suc i)
+  pub kept-absent : getD marks i 0 ≡ 0 → keptBehind store marks i ≡ keptBehind store marks (suc i)
   kept-absent e = kept-next store marks i h ∙ ap (λ (t : Bool). if t then bindAt store i ∷ keptBehind store marks (suc i) else keptBehind store marks (suc i)) (unmarked-is marks i e)
 
 bound-more : (b : Bind) (l : List Bind) → scopesBound (b ∷ l) ≡ bitOr (b .set) (scopesBound l)

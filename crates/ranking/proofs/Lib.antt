@@ -1,0 +1,5 @@
+pub mod RankLaws
+pub mod MemberLaws
+pub mod SetLaws
+pub mod KeptLaws
+pub mod RootLaws
