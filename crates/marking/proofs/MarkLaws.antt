@@ -1,7 +1,7 @@
 -- Bindings marked along a chain, by the steps that the code takes.
 use Prim.Native.Nat.{ℕ, zero, suc, _+_, _-_, _*_, _≤_, _<_}
 use mathlib.Core.Path.{_≡_, refl, sym, ap, ap₂, _∙_, subst}
-use mathlib.Core.Bool.{Bool, true, false, not, _&&_, _||_}
+use mathlib.Core.Bool.{Bool, true, false, not, _&&_, _||_, or-true, or-false}
 use mathlib.Core.List.{List}
 use native.Mathlib.Omega.{arith}
 use lib.Dec.{eqb, ltb}
@@ -16,7 +16,6 @@ use Rattle.model.specs.Objects as m
 use Rattle.model.specs.Resolving.{Bind}
 use Rattle.shrinking.specs.Shrunk.{contains, joined}
 use Rattle.store.specs.Words.{bindAt}
-use Rattle.pieces.proofs.PieceLaws.{or-none}
 use Rattle.marking.specs.Chains.{Last}
 use Rattle.marking.specs.Marks.{marked, usedBy, Markable, Identifies, Marks}
 
@@ -56,7 +55,7 @@ pub record Marking (store lasts befores : List ℕ) (x : ℕ) (c : m.Sets) (mark
 
 -- a binding of another symbol is not marked
 other-unused : (x : ℕ) (c : m.Sets) (b : Bind) (t : Bool) → (b .symb ≡ x → ⊥) → t ≡ (t || usedBy x c b)
-other-unused x c b t n = sym (ap (λ (q : Bool). t || (q && contains (b .set) c)) (go (eqb (b .symb) x) refl) ∙ or-none t)
+other-unused x c b t n = sym (ap (λ (q : Bool). t || (q && contains (b .set) c)) (go (eqb (b .symb) x) refl) ∙ or-false t)
   where
     go : (q : Bool) → eqb (b .symb) x ≡ q → q ≡ false
     go true e = absurd (n (eqb-true (b .symb) x e))
@@ -142,15 +141,11 @@ module _ {store lasts befores : List ℕ} {x : ℕ} {c : m.Sets} {marks₀ marks
       pub marking-there : r ≡ true → Marking store lasts befores x c marks₀ (set marks (place - 1) 1) (getD befores (place - 1) 0)
       marking-there t =
           onward (set marks (place - 1) 1) (length-set marks (place - 1) 1) (λ i d. getD-set-other marks (place - 1) i 1 0 d)
-          (ap (λ (v : ℕ). not (eqb v 0)) (getD-set-same marks (place - 1) 1 0 marking-mark) ∙ sym (ap (λ (b : Bool). marked marks₀ (place - 1) || b) (used-is ∙ t) ∙ or-all (marked marks₀ (place - 1))))
-        where
-          or-all : (b : Bool) → (b || true) ≡ true
-          or-all true = refl
-          or-all false = refl
+          (ap (λ (v : ℕ). not (eqb v 0)) (getD-set-same marks (place - 1) 1 0 marking-mark) ∙ sym (ap (λ (b : Bool). marked marks₀ (place - 1) || b) (used-is ∙ t) ∙ or-true (marked marks₀ (place - 1))))
 
       pub marking-absent : r ≡ false → Marking store lasts befores x c marks₀ marks (getD befores (place - 1) 0)
       marking-absent t =
           onward marks refl (λ i d. refl)
-          (ap (λ (v : ℕ). not (eqb v 0)) (p .below (place - 1) (omega arith)) ∙ sym (ap (λ (b : Bool). marked marks₀ (place - 1) || b) (used-is ∙ t) ∙ or-none (marked marks₀ (place - 1))))
+          (ap (λ (v : ℕ). not (eqb v 0)) (p .below (place - 1) (omega arith)) ∙ sym (ap (λ (b : Bool). marked marks₀ (place - 1) || b) (used-is ∙ t) ∙ or-false (marked marks₀ (place - 1))))
 
 pub ruleset mark-laws = (mark-below, marking-start, marking-long, marking-end, marking-before, marking-mark, marking-held, marking-less, marking-there, marking-absent)

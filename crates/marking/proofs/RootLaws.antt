@@ -1,7 +1,7 @@
 -- The root marked piece by piece, by the steps that the code takes.
 use Prim.Native.Nat.{ℕ, zero, suc, _+_, _-_, _≤_, _<_}
 use mathlib.Core.Path.{_≡_, refl, sym, ap, ap₂, _∙_, subst}
-use mathlib.Core.Bool.{Bool, true, false, not, _&&_, _||_}
+use mathlib.Core.Bool.{Bool, true, false, not, _&&_, _||_, or-assoc, or-false}
 use mathlib.Core.List.{List, [], _∷_}
 use native.Mathlib.Omega.{arith}
 use lib.Dec.{eqb}
@@ -19,7 +19,7 @@ use Rattle.things.specs.Rep.{setsOf}
 use Rattle.store.specs.Words.{bindAt}
 use Rattle.builder.specs.Fronts.{FrontHere, FrontRead}
 use Rattle.pieces.specs.Pieces.{Piece, rootPieces, usedAt, usedAmong, scopesAmong}
-use Rattle.pieces.proofs.PieceLaws.{or-none, or-assoc, join-assoc, join-none}
+use Rattle.pieces.proofs.PieceLaws.{join-assoc, join-none}
 use Rattle.marking.specs.Marks.{marked, usedBy, Markable, Identifies, Marks}
 use Rattle.marking.specs.Roots.{Ahead, RootMarkable, MarksRoot}
 use Rattle.marking.proofs.AheadLaws.{Next, next, front-here, tag-is, sets-are, number-is, ahead-less, ahead-on, ahead-end, symbol-below}
@@ -85,7 +85,7 @@ module _ {store image : List ℕ} {scopes : ℕ} {lasts befores marks₀ marks :
       let e = ahead-end (r .ahead) h in
       record {
         long = r .long;
-        are = λ i l. sym (ap (λ (t : List Piece). marked marks i || usedAmong (bindAt store i) t) e ∙ ap (λ (t : Bool). marked marks i || t) (used-none (bindAt store i)) ∙ or-none (marked marks i)) ∙ r .are i l;
+        are = λ i l. sym (ap (λ (t : List Piece). marked marks i || usedAmong (bindAt store i) t) e ∙ ap (λ (t : Bool). marked marks i || t) (used-none (bindAt store i)) ∙ or-false (marked marks i)) ∙ r .are i l;
         scopes-are = q ∙ sym (ap (λ (t : List Piece). bitOr used (scopesAmong t)) e ∙ ap (bitOr used) scopes-none ∙ join-none used) ∙ r .scopes-are;
       }
 
@@ -130,7 +130,7 @@ module _ {store image : List ℕ} {scopes : ℕ} {lasts befores marks₀ marks :
         pub rooting-other : (tag ≡ 0 → ⊥) → Rooting store image scopes lasts befores marks₀ marks past u
         rooting-other n =
             onward marks refl e g
-            (λ i b. sym (ap (λ (t : Bool). marked marks i || t) (used-other (bindAt store i) (N .piece) (λ z. n (tag-is (r .ahead) h f ∙ z))) ∙ or-none (marked marks i)))
+            (λ i b. sym (ap (λ (t : Bool). marked marks i || t) (used-other (bindAt store i) (N .piece) (λ z. n (tag-is (r .ahead) h f ∙ z))) ∙ or-false (marked marks i)))
 
         pub rooting-symbol : {marks′ : List ℕ} → tag ≡ 0 → Marks store number (setsOf sets) marks marks′ → Rooting store image scopes lasts befores marks₀ marks′ past u
         rooting-symbol {marks′} t k =

@@ -1,7 +1,7 @@
 -- What is said of an object is said of its pieces.
 use Prim.Native.Nat.{ℕ, zero, suc, _+_, _≤_, _<_}
 use mathlib.Core.Path.{_≡_, refl, sym, ap, ap₂, _∙_}
-use mathlib.Core.Bool.{Bool, true, false, _&&_, _||_}
+use mathlib.Core.Bool.{Bool, true, false, _&&_, _||_, or-assoc, or-false}
 use mathlib.Core.List.{List, [], _∷_, _++_, append-assoc}
 use native.Mathlib.Omega.{arith}
 use lib.Dec.{eqb}
@@ -78,10 +78,6 @@ module _ (k n : ℕ) (few : k ≤ 1024) where
 
 -- ---- what is used in the object is used among them
 
-pub or-assoc : (x y z : Bool) → ((x || y) || z) ≡ (x || (y || z))
-or-assoc true y z = refl
-or-assoc false y z = refl
-
 mutual
   unfolding pieces usedAmong usedAt usedIn tagOf contentOf
 
@@ -104,12 +100,8 @@ pub join-assoc : (a b c : Scopes) → bitOr (bitOr a b) c ≡ bitOr a (bitOr b c
 join-assoc a b c = set-ext _ _ (λ k. has-or k (bitOr a b) c ∙ ap (λ (t : Bool). t || has k c) (has-or k a b) ∙ or-assoc (has k a) (has k b) (has k c)
     ∙ ap (λ (t : Bool). has k a || t) (sym (has-or k b c)) ∙ sym (has-or k a (bitOr b c)))
 
-pub or-none : (x : Bool) → (x || false) ≡ x
-or-none true = refl
-or-none false = refl
-
 pub join-none : (a : Scopes) → bitOr a 0 ≡ a
-join-none a = set-ext _ _ (λ k. has-or k a 0 ∙ ap (λ (t : Bool). has k a || t) (has-none k) ∙ or-none (has k a))
+join-none a = set-ext _ _ (λ k. has-or k a 0 ∙ ap (λ (t : Bool). has k a || t) (has-none k) ∙ or-false (has k a))
 
 mutual
   unfolding pieces scopesAmong scopesIn

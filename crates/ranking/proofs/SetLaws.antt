@@ -19,10 +19,10 @@ use Rattle.ranking.specs.Numbered.{numbered, membersBy, setBy, setsBy, p
 -- ---- one part and then another
 
 module _ {out : List ℕ} {at : ℕ} {ranks : List ℕ} (a b : List ℕ) where
-  first-room : RoomFor out at ranks (a ++ b) → RoomFor out at ranks a
+  pub first-room : RoomFor out at ranks (a ++ b) → RoomFor out at ranks a
   first-room r = let l = length-append a b in let h = r .room in record { numbers = r .numbers; room = omega arith }
 
-  then-room : {out₁ : List ℕ} {p : ℕ} → RoomFor out at ranks (a ++ b) → Placed out at a out₁ p → RoomFor out₁ p ranks b
+  pub then-room : {out₁ : List ℕ} {p : ℕ} → RoomFor out at ranks (a ++ b) → Placed out at a out₁ p → RoomFor out₁ p ranks b
   then-room r w =
       let l = length-append a b in
       let h = r .room in

@@ -1,0 +1,4 @@
+pub mod UseLaws
+pub mod ByteLaws
+pub mod WriteLaws
+pub mod JobLaws
