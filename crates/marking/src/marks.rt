@@ -22,14 +22,7 @@ fn contained(set: ScopeSet, sets: Sets) -> bool
 }
 
 // Marks the bindings of the identifier with symbol x.
-pub fn mark(
-    store: &[u64],
-    lasts: &[usize],
-    befores: &[usize],
-    marks: &mut [u8],
-    x: u32,
-    sets: Sets,
-)
+pub fn mark(store: &[u64], lasts: &[usize], befores: &[usize], marks: &mut [u8], x: u32, sets: Sets)
     requires { ⌜ Identifies (now store) (now lasts) (now befores) (now marks) x ⌝ }
     ensures { λ _. ⌜ Marks (now (store .entry)) x (setsOf sets) (now (marks .entry)) (now (marks .exit)) ⌝ }
 {
