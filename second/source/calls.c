@@ -176,10 +176,16 @@ static void emit(Job job, const Draft *draft, Answer *answer)
     wanted--;
 }
 
+static Job any_job(void)
+{
+    uint32_t job = below(JOBS);
+    return is_job(job) ? (Job)job : JOB_SHRINK;
+}
+
 static Job choose_job(uint32_t kind)
 {
     if (percent(2))
-        return (Job)below(JOBS);
+        return any_job();
     if (kind == TREE_IMAGE)
         return percent(95) ? JOB_EVALUATE : percent(50) ? JOB_PANEL : JOB_SCAN;
     uint32_t choice = below(10);
@@ -192,6 +198,9 @@ static void make_draft(Draft *draft, Job *job)
     if (percent(8)) {
         draft_text(small > 0, draft);
         *job = JOB_READ;
+    } else if (percent(8)) {
+        draft_finished(memory, draft);
+        *job = percent(90) ? JOB_SHRINK : choose_job(draft->kind);
     } else if (percent(6)) {
         *job = (Job[]){JOB_RESOLVE, JOB_EXPAND, JOB_PARSE}[below(3)];
         draft_rivals(memory, *job, draft);
@@ -232,13 +241,15 @@ static bool take_result(Draft *draft, const Answer *answer, uint32_t kind)
 }
 
 /* Calls on what the last answer wrote: a text is read and printed, a program
-   is expanded, parsed and checked or evaluated in turn. */
+   is expanded, made smaller or not, parsed and checked or evaluated in turn. */
 static void go_on(Job job, Draft *draft, Answer *answer)
 {
     if (job == JOB_READ && percent(50) && take_result(draft, answer, SYNTAX_IMAGE)) {
         emit(percent(60) ? JOB_PRINT : JOB_EXPAND, draft, answer);
     } else if (job == JOB_PRINT && percent(30) && take_result(draft, answer, 0)) {
         emit(JOB_READ, draft, answer);
+    } else if (job == JOB_SHRINK && percent(30) && take_result(draft, answer, SYNTAX_IMAGE)) {
+        emit(percent(70) ? JOB_SHRINK : percent(50) ? JOB_PARSE : JOB_EXPAND, draft, answer);
     } else if (job == JOB_EXPAND && percent(35) && take_result(draft, answer, SYNTAX_IMAGE)) {
         if (percent(10)) { /* shown; what it wrote is no image */
             emit(JOB_PRINT, draft, answer);
@@ -246,6 +257,8 @@ static void go_on(Job job, Draft *draft, Answer *answer)
         }
         if (percent(10)) /* expanded again */
             emit(JOB_EXPAND, draft, answer);
+        if (percent(30) && take_result(draft, answer, SYNTAX_IMAGE))
+            emit(JOB_SHRINK, draft, answer);
         if (take_result(draft, answer, SYNTAX_IMAGE))
             emit(JOB_PARSE, draft, answer);
         if (percent(40) && take_result(draft, answer, TREE_IMAGE))

@@ -19,6 +19,8 @@ void draft_identifier(Memory *memory, Draft *draft);
 void draft_object(Memory *memory, Draft *draft); /* any syntax, for parse */
 /* A word whose bindings compete, for resolve, expand or parse. */
 void draft_rivals(Memory *memory, Job job, Draft *draft);
+/* Bindings of which some are used, for the smaller image. */
+void draft_finished(Memory *memory, Draft *draft);
 void draft_tree(Memory *memory, Draft *draft);
 void draft_panel(Memory *memory, Draft *draft); /* for the panel check */
 void draft_ladder(Memory *memory, Draft *draft); /* a panel program for scans, accepted */

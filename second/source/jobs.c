@@ -2,6 +2,7 @@
 
 #include <string.h>
 
+#include "shrink.h"
 #include "text.h"
 #include "work.h"
 
@@ -191,6 +192,16 @@ static void answer_print(Memory *memory, const Call *call, Image *image, Answer 
         answer->code = TOO_LONG;
 }
 
+static void answer_shrink(Memory *memory, const Call *call, Image *image, Answer *answer)
+{
+    answer->code = read_image(memory, call->image, call->image_length, SYNTAX_IMAGE, image);
+    if (answer->code != SUCCESS)
+        return;
+    shrink_image(memory, image);
+    if (!write_result(call, image, answer))
+        answer->code = TOO_LONG;
+}
+
 /* A job that takes neither phase, budget nor table. */
 static void answer_unbudgeted(Memory *memory, const Call *call, Image *image, Answer *answer)
 {
@@ -203,6 +214,9 @@ static void answer_unbudgeted(Memory *memory, const Call *call, Image *image, An
         break;
     case JOB_READ:
         answer_read(memory, call, image, answer);
+        break;
+    case JOB_SHRINK:
+        answer_shrink(memory, call, image, answer);
         break;
     default:
         answer_print(memory, call, image, answer);

@@ -17,6 +17,7 @@ typedef enum {
     JOB_SCAN,
     JOB_READ,
     JOB_PRINT,
+    JOB_SHRINK = 11, /* 8 to 10 are not there yet */
     JOBS
 } Job;
 
@@ -26,7 +27,7 @@ enum { LONGEST_OUTPUT = 70000 };
 typedef struct {
     Job job;
     uint32_t phase; /* used by resolve and expand */
-    uint32_t budget; /* not used by panel, scan, read and print, nor is the table */
+    uint32_t budget; /* not used by panel and those behind it, nor is the table */
     uint32_t table_words;
     uint32_t output_length; /* not used by resolve */
     const uint8_t *image; /* or the text, for read */
@@ -43,6 +44,11 @@ typedef struct {
     uint32_t first, second; /* with code 6: the places of two bindings that compete */
     uint8_t output[LONGEST_OUTPUT]; /* the first length bytes are written */
 } Answer;
+
+static inline bool is_job(uint32_t number)
+{
+    return number <= JOB_PRINT || number == JOB_SHRINK;
+}
 
 /* Whether the job takes neither phase, budget nor table. */
 static inline bool is_unbudgeted(Job job)

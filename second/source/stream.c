@@ -36,7 +36,7 @@ Met read_call(FILE *stream, Call *call, Inputs *inputs)
     Met met = read_stream_number(stream, &job);
     if (met != A_CALL)
         return met;
-    if (job >= JOBS)
+    if (!is_job(job))
         return CUT;
     call->job = (Job)job;
     if (read_stream_number(stream, &call->phase) != A_CALL ||
