@@ -8,10 +8,11 @@ use Rattle.model.specs.Jobs.{Answer, Result, resolveJob, expandJob, parseJob, e
 use Rattle.requests.specs.Panel.{PanelRefusal, PanelEnding, refused, panelOf, roomFor, bitsAfter, PanelResult, panelJob}
 use Rattle.requests.specs.TextJobs.{readJob, printJob}
 use Rattle.requests.specs.ScanJob.{ScanRefusal, ScanEnding, stopped, scanOf, scanRoom, outputAfterScans, ScanResult, scanJob}
+use Rattle.shrinking.specs.ShrinkJob.{shrinkJob}
 use Rattle.text.specs.Placing.{Placed}
 use Rattle.answer_line.specs.Format.{wordFill, byteFill, answerLine}
 use Rattle.answer_line.specs.Words.{bytesFill, bytesOfWords}
-use Rattle.answer_line.specs.Calls.{keeping, jobOf, panelBytes, scanBytes, textBytes, requestOf, leaving, freshJob, callLine}
+use Rattle.answer_line.specs.Calls.{keeping, jobOf, panelBytes, scanBytes, textBytes, shrinkBytes, requestOf, leaving, freshJob, callLine}
 use Rattle.answer_line.proofs.Laying.{laid-over-fill, filled-output}
 
 module _ (job : ℕ) (image : List ℕ) (ph budget : ℕ) (table output : List ℕ) where
@@ -83,10 +84,15 @@ module _ (job : ℕ) (image second : List ℕ) (bytes : ℕ) {out out′ : List 
   unfolding requestOf textBytes
   request-read n m h e = ap textBytes (e ∙ ap (readJob image) p) ∙ simp (ne-eqb job 4 n, ne-eqb job 5 m, eq-eqb job 6 h)
 
-  pub request-print : (job ≡ 4 → ⊥) → (job ≡ 5 → ⊥) → (job ≡ 6 → ⊥) → record { answer = a; output = out′ } ≡ printJob image out
+  pub request-shrink : (job ≡ 4 → ⊥) → (job ≡ 5 → ⊥) → (job ≡ 6 → ⊥) → job ≡ 11 → record { answer = a; output = out′ } ≡ shrinkJob image out
+      → record { answer = a; output = out′; table = [] } ≡ requestOf job image second bytes
+  unfolding requestOf shrinkBytes
+  request-shrink n m k h e = ap shrinkBytes (e ∙ ap (shrinkJob image) p) ∙ simp (ne-eqb job 4 n, ne-eqb job 5 m, ne-eqb job 6 k, eq-eqb job 11 h)
+
+  pub request-print : (job ≡ 4 → ⊥) → (job ≡ 5 → ⊥) → (job ≡ 6 → ⊥) → (job ≡ 11 → ⊥) → record { answer = a; output = out′ } ≡ printJob image out
       → record { answer = a; output = out′; table = [] } ≡ requestOf job image second bytes
   unfolding requestOf textBytes
-  request-print n m k e = ap textBytes (e ∙ ap (printJob image) p) ∙ simp (ne-eqb job 4 n, ne-eqb job 5 m, ne-eqb job 6 k)
+  request-print n m k l e = ap textBytes (e ∙ ap (printJob image) p) ∙ simp (ne-eqb job 4 n, ne-eqb job 5 m, ne-eqb job 6 k, ne-eqb job 11 l)
 
 module _ (job : ℕ) (image second : List ℕ) (ph budget words bytes : ℕ) where
   pub request-fresh : {a : Answer} {table output : List ℕ} → 3 < job → table ≡ replicate words wordFill
@@ -106,6 +112,6 @@ module _ (job : ℕ) (image second : List ℕ) (ph budget words bytes : ℕ) {r 
   unfolding callLine
   line-of-call {out} {out′} {at} {past} e w = subst (λ (z : Result). Placed out at (answerLine budget z) out′ past) e w
 
-pub ruleset request-laws = (scan-filled, request-panel, request-scan, request-read, request-print)
+pub ruleset request-laws = (scan-filled, request-panel, request-scan, request-read, request-shrink, request-print)
 
 pub ruleset answer-laws = (job-resolve, job-expand, job-parse, job-evaluate, request-fresh, job-fresh, line-of-call)

@@ -8,6 +8,7 @@ use Rattle.model.specs.Jobs.{Result, resolveJob, expandJob, parseJob, evaluateJ
 use Rattle.requests.specs.Panel.{panelJob}
 use Rattle.requests.specs.ScanJob.{scanJob}
 use Rattle.requests.specs.TextJobs.{TextResult, readJob, printJob}
+use Rattle.shrinking.specs.ShrinkJob.{ShrinkResult, shrinkJob}
 use Rattle.answer_line.specs.Format.{wordFill, byteFill, answerLine}
 use Rattle.answer_line.specs.Words.{bytesFill, bytesOfWords}
 
@@ -38,12 +39,17 @@ scanBytes image recording bytes =
 unfoldable pub textBytes : TextResult → Result
 textBytes r = record { answer = r .answer; output = r .output; table = [] }
 
+-- the smaller image (job 11), likewise
+unfoldable pub shrinkBytes : ShrinkResult → Result
+shrinkBytes r = record { answer = r .answer; output = r .output; table = [] }
+
 -- the request of document 02 with that number, of image, second input and count of the output's bytes
 unfoldable pub requestOf : ℕ → List ℕ → List ℕ → ℕ → Result
 requestOf job image second bytes =
     if eqb job 4 then panelBytes image bytes
     else if eqb job 5 then scanBytes image second bytes
     else if eqb job 6 then textBytes (readJob image (replicate bytes byteFill))
+    else if eqb job 11 then shrinkBytes (shrinkJob image (replicate bytes byteFill))
     else textBytes (printJob image (replicate bytes byteFill))
 
 -- it is not lent the table, which stays

@@ -10,3 +10,4 @@ pub mod Panel
 pub mod Scans
 pub mod Texts
 pub mod Reports
+pub mod Smaller

@@ -12,13 +12,16 @@ ghost use Rattle.marking.specs.Marks.{Identifies, Marks};
 fn contained(set: ScopeSet, sets: Sets) -> bool
     ensures { λ r. ⌜ r ≡ contains (scopesOf set) (setsOf sets) ⌝ }
 {
-    if set.within(sets.at0) {
+    let at0 = sets.at0;
+    let at1 = sets.at1;
+    let at2 = sets.at2;
+    if set.within(at0) {
         return true;
     }
-    if set.within(sets.at1) {
+    if set.within(at1) {
         return true;
     }
-    set.within(sets.at2)
+    set.within(at2)
 }
 
 // Marks the bindings of the identifier with symbol x.

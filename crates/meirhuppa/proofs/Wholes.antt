@@ -55,7 +55,7 @@ pub ruleset answer-laws = (small-answer, refused-answer, stopped-answer, named-a
 pub ends-short : {q : m.Ending} {out out′ : List ℕ} {e : Ending} → EndsAs q out out′ e → lengthOf e ≤ 65536
 ends-short w = w .short
 
-answer-is : {q : m.Ending} {out out′ : List ℕ} (e : Ending) → EndsAs q out out′ e → answerFor e ≡ answerOf q
+pub answer-is : {q : m.Ending} {out out′ : List ℕ} (e : Ending) → EndsAs q out out′ e → answerFor e ≡ answerOf q
 unfolding answerOf
 answer-is (Refused f u) w = ap answerOf (w .is)
 answer-is (Stopped f p u) w = ap answerOf (w .is)

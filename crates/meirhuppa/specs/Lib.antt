@@ -1,4 +1,5 @@
 pub mod Endings
 pub mod Panels
 pub mod Scans
+pub mod Shrinks
 pub mod Texts

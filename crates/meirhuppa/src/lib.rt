@@ -7,4 +7,5 @@ pub mod panel;
 pub mod parse;
 pub mod resolve;
 pub mod scan;
+pub mod shrink;
 pub mod text_jobs;

@@ -5,16 +5,19 @@ use Rattle.model.specs.Jobs.{Result}
 use Rattle.requests.specs.Panel.{PanelResult}
 use Rattle.requests.specs.ScanJob.{ScanResult}
 use Rattle.requests.specs.TextJobs.{TextResult}
+use Rattle.shrinking.specs.ShrinkJob.{ShrinkResult}
 use Rattle.meirhuppa.specs.Endings.{Answered}
 use Rattle.meirhuppa.specs.Panels.{PanelAnswered}
 use Rattle.meirhuppa.specs.Scans.{ScanAnswered}
+use Rattle.meirhuppa.specs.Shrinks.{ShrinkAnswered}
 use Rattle.meirhuppa.specs.Texts.{TextAnswered}
 use Rattle.meirhuppa.specs.declared.answers.Answer.{Answer}
 use Rattle.meirhuppa.proofs.OneAnswer.{answered-once}
 use Rattle.meirhuppa.proofs.PanelAnswers.{panel-once}
 use Rattle.meirhuppa.proofs.ScanAnswers.{scan-once}
+use Rattle.meirhuppa.proofs.ShrinkAnswers.{shrink-once}
 use Rattle.meirhuppa.proofs.TextAnswers.{text-once}
-use Rattle.one_answer.specs.Once.{Once, PanelOnce, ScanOnce, TextOnce}
+use Rattle.one_answer.specs.Once.{Once, PanelOnce, ScanOnce, TextOnce, ShrinkOnce}
 
 pub once : {job : Result} {a : Answer} {output table : List ℕ} → Answered job a output table → Once job a output table
 once {job} {a} {output} {table} e = record { is = e; only = λ b p u f. answered-once job a b output p table u e f }
@@ -27,3 +30,6 @@ scan-only {job} {a} {output} e = record { is = e; only = λ b p f. scan-once job
 
 pub text-only : {job : TextResult} {a : Answer} {output : List ℕ} → TextAnswered job a output → TextOnce job a output
 text-only {job} {a} {output} e = record { is = e; only = λ b p f. text-once job a b output p e f }
+
+pub shrink-only : {job : ShrinkResult} {a : Answer} {output : List ℕ} → ShrinkAnswered job a output → ShrinkOnce job a output
+shrink-only {job} {a} {output} e = record { is = e; only = λ b p f. shrink-once job a b output p e f }

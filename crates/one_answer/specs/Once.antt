@@ -6,9 +6,11 @@ use Rattle.model.specs.Jobs.{Result}
 use Rattle.requests.specs.Panel.{PanelResult}
 use Rattle.requests.specs.ScanJob.{ScanResult}
 use Rattle.requests.specs.TextJobs.{TextResult}
+use Rattle.shrinking.specs.ShrinkJob.{ShrinkResult}
 use Rattle.meirhuppa.specs.Endings.{Answered}
 use Rattle.meirhuppa.specs.Panels.{PanelAnswered}
 use Rattle.meirhuppa.specs.Scans.{ScanAnswered}
+use Rattle.meirhuppa.specs.Shrinks.{ShrinkAnswered}
 use Rattle.meirhuppa.specs.Texts.{TextAnswered}
 use Rattle.meirhuppa.specs.declared.answers.Answer.{Answer}
 
@@ -31,3 +33,8 @@ pub record ScanOnce (job : ScanResult) (a : Answer) (output : List ℕ) : Type 0
 pub record TextOnce (job : TextResult) (a : Answer) (output : List ℕ) : Type 0 where
   pub is : TextAnswered job a output
   pub only : (b : Answer) (p : List ℕ) → TextAnswered job b p → (a ≡ b) × (output ≡ p)
+
+-- of the smaller image, likewise
+pub record ShrinkOnce (job : ShrinkResult) (a : Answer) (output : List ℕ) : Type 0 where
+  pub is : ShrinkAnswered job a output
+  pub only : (b : Answer) (p : List ℕ) → ShrinkAnswered job b p → (a ≡ b) × (output ≡ p)

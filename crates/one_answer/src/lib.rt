@@ -7,13 +7,15 @@ use meirhuppa::panel;
 use meirhuppa::parse;
 use meirhuppa::resolve;
 use meirhuppa::scan;
+use meirhuppa::shrink;
 use meirhuppa::text_jobs;
 ghost use mathlib.Core.List.{[]};
 ghost use Rattle.model.specs.Jobs.{resolveJob, expandJob, parseJob, evaluateJob};
 ghost use Rattle.requests.specs.Panel.{panelJob};
 ghost use Rattle.requests.specs.ScanJob.{scanJob};
 ghost use Rattle.requests.specs.TextJobs.{readJob, printJob};
-ghost use Rattle.one_answer.specs.Once.{Once, PanelOnce, ScanOnce, TextOnce};
+ghost use Rattle.shrinking.specs.ShrinkJob.{shrinkJob};
+ghost use Rattle.one_answer.specs.Once.{Once, PanelOnce, ScanOnce, TextOnce, ShrinkOnce};
 
 pub fn resolve_once(image: &[u8], phase: u32, budget: u32, table: &mut [u32]) -> Answer
     ensures { λ r. ⌜ Once (resolveJob (now (image .entry)) phase budget (now (table .entry))) r [] (now (table .exit)) ⌝ }
@@ -67,4 +69,10 @@ pub fn print_once(image: &[u8], out: &mut [u8]) -> Answer
     ensures { λ r. ⌜ TextOnce (printJob (now (image .entry)) (now (out .entry))) r (now (out .exit)) ⌝ }
 {
     text_jobs::meirhuppa_print(image, out)
+}
+
+pub fn shrink_once(image: &[u8], out: &mut [u8]) -> Answer
+    ensures { λ r. ⌜ ShrinkOnce (shrinkJob (now (image .entry)) (now (out .entry))) r (now (out .exit)) ⌝ }
+{
+    shrink::meirhuppa_shrink(image, out)
 }

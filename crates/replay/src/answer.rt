@@ -8,6 +8,7 @@ use meirhuppa::expand;
 use meirhuppa::parse;
 use meirhuppa::resolve;
 use meirhuppa::scan;
+use meirhuppa::shrink;
 use meirhuppa::text_jobs;
 ghost use mathlib.Core.Path.{_≡_};
 ghost use mathlib.Core.List.{[]};
@@ -44,7 +45,20 @@ impl Call {
 
     pub const PRINT: u32 = 7;
 
-    pub const LAST_JOB: u32 = Call::PRINT;
+    pub const SHRINK: u32 = 11;
+
+    pub const LAST_JOB: u32 = Call::SHRINK;
+
+    // A job by its number. Those from 8 to 10 are not there yet: they are taken for one past the last.
+    pub fn known(job: u32) -> u32 {
+        if job <= Call::PRINT {
+            return job;
+        }
+        if job < Call::SHRINK {
+            return Call::LAST_JOB + 1;
+        }
+        job
+    }
 }
 
 // The jobs of document 01. Every number above those of the others is evaluate's: no call that comes here has one over `EVALUATE`.
@@ -78,6 +92,9 @@ fn do_request(call: Call, image: &[u8], second: &[u8], output: &mut [u8]) -> Ans
     }
     if call.job == Call::READ {
         return text_jobs::meirhuppa_read(image, output);
+    }
+    if call.job == Call::SHRINK {
+        return shrink::meirhuppa_shrink(image, output);
     }
     text_jobs::meirhuppa_print(image, output)
 }

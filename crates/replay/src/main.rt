@@ -154,7 +154,7 @@ fn next(
         Number::Read(job, past) => match past.numbers(room, &mut head) {
             Place::At(behind) => {
                 let call = Call {
-                    job,
+                    job: Call::known(job),
                     phase: head[0],
                     budget: head[1],
                     words: head[2],

@@ -1,2 +1,3 @@
 pub mod Shrunk
 pub mod Finished
+pub mod ShrinkJob

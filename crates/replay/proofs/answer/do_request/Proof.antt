@@ -33,14 +33,23 @@ same-length-3 c = search (request-laws, needs)
 returns-3 : tie.Need-returns-3
 returns-3 c = search (request-laws, needs)
 
-meirhuppa-print-requires : tie.Need-meirhuppa-print-requires
-meirhuppa-print-requires c κs = search (request-laws, needs)
+meirhuppa-shrink-requires : tie.Need-meirhuppa-shrink-requires
+meirhuppa-shrink-requires c κs = search (request-laws, needs)
 
 same-length-4 : tie.Need-same-length-4
 same-length-4 c = search (request-laws, needs)
 
 returns-4 : tie.Need-returns-4
 returns-4 c = search (request-laws, needs)
+
+meirhuppa-print-requires : tie.Need-meirhuppa-print-requires
+meirhuppa-print-requires c κs = search (request-laws, needs)
+
+same-length-5 : tie.Need-same-length-5
+same-length-5 c = search (request-laws, needs)
+
+returns-5 : tie.Need-returns-5
+returns-5 c = search (request-laws, needs)
 
 pub do-request-spec : {M : Type 1} → statement M
 do-request-spec =
@@ -56,6 +65,9 @@ do-request-spec =
     meirhuppa-read-requires
     same-length-3
     returns-3
-    meirhuppa-print-requires
+    meirhuppa-shrink-requires
     same-length-4
-    returns-4)
+    returns-4
+    meirhuppa-print-requires
+    same-length-5
+    returns-5)
