@@ -1,7 +1,7 @@
-/* Meirhuppa: the macro expander of document 01, with the panel check of request T-01, the scan runner of T-02 and the reader and printer of text of
- * T-05, as a library.
+/* Meirhuppa: the macro expander of document 01, with the panel check of request T-01, the scan runner of T-02, the reader and printer of text of
+ * T-05 and the smaller image of T-11, as a library.
  *
- * Eight jobs on lent byte images, one of them on a text. Each answers with a code (0 is success), the units charged, a name (resolve only), the
+ * Nine jobs on lent byte images, one of them on a text. Each answers with a code (0 is success), the units charged, a name (resolve only), the
  * length in bytes of what it wrote and, where a word is ambiguous, two bindings that compete for it (request T-04). No job keeps anything, allocates
  * anything or fails in any other way: every image, text, phase, budget and buffer gets an answer, and the work ends.
  *
@@ -24,6 +24,9 @@
  * The reader and the printer take none of them either. Their units and name are always 0. Every refusal leaves the output untouched, with length 0;
  * success writes the image or the text from its start, the text without a byte 0 or a line end, and touches no byte after it. Neither is ever longer
  * than 65,536 bytes (MEIRHUPPA_MOST_IMAGE), so a longer output is of no use.
+ *
+ * The smaller image takes none of them either. Its units and name are always 0. A refusal leaves the output untouched, with length 0; success writes
+ * the image from its start and touches no byte after it. It is never longer than the image, so an output as long as that is always enough.
  *
  * An image may have up to 256 scopes, 1,024 names (core names and words counted) and 512 bindings.
  */
@@ -169,6 +172,13 @@ meirhuppa_answer meirhuppa_read(const uint8_t *text, size_t text_length, uint8_t
  * spelling, where the new image has room. Of several refusals the order is 2 for an image over 65,536 bytes, then 1, 2 and 4 as the image is read
  * from the front, and 20. */
 meirhuppa_answer meirhuppa_print(const uint8_t *image, size_t image_length, uint8_t *output, size_t output_length);
+
+/* A syntax image of the same meaning, for the archive: without the bindings whose symbol has no identifier that contains their set at some phase, then
+ * without the scopes that are in no set any more, the rest renumbered in order. Names and words stay. Identifiers in quoted and `syntax` text count.
+ * Parsing it gives the same code, units and tree, but for the numbers of scopes in syntax values and their count; doing it twice changes nothing
+ * more. Expanding it again is outside this promise. Of several refusals the order is 2 for an image over 65,536 bytes, then 1, 2 and 4 as the image is
+ * read from the front, and 20. */
+meirhuppa_answer meirhuppa_shrink(const uint8_t *image, size_t image_length, uint8_t *output, size_t output_length);
 
 #ifdef __cplusplus
 }

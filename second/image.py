@@ -25,7 +25,7 @@ import collections
 CORE = ["lambda", "let-syntax", "quote", "syntax"]
 PRIMITIVES = ["stx-e", "mk-stx", "first", "rest", "link", "same", "pick"]
 RUNG_WORDS = ["and", "or", "not", "out", "set", "all"]
-JOBS = ["resolve", "expand", "parse", "evaluate", "panel", "scan", "read", "print", "8", "9", "10", "shrink"]  # 8 to 10 are not there yet
+JOBS = ["resolve", "expand", "parse", "evaluate", "panel", "scan", "read", "print", "", "", "", "shrink"]  # 8 to 10 are not there yet
 UNBUDGETED = JOBS[4:]  # take neither phase, budget nor table
 SYMBOL, NUMBER, POINT, PRIMITIVE, RUNG_WORD, LIST = range(6)
 VARIABLE, APPLICATION, FUNCTION, ATOM, LIST_VALUE, SYNTAX_VALUE = range(6)

@@ -27,6 +27,8 @@ static inline meirhuppa_answer ask_library(const Call *call, uint32_t *table, vo
                               output, call->output_length);
     case JOB_READ:
         return meirhuppa_read(call->image, call->image_length, output, call->output_length);
+    case JOB_SHRINK:
+        return meirhuppa_shrink(call->image, call->image_length, output, call->output_length);
     default:
         return meirhuppa_print(call->image, call->image_length, output, call->output_length);
     }

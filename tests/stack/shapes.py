@@ -125,6 +125,14 @@ def text_calls():
         yield f"print: {name}", image.call("print", given)
 
 
+def shrink_calls():
+    """Every syntax image made smaller, and the longest that is."""
+    for name, given in (*syntax_images(), *rival_images()):
+        yield f"shrink: {name}", image.call("shrink", given)
+    words = "(" + "x{256} " * 8191 + ")"
+    yield "shrink: 8,191 identifiers", image.call("shrink", image.syntax_image(words, scopes=256))
+
+
 def endless_texts():
     """Names with two calls that read a text: a short one and a long one."""
     for name, text in ENDLESS.items():
@@ -143,5 +151,6 @@ def calls():
         yield f"panel: {name}", image.call("panel", given)
     yield from scan_calls()
     yield from text_calls()
+    yield from shrink_calls()
     for name, _, long in endless_texts():
         yield f"{name}, {LONG_TEXT:,} bytes", long

@@ -1,5 +1,5 @@
-//! Meirhuppa's four jobs, its panel check, its scan runner and its reader and printer of text over slices. What they promise is document 01, with
-//! the two bindings of request T-04, and requests T-01, T-02 and T-05 for the others, and is proved of the code behind the boundary; this crate adds
+//! Meirhuppa's four jobs, its panel check, its scan runner, its reader and printer of text and its smaller images over slices. What they promise is
+//! document 01, with the two bindings of request T-04, and requests T-01, T-02, T-05 and T-11 for the others, and is proved of the code behind the boundary; this crate adds
 //! names for the refusals and the lengths of the slices, which are true by their type.
 //!
 //! A call takes at most 160 KiB of the calling thread's stack. That is measured, on x86-64, and not proved.
@@ -16,7 +16,7 @@ pub struct Answer {
     pub length: usize,
 }
 
-/// Why a job was refused, and the units charged before it: none of a panel check, a scan or a text. The output is as it was.
+/// Why a job was refused, and the units charged before it: none of a panel check, a scan, a text or a smaller image. The output is as it was.
 #[derive(Clone, Copy, Debug, PartialEq, Eq)]
 pub struct Refusal {
     pub code: Code,
@@ -260,6 +260,7 @@ mod library {
         ) -> Raw;
         pub fn meirhuppa_read(text: *const u8, text_length: usize, output: *mut u8, output_length: usize) -> Raw;
         pub fn meirhuppa_print(image: *const u8, image_length: usize, output: *mut u8, output_length: usize) -> Raw;
+        pub fn meirhuppa_shrink(image: *const u8, image_length: usize, output: *mut u8, output_length: usize) -> Raw;
     }
 
     pub fn answer(raw: Raw) -> Result<super::Answer, super::Refusal> {
@@ -386,4 +387,15 @@ pub fn print<'a>(image: &[u8], output: &'a mut [u8]) -> Result<&'a str, Refusal>
     let raw = unsafe { library::meirhuppa_print(image.as_ptr(), image.len(), output.as_mut_ptr(), output.len()) };
     let answer = library::answer(raw)?;
     Ok(std::str::from_utf8(&output[..answer.length]).expect("a text has bytes from 32 to 126"))
+}
+
+/// A syntax image of the same meaning, for the archive, at the front of `output`: without the bindings whose symbol has no identifier that contains
+/// their set at some phase, then without the scopes that are in no set any more, the rest renumbered in order. It is never longer than `image`, so an
+/// output as long as that is always enough. [`parse`] gives the same answer of both, but for the numbers of scopes in syntax values and their count.
+/// A refusal leaves all of `output` as it was, success what is behind the image.
+#[cfg(target_arch = "x86_64")]
+pub fn shrink<'a>(image: &[u8], output: &'a mut [u8]) -> Result<&'a [u8], Refusal> {
+    // SAFETY: as in `resolve`.
+    let raw = unsafe { library::meirhuppa_shrink(image.as_ptr(), image.len(), output.as_mut_ptr(), output.len()) };
+    library::answer(raw).map(|answer| &output[..answer.length])
 }

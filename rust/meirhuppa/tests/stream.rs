@@ -1,10 +1,10 @@
-//! A slice of the second program's corpus, all eight jobs, each answer held against the line that is kept for it. `tests/slice` makes the slice,
+//! A slice of the second program's corpus, all nine jobs, each answer held against the line that is kept for it. `tests/slice` makes the slice,
 //! for C as well. The archive is for x86-64, so elsewhere this says so and tests nothing.
 
 #[cfg(target_arch = "x86_64")]
 mod on_x86_64 {
     use meirhuppa::{
-        evaluate, expand, panel, parse, print, read, resolve, scan, Answer, Refusal, Rivals, WORDS_PER_UNIT,
+        evaluate, expand, panel, parse, print, read, resolve, scan, shrink, Answer, Refusal, Rivals, WORDS_PER_UNIT,
     };
     use std::process::Command;
 
@@ -14,6 +14,7 @@ mod on_x86_64 {
     const SCAN: u32 = 5;
     const READ: u32 = 6;
     const PRINT: u32 = 7;
+    const SHRINK: u32 = 11;
 
     /// A call of the stream. The image of a `READ` is its text.
     struct Call<'a> {
@@ -73,6 +74,7 @@ mod on_x86_64 {
             SCAN => scan(call.image, call.recording, output)?.text().len(),
             READ => read(call.image, output)?.len(),
             PRINT => print(call.image, output)?.len(),
+            SHRINK => shrink(call.image, output)?.len(),
             job => panic!("there is no job {job}"),
         };
         Ok(Answer { units: 0, name: 0, length })
