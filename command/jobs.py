@@ -100,6 +100,13 @@ def printed(image):
     return answer.written.decode()
 
 
+def shrink(image):
+    """The smaller image of a syntax image."""
+    answer = ask("shrink", image)
+    judge("shrink", answer.code)
+    return answer.written
+
+
 def bits(tree):
     """The names of a panel program's bits, in order of address."""
     answer = ask("panel", tree)

@@ -10,6 +10,7 @@ import jobs
 import notation
 import panel
 import reading
+import shrinking
 import way
 from telling import BadUse, judge, refuse
 
@@ -74,6 +75,12 @@ def resolve(call):
     return f"name {name}{' ' + known[name] if name < len(known) else ''}\n".encode()
 
 
+# ---- the archive
+
+def shrink(call):
+    return out(shrinking.smaller(call.files[0]))
+
+
 # ---- the panel
 
 def panel_(call):
@@ -128,6 +135,7 @@ WORDS = {
     "evaluate": Word((PROGRAM,), {}, JOBS, evaluate),
     "resolve": Word((PROGRAM,), {PHASE: phase_of}, JOBS, resolve),
     "print": Word((PROGRAM,), {ALL: None}, JOBS, print_),
+    "shrink": Word((PROGRAM,), {}, JOBS, shrink),
     "panel": Word((PROGRAM,), {}, JOBS, panel_),
     "scan": Word((PROGRAM, RECORDING), {}, SCANS, scan),
     "report": Word((given.opened,), {}, ("term_report",), report),

@@ -9,9 +9,9 @@ KIND = "the kind is 1 or 2 but not the job's (2 for evaluate, 1 for the others)"
 TEXT = "bad text, also no object or a second one"
 # The job that is first handed a syntax image, and a tree image.
 FIRST = {"expand": "expand", "parse": "expand", "evaluate": "expand", "resolve": "resolve", "print": "print", "panel": "expand", "scan": "expand",
-         "page": "expand"}
-FIRST_OF_TREE = {**FIRST, "parse": "parse", "evaluate": "evaluate", "panel": "panel", "scan": "scan", "page": "scan"}
-TAKES_SYNTAX = ("expand", "parse", "resolve")
+         "page": "expand", "shrink": "expand"}
+FIRST_OF_TREE = {**FIRST, "parse": "parse", "evaluate": "evaluate", "panel": "panel", "scan": "scan", "page": "scan", "shrink": "shrink"}
+TAKES_SYNTAX = ("expand", "parse", "resolve", "shrink")
 CHARGED = ("expand", "parse", "evaluate", "resolve")
 FILES = {**dict.fromkeys(FIRST, 1), "scan": 2, "page": 2, "report": 1}
 HUGE = 100_000_000

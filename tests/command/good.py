@@ -1,6 +1,7 @@
 """Every word with good input, as text, as syntax image and as tree image. What is expected is the second program's answer, or stands here."""
 import calls
 import image
+import reading
 from calls import Case, second
 
 PANELS = {
@@ -90,6 +91,16 @@ def of_evaluating():
         yield Case(f"evaluate, {form}", ["evaluate", "-"], given, out=value.written, said=(*said, last))
 
 
+def of_shrinking(name, saved):
+    found = calls.example(name)
+    made = second("shrink", found.expanded).written
+    for form, given, said in forms(found):
+        yield Case(f"shrink {name}, {form}", ["shrink", "-"], given, out=made, said=(*said[:-1], "shrink: code 0", f"shrink: saved {saved}"))
+    again = reading.image_of(made)
+    nothing = f"shrink: saved 0 of {len(made)} bytes, 0 of {len(again.bindings)} bindings, 0 of {again.scopes} scopes"
+    yield Case(f"shrink {name} again", ["shrink", "-"], made, out=made, said=("shrink: code 0", nothing))
+
+
 def of_resolving():
     """Samples 2 and 6 of document 01, and a word."""
     names = {"words": ["x", "y"], "made": 3, "scopes": 2}
@@ -130,6 +141,8 @@ def cases():
     for name in calls.EXAMPLES:
         yield from of_jobs(name)
         yield from of_panels(name)
+    yield from of_shrinking("accident", "17 of 319 bytes, 4 of 6 bindings, 4 of 10 scopes")
+    yield from of_shrinking("mixing-plant", "35 of 3095 bytes, 8 of 19 bindings, 10 of 67 scopes")
     yield from of_scans("start-stop", "start-stop")
     yield from of_scans("one-bit", "feeder-and-fan")
     yield from (*of_recordings(), *of_pages(), *of_evaluating(), *of_resolving(), *of_phases(), *of_reports(), *of_lines())

@@ -12,6 +12,7 @@ LAST = {
     "echo '((lambda x x) 9)' | ./meirhuppa evaluate - | ./meirhuppa print -": b"9",
     "echo run | ./meirhuppa resolve -": b"name 4 run",
     "./meirhuppa panel examples/accident.text": b"1        13    run   1",
+    "./meirhuppa expand examples/accident.text | ./meirhuppa shrink - | ./meirhuppa panel -": b"1        13    run   1",
     "./meirhuppa scan examples/start-stop.text examples/start-stop.scans": b"9 @10=1",
     "printf '@1=1\\n@1=0\\n@2=1\\n' | ./meirhuppa scan examples/start-stop.text -": b"3 @10=0",
     "./meirhuppa report crates/term_report/stdin": b"mean 229 3",
