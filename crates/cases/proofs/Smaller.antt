@@ -3,9 +3,9 @@ use Prim.Native.Nat.{ℕ}
 use mathlib.Core.Path.{_≡_, refl}
 use mathlib.Core.List.{List, [], _∷_, _++_}
 use lib.ListN.{replicate}
-use Rattle.model.specs.Refusals.{layout, overLimit, wrongKind, noScopeLeft, tooLong}
+use Rattle.model.specs.Refusals.{layout, overLimit, wrongKind, noScopeLeft}
 use Rattle.model.specs.Competing.{noRivals}
-use Rattle.model.specs.Jobs.{Ending, refused, written, outputAfter, expandEnding}
+use Rattle.model.specs.Jobs.{Ending, refused, written, expandEnding}
 use Rattle.shrinking.specs.Shrunk.{shrinkEnding}
 use Rattle.shrinking.specs.ShrinkJob.{shrinkJob}
 

@@ -1,13 +1,11 @@
 -- The pieces ahead, by the tests that the code makes.
-use Prim.Native.Nat.{ℕ, zero, suc, _+_, _-_, _≤_, _<_}
+use Prim.Native.Nat.{ℕ, _+_, _-_, _≤_, _<_}
 use mathlib.Core.Path.{_≡_, refl, sym, ap, _∙_, subst}
 use mathlib.Core.List.{List, [], _∷_, _++_, append-assoc}
 use native.Mathlib.Omega.{arith}
 use lib.ListN.{length, drop, length-drop, length-append, drop-of-length-le}
-use Rattle.model.specs.Objects as m
-use Rattle.model.specs.Reading.{got, give, num, readSet, readSets}
-use Rattle.model.specs.Writing.{numBytes, setBytes, setsBytes}
-use Rattle.laws.specs.Ordered.{SetsIn}
+use Rattle.model.specs.Reading.{num}
+use Rattle.model.specs.Writing.{numBytes, setsBytes}
 use Rattle.codec_laws.proofs.NumberTrip.{num-back}
 use Rattle.codec_laws.proofs.Lengths.{num-some}
 use Rattle.codec_laws.proofs.ObjectTrip.{sets-back}

@@ -1,5 +1,5 @@
 -- Chains of bindings, by the steps that the code takes.
-use Prim.Native.Nat.{ℕ, zero, suc, _+_, _-_, _*_, _≤_, _<_}
+use Prim.Native.Nat.{ℕ, _+_, _-_, _*_, _≤_, _<_}
 use mathlib.Core.Path.{_≡_, refl, sym, ap, _∙_, subst}
 use mathlib.Core.Bool.{Bool, true, false}
 use mathlib.Core.List.{List}
@@ -7,13 +7,11 @@ use native.Mathlib.Omega.{arith}
 use lib.Dec.{eqb, ltb}
 use lib.ListN.{length, getD, set, length-set}
 use lib.Seq.{getD-set-same, getD-set-other}
-use mir.Syntax.{w64}
-use mir.Val.{Fits}
 use borrow.Author.Tests.{eqb-true, eqb-false, ltb-true, ltb-false}
 use Rattle.model.specs.Resolving.{Bind}
 use Rattle.store.specs.Words.{bindAt}
 use Rattle.store.specs.Sizes.{bindingSize}
-use Rattle.marking.specs.Chains.{Last, Chained, Unchained, Chains}
+use Rattle.marking.specs.Chains.{Last, Unchained, Chains}
 
 -- the first i bindings are chained
 pub record Chaining (store lasts₀ befores₀ lasts befores : List ℕ) (i : ℕ) : Type 0 where

@@ -1,10 +1,9 @@
 -- The marked bindings counted and joined, the last first, by the steps that the code takes.
-use Prim.Native.Nat.{ℕ, zero, suc, _+_, _-_, _*_, _≤_, _<_}
-use mathlib.Core.Path.{_≡_, refl, sym, ap, ap₂, _∙_, subst}
+use Prim.Native.Nat.{ℕ, suc, _+_, _-_, _*_, _≤_, _<_}
+use mathlib.Core.Path.{_≡_, refl, sym, ap, _∙_}
 use mathlib.Core.Bool.{Bool, true, false, not}
 use mathlib.Core.List.{List, [], _∷_}
 use native.Mathlib.Omega.{arith}
-use lib.Dec.{eqb}
 use lib.Bits.{bitOr}
 use lib.ListN.{length, getD}
 use mir.Syntax.{w64}
@@ -18,7 +17,6 @@ use Rattle.scopes.specs.declared.ScopeSet.{ScopeSet}
 use Rattle.scopes.specs.Sets.{scopesOf}
 use Rattle.store.specs.Words.{bindAt, bindsFrom, bindsOf}
 use Rattle.pieces.proofs.PieceLaws.{join-assoc}
-use Rattle.marking.specs.declared.kept.Kept.{Kept}
 use Rattle.marking.specs.Marks.{marked}
 use Rattle.marking.specs.Kept.{keptFrom, keptOf, Keeps}
 

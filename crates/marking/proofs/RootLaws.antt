@@ -1,8 +1,8 @@
 -- The root marked piece by piece, by the steps that the code takes.
-use Prim.Native.Nat.{ℕ, zero, suc, _+_, _-_, _≤_, _<_}
-use mathlib.Core.Path.{_≡_, refl, sym, ap, ap₂, _∙_, subst}
-use mathlib.Core.Bool.{Bool, true, false, not, _&&_, _||_, or-assoc, or-false}
-use mathlib.Core.List.{List, [], _∷_}
+use Prim.Native.Nat.{ℕ, _-_, _≤_, _<_}
+use mathlib.Core.Path.{_≡_, refl, sym, ap, ap₂, _∙_}
+use mathlib.Core.Bool.{Bool, false, _&&_, _||_, or-assoc, or-false}
+use mathlib.Core.List.{List, _∷_}
 use native.Mathlib.Omega.{arith}
 use lib.Dec.{eqb}
 use lib.Bits.{bitOr}
@@ -19,7 +19,7 @@ use Rattle.things.specs.Rep.{setsOf}
 use Rattle.store.specs.Words.{bindAt}
 use Rattle.builder.specs.Fronts.{FrontHere, FrontRead}
 use Rattle.pieces.specs.Pieces.{Piece, rootPieces, usedAt, usedAmong, scopesAmong}
-use Rattle.pieces.proofs.PieceLaws.{join-assoc, join-none}
+use Rattle.pieces.proofs.PieceLaws.{none-used, no-scopes, join-assoc, join-none}
 use Rattle.marking.specs.Marks.{marked, usedBy, Markable, Identifies, Marks}
 use Rattle.marking.specs.Roots.{Ahead, RootMarkable, MarksRoot}
 use Rattle.marking.proofs.AheadLaws.{Next, next, front-here, tag-is, sets-are, number-is, ahead-less, ahead-on, ahead-end, symbol-below}
@@ -30,17 +30,9 @@ used-more : (b : Bind) (p : Piece) (l : List Piece) → usedAmong b (p ∷ l) �
 unfolding usedAmong
 used-more b p l = refl
 
-used-none : (b : Bind) → usedAmong b [] ≡ false
-unfolding usedAmong
-used-none b = refl
-
 scopes-more : (p : Piece) (l : List Piece) → scopesAmong (p ∷ l) ≡ bitOr (joined (p .sets)) (scopesAmong l)
 unfolding scopesAmong
 scopes-more p l = refl
-
-scopes-none : scopesAmong [] ≡ 0
-unfolding scopesAmong
-scopes-none = refl
 
 none-join : (a : Scopes) → bitOr 0 a ≡ a
 none-join a = refl
@@ -85,8 +77,8 @@ module _ {store image : List ℕ} {scopes : ℕ} {lasts befores marks₀ marks :
       let e = ahead-end (r .ahead) h in
       record {
         long = r .long;
-        are = λ i l. sym (ap (λ (t : List Piece). marked marks i || usedAmong (bindAt store i) t) e ∙ ap (λ (t : Bool). marked marks i || t) (used-none (bindAt store i)) ∙ or-false (marked marks i)) ∙ r .are i l;
-        scopes-are = q ∙ sym (ap (λ (t : List Piece). bitOr used (scopesAmong t)) e ∙ ap (bitOr used) scopes-none ∙ join-none used) ∙ r .scopes-are;
+        are = λ i l. sym (ap (λ (t : List Piece). marked marks i || usedAmong (bindAt store i) t) e ∙ ap (λ (t : Bool). marked marks i || t) (none-used (bindAt store i)) ∙ or-false (marked marks i)) ∙ r .are i l;
+        scopes-are = q ∙ sym (ap (λ (t : List Piece). bitOr used (scopesAmong t)) e ∙ ap (bitOr used) no-scopes ∙ join-none used) ∙ r .scopes-are;
       }
 
   module _ (h : at < length image) where

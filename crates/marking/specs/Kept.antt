@@ -1,5 +1,5 @@
 -- The bindings that are marked.
-use Prim.Native.Nat.{ℕ, suc, _*_, _≤_}
+use Prim.Native.Nat.{ℕ, suc, _≤_}
 use mathlib.Core.Path.{_≡_}
 use mathlib.Core.List.{List, [], _∷_}
 use lib.Bits.{bitOr}
@@ -9,7 +9,6 @@ use Rattle.model.specs.Scopes.{Scopes}
 use Rattle.model.specs.Resolving.{Bind}
 use Rattle.shrinking.specs.Shrunk.{scopesBound}
 use Rattle.scopes.specs.Sets.{scopesOf}
-use Rattle.scopes.specs.declared.ScopeSet.{ScopeSet}
 use Rattle.store.specs.Words.{bindsOf}
 use Rattle.marking.specs.declared.kept.Kept.{Kept}
 use Rattle.marking.specs.Marks.{marked}

@@ -1,10 +1,9 @@
 -- What is said of an object is said of its pieces.
-use Prim.Native.Nat.{ℕ, zero, suc, _+_, _≤_, _<_}
-use mathlib.Core.Path.{_≡_, refl, sym, ap, ap₂, _∙_}
-use mathlib.Core.Bool.{Bool, true, false, _&&_, _||_, or-assoc, or-false}
+use Prim.Native.Nat.{ℕ, suc, _+_, _≤_, _<_}
+use mathlib.Core.Path.{_≡_, refl, sym, ap, _∙_}
+use mathlib.Core.Bool.{Bool, false, _||_, or-assoc, or-false}
 use mathlib.Core.List.{List, [], _∷_, _++_, append-assoc}
 use native.Mathlib.Omega.{arith}
-use lib.Dec.{eqb}
 use lib.Bits.{bitOr}
 use lib.ListN.{length, length-append}
 use Rattle.model.specs.Limits.{lastPoint, lastPrimitive, lastRungWord}
@@ -17,8 +16,22 @@ use Rattle.codec_laws.specs.WellFormed.{AtomFits, StxFits, StxsFit}
 use Rattle.codec_laws.proofs.Lengths.{count-le}
 use Rattle.codec_laws.proofs.ObjectTrip.{tag-le}
 use Rattle.alike.specs.Renumbering.{renumberSets, renumberStx}
-use Rattle.shrinking.specs.Shrunk.{contains, usedIn, usedInAny, joined, scopesIn, scopesInAll}
-use Rattle.pieces.specs.Pieces.{Piece, pieces, piecesAll, pieceBytes, piecesBytes, PieceFits, PiecesFit, usedAt, usedAmong, scopesAmong, renumberPiece, renumberPieces}
+use Rattle.shrinking.specs.Shrunk.{usedIn, usedInAny, joined, scopesIn, scopesInAll}
+use Rattle.pieces.specs.Pieces.{Piece, pieces, piecesAll, pieceBytes, piecesBytes, PiecesFit, usedAt, usedAmong, scopesAmong, renumberPiece, renumberPieces}
+
+-- ---- of no pieces
+
+pub no-bytes : piecesBytes [] ≡ []
+unfolding piecesBytes
+no-bytes = refl
+
+pub none-used : (b : Bind) → usedAmong b [] ≡ false
+unfolding usedAmong
+none-used b = refl
+
+pub no-scopes : scopesAmong [] ≡ 0
+unfolding scopesAmong
+no-scopes = refl
 
 -- ---- their bytes are the object's
 

@@ -4,7 +4,6 @@ use mathlib.Core.Path.{_≡_, refl, sym, ap, _∙_, subst}
 use mathlib.Core.List.{List, [], _∷_, _++_}
 use native.Mathlib.Omega.{arith}
 use lib.ListN.{length, length-append}
-use Rattle.model.specs.Objects as m
 use Rattle.table.specs.declared.Sets.{Sets}
 use Rattle.things.specs.Rep.{setsOf}
 use Rattle.builder.specs.Fronts.{FrontHere, FrontRead}

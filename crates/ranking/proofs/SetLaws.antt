@@ -1,17 +1,15 @@
 -- Sets, bindings and pieces written part by part.
-use Prim.Native.Nat.{ℕ, zero, suc, _+_, _-_, _≤_, _<_}
+use Prim.Native.Nat.{ℕ, _+_, _-_, _≤_}
 use mathlib.Core.Path.{_≡_, refl, sym, ap, _∙_, subst}
-use mathlib.Core.List.{List, [], _∷_, _++_}
+use mathlib.Core.List.{List, _++_}
 use native.Mathlib.Omega.{arith}
 use lib.ListN.{length, length-append}
 use lib.Seq.{sets}
 use Rattle.model.specs.Scopes.{Scopes, members}
 use Rattle.model.specs.Objects.{Sets}
-use Rattle.model.specs.Resolving.{Bind}
 use Rattle.model.specs.Writing.{numBytes, numsBytes, listBytes}
 use Rattle.alike.specs.Renumbering.{mapped}
 use Rattle.shrinking.proofs.Within.{mapped-length}
-use Rattle.pieces.specs.Pieces.{Piece}
 use Rattle.text.specs.Placing.{Placed}
 use Rattle.text.proofs.Placing.{placed-then, placed-length, renamed}
 use Rattle.ranking.specs.Numbered.{numbered, membersBy, setBy, setsBy, pieceBy, bindBy, MembersRoom, RoomFor}

@@ -3,7 +3,7 @@ use Prim.Native.Nat.{ℕ, _-_, _≤_, _<_}
 use mathlib.Core.Path.{_≡_}
 use mathlib.Core.List.{List}
 use lib.ListN.{length, getD}
-use Rattle.model.specs.Scopes.{Scope, Scopes}
+use Rattle.model.specs.Scopes.{Scopes}
 use Rattle.shrinking.specs.Shrunk.{rank}
 use Rattle.scopes.specs.Sets.{setScopes}
 

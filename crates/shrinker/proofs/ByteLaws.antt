@@ -1,29 +1,23 @@
 -- What is written with new numbers is the smaller image.
-use Prim.Native.Nat.{ℕ, zero, suc, _+_, _^_, _≤_, _<_}
-use mathlib.Core.Path.{_≡_, refl, sym, ap, ap₂, _∙_, subst}
+use Prim.Native.Nat.{ℕ, _+_, _^_, _≤_, _<_}
+use mathlib.Core.Path.{_≡_, refl, sym, ap, ap₂, _∙_}
 use mathlib.Core.List.{List, [], _∷_, _++_, append-nil}
-use mathlib.Core.Logic.{_⊎_, inl, inr}
-use native.Mathlib.Omega.{arith}
-use lib.Bits.{bitOr}
-use lib.ListN.{length, getD}
+use mathlib.Core.Logic.{inl, inr}
+use lib.ListN.{length}
 use Rattle.model.specs.Scopes.{Scopes, members}
 use Rattle.model.specs.Objects.{Sets, Stx}
 use Rattle.model.specs.Resolving.{Bind}
-use Rattle.model.specs.Reading.{got, Head, symbols, Image, readImage, readSyntax}
+use Rattle.model.specs.Reading.{Image}
 use Rattle.model.specs.Writing.{numBytes, listBytes, setBytes, setsBytes, stxBytes, bindBytes, bindsBytes, headBytes, syntaxBytes}
 use Rattle.laws.specs.Ordered.{SetsIn}
 use Rattle.laws.proofs.ScopeSets.{Sub}
 use Rattle.laws.proofs.Members.{Asc, Small, asc-of}
-use Rattle.laws.proofs.ResolveRule.{In}
-use Rattle.codec_laws.specs.WellFormed.{SyntaxFits}
 use Rattle.alike.specs.Renumbering.{mapped, renumberSet, renumberSets, renumberStx, renumberBind}
 use Rattle.alike.proofs.RenumberedSets.{small-of}
-use Rattle.shrinking.specs.Shrunk.{joined, scopesIn, kept, remaining, rank, renumberEach, withScopes, shrunk, bytesOf, smaller}
+use Rattle.shrinking.specs.Shrunk.{joined, kept, remaining, rank, renumberEach, withScopes, shrunk, bytesOf}
 use Rattle.shrinking.proofs.Within.{sub-trans, or-sub-left, or-sub-right, BindsUnder, members-new, each-length}
-use Rattle.shrinking.proofs.Kept.{root-sub}
-use Rattle.shrinking.proofs.Readable.{shrunk-bytes, small-u, binds-under}
 use Rattle.pieces.specs.Pieces.{Piece, pieces, pieceBytes, piecesBytes, PieceFits, PiecesFit, scopesAmong, renumberPiece, renumberPieces}
-use Rattle.pieces.proofs.PieceLaws.{pieces-bytes, pieces-renumbered}
+use Rattle.pieces.proofs.PieceLaws.{no-bytes, pieces-bytes, pieces-renumbered}
 use Rattle.ranking.specs.Ranks.{Ranked}
 use Rattle.ranking.specs.Numbered.{numbered, setBy, setsBy, pieceBy, piecesBy, bindBy, bindsBy}
 
@@ -74,10 +68,6 @@ module _ (u : Scopes) (small : Small u) (ranks : List ℕ) (r : Ranked u ranks) 
       ap₂ (λ (x y : List ℕ). x ++ y) (bind-by b (h .0) (h .1)) (binds-by l (λ c i. w c (inr i)))
 
 -- ---- the whole image
-
-no-bytes : piecesBytes [] ≡ []
-unfolding piecesBytes
-no-bytes = refl
 
 no-pieces : (f : ℕ → ℕ) → renumberPieces f [] ≡ []
 unfolding renumberPieces

@@ -1,13 +1,11 @@
 -- The job, by the steps that the code takes.
-use Prim.Native.Nat.{ℕ, zero, suc, _+_, _-_, _*_, _≤_, _<_, min}
+use Prim.Native.Nat.{ℕ, zero, suc, _+_, _-_, _≤_, _<_, min}
 use mathlib.Core.Path.{_≡_, refl, sym, ap, _∙_, subst}
-use mathlib.Core.Logic.{_⊎_, inl, inr}
-use mathlib.Core.List.{List, [], _∷_, _++_}
+use mathlib.Core.Logic.{inl}
+use mathlib.Core.List.{List, [], _++_}
 use native.Mathlib.Omega.{arith}
 use lib.ListN.{length, take, drop, getD, replicate, length-take, length-replicate}
 use lib.Seq.{sets, sets-eq, take-at}
-use mir.Syntax.{w32, w64}
-use mir.Val.{Fits}
 use Rattle.model.specs.Refusals as model
 use Rattle.model.specs.Objects.{Stx}
 use Rattle.model.specs.Reading.{got, fault, Image, readImage, readSyntax}
@@ -32,7 +30,7 @@ use Rattle.text.specs.Placing.{Placed}
 use Rattle.text.proofs.Placing.{placed-length}
 use Rattle.marking.specs.declared.kept.Kept.{Kept}
 use Rattle.ranking.specs.Ranks.{Ranked}
-use Rattle.shrinker.specs.Using.{remainingIn, Held, Unused, Uses}
+use Rattle.shrinker.specs.Using.{Held, Unused, Uses}
 use Rattle.shrinker.specs.Job.{Begun, Roomy, Writable, Makes, Shrinks}
 use Rattle.shrinker.specs.Job as job
 
@@ -51,10 +49,7 @@ module _ (bytes out : List ℕ) (short : length bytes ≤ 65536) where
   pub finish-written : {out′ : List ℕ} {r : ℕ} → length bytes ≤ length out → Placed out 0 bytes out′ r → job.Fits bytes out out′ (Written (length bytes) 0)
   finish-written h w = ends-written bytes out 0 refl h short (w .is ∙ start-is bytes out h)
 
-pub finish-length : {out bytes out′ : List ℕ} {at past : ℕ} → Placed out at bytes out′ past → length out′ ≡ length out
-finish-length w = placed-length w
-
-pub ruleset finish-laws = (finish-long, finish-room, finish-written, finish-length)
+pub ruleset finish-laws = (finish-long, finish-room, finish-written, placed-length)
 
 -- ---- with places for chains and marks
 

@@ -1,25 +1,26 @@
 -- What a judged image uses, by the steps that the code takes.
 use Prim.Native.Nat.{ℕ, zero, suc, _+_, _-_, _*_, _≤_, _<_}
 use mathlib.Core.Path.{_≡_, refl, sym, ap, ap₂, _∙_, subst}
-use mathlib.Core.Bool.{Bool, true, false, not, _||_, or-false}
+use mathlib.Core.Bool.{Bool, not, _||_, or-false}
 use mathlib.Core.List.{List, [], _∷_, _++_, append-nil}
 use native.Mathlib.Omega.{arith}
 use lib.Dec.{eqb}
 use lib.Bits.{bitOr}
-use lib.ListN.{length, drop, getD, length-drop}
+use lib.ListN.{length, take, drop, length-drop, take-append-drop}
 use Rattle.model.specs.Choice.{if_then_else_}
-use Rattle.model.specs.Limits.{mostNesting, mostScopes, mostNames, coreNames}
+use Rattle.model.specs.Limits.{mostNesting, mostScopes, mostNames}
 use Rattle.model.specs.Scopes.{Scopes}
 use Rattle.model.specs.Objects.{Stx}
 use Rattle.model.specs.Resolving.{Bind}
-use Rattle.model.specs.Reading.{Read, got, fault, Head, symbols, Image, readImage, readSyntax}
+use Rattle.model.specs.Reading.{got, Head, symbols, Image, readImage, readSyntax}
 use Rattle.model.specs.Writing.{stxBytes}
-use Rattle.codec_laws.specs.WellFormed.{Bytes, StxFits, BindsFit, SyntaxFits}
+use Rattle.codec_laws.specs.WellFormed.{Bytes, BindsFit, SyntaxFits}
+use Rattle.codec_laws.proofs.Sequence.{bytes-rest}
 use Rattle.codec_laws.proofs.ObjectTrip.{stx-w}
 use Rattle.codec_laws.proofs.ImageLaws.{syntax-read-keeps-limits}
 use Rattle.shrinking.specs.Shrunk.{usedIn, kept, scopesIn, scopesBound, remaining}
-use Rattle.pieces.specs.Pieces.{Piece, pieces, piecesRead, rootPieces, piecesBytes, PiecesFit, usedAmong, scopesAmong}
-use Rattle.pieces.proofs.PieceLaws.{pieces-bytes, pieces-fit, used-among, scopes-among, join-none}
+use Rattle.pieces.specs.Pieces.{pieces, piecesRead, rootPieces, piecesBytes, PiecesFit, usedAmong, scopesAmong}
+use Rattle.pieces.proofs.PieceLaws.{no-bytes, none-used, no-scopes, pieces-bytes, pieces-fit, used-among, scopes-among, join-none}
 use Rattle.scopes.specs.Sets.{scopesOf}
 use Rattle.scopes.specs.declared.ScopeSet.{ScopeSet}
 use Rattle.store.specs.Words.{bindAt, bindsFrom, bindsOf}
@@ -27,7 +28,7 @@ use Rattle.image.specs.declared.Judgement.{Judgement}
 use Rattle.image.specs.Judging.{syntaxKind, Good}
 use Rattle.marking.specs.Chains.{Unchained, Chains}
 use Rattle.marking.specs.Marks.{marked}
-use Rattle.marking.specs.Roots.{Ahead, RootAt, RootMarkable, MarksRoot}
+use Rattle.marking.specs.Roots.{RootAt, RootMarkable, MarksRoot}
 use Rattle.marking.specs.Kept.{keptFrom, keptOf, Keeps}
 use Rattle.marking.specs.declared.kept.Kept.{Kept}
 use Rattle.shrinker.specs.Using.{keptRead, remainingRead, keptIn, remainingIn, Held, Unused, Uses}
@@ -35,9 +36,7 @@ use Rattle.shrinker.specs.Using.{keptRead, remainingRead, keptIn, remain
 -- ---- a judged image
 
 bytes-drop : (k : ℕ) (s : List ℕ) → Bytes s → Bytes (drop k s)
-bytes-drop zero s b = b
-bytes-drop (suc k) [] b = tt
-bytes-drop (suc k) (x ∷ s) b = bytes-drop k s (b .1)
+bytes-drop k s b = bytes-rest (take k s) (drop k s) (subst Bytes (sym (take-append-drop k s)) b)
 
 pub root-pieces : (image rest : List ℕ) (i : Image Stx) → readImage readSyntax image ≡ got i rest → rootPieces image ≡ pieces (i .root) []
 unfolding rootPieces piecesRead
@@ -58,10 +57,6 @@ few-scopes h l = l
 few-names : (h : Head) → h .names ≤ mostNames → h .names ≤ 1024
 unfolding mostNames
 few-names h l = l
-
-piece-bytes : piecesBytes [] ≡ []
-unfolding piecesBytes
-piece-bytes = refl
 
 module _ {image store : List ℕ} {j : Judgement} (h : Held image store j) where
   abbrev pub G : Good syntaxKind image store j
@@ -91,7 +86,7 @@ module _ {image store : List ℕ} {j : Judgement} (h : Held image store j) where
         few = G .scopes-to;
         short = G .short;
         inside = G .root-within;
-        bytes = b ∙ sym (append-nil (stxBytes (I .root))) ∙ ap (λ (s : List ℕ). stxBytes (I .root) ++ s) (sym piece-bytes) ∙ sym (pieces-bytes (I .root) []) ∙ ap piecesBytes (sym r);
+        bytes = b ∙ sym (append-nil (stxBytes (I .root))) ∙ ap (λ (s : List ℕ). stxBytes (I .root) ++ s) (sym no-bytes) ∙ sym (pieces-bytes (I .root) []) ∙ ap piecesBytes (sym r);
         fit = subst (λ (n : ℕ). PiecesFit n (rootPieces image)) (sym same-scopes)
             (subst (PiecesFit (I .head .scopes)) (sym r) (pieces-fit (symbols (I .head)) (I .head .scopes) symbols-few (I .root) (t .1) (short b) [] tt));
       }
@@ -150,14 +145,6 @@ module _ {image store : List ℕ} {j : Judgement} {lasts befores marks : List �
 
     pieces-are : rootPieces image ≡ pieces X []
     pieces-are = root-pieces image [] (I (y .held)) (G (y .held) .reads)
-
-    none-used : (b : Bind) → usedAmong b [] ≡ false
-    unfolding usedAmong
-    none-used b = refl
-
-    no-scopes : scopesAmong [] ≡ 0
-    unfolding scopesAmong
-    no-scopes = refl
 
     mark-is : (i : ℕ) → i < length marks → marked marks′ i ≡ usedIn (bindAt store i) X
     mark-is i l =

@@ -1,7 +1,7 @@
 -- The smaller image written part by part.
-use Prim.Native.Nat.{ℕ, _+_, _-_, _*_, _≤_, _<_}
-use mathlib.Core.Path.{_≡_, refl, sym, ap, ap₂, _∙_, subst}
-use mathlib.Core.List.{List, [], _∷_, _++_}
+use Prim.Native.Nat.{ℕ, _+_, _-_, _≤_}
+use mathlib.Core.Path.{_≡_, refl, sym, ap, _∙_, subst}
+use mathlib.Core.List.{List, [], _++_}
 use native.Mathlib.Omega.{arith}
 use lib.Bits.{bitOr}
 use lib.ListN.{length}
@@ -10,7 +10,6 @@ use mir.Syntax.{w32}
 use mir.Val.{Fits}
 use Rattle.model.specs.Scopes.{Scopes, members}
 use Rattle.model.specs.Objects.{Stx}
-use Rattle.model.specs.Resolving.{Bind}
 use Rattle.model.specs.Reading as m
 use Rattle.model.specs.Writing.{numBytes, headBytes, bindsBytes, stxBytes}
 use Rattle.laws.proofs.ScopeSets.{Sub}
@@ -19,11 +18,10 @@ use Rattle.shrinking.proofs.Kept.{root-sub}
 use Rattle.shrinking.proofs.Readable.{shrunk-bytes, small-u, binds-under}
 use Rattle.shrinking.proofs.Finished.{smaller-finished}
 use Rattle.alike.specs.Renumbering.{renumberStx}
-use Rattle.pieces.specs.Pieces.{pieces, rootPieces, piecesBytes, scopesAmong, renumberPieces}
-use Rattle.pieces.proofs.PieceLaws.{scopes-among, join-none}
+use Rattle.pieces.specs.Pieces.{rootPieces, piecesBytes, scopesAmong, renumberPieces}
+use Rattle.pieces.proofs.PieceLaws.{no-scopes, scopes-among, join-none}
 use Rattle.scopes.specs.Sets.{scopesOf}
 use Rattle.steps.specs.declared.State.{State}
-use Rattle.head.specs.Fronts.{Headed}
 use Rattle.image.specs.declared.Judgement.{Judgement}
 use Rattle.finish.specs.Headings.{headAfter, Fitting, PutsHead}
 use Rattle.text.specs.Placing.{Placed}
@@ -33,14 +31,10 @@ use Rattle.marking.specs.declared.kept.Kept.{Kept}
 use Rattle.ranking.specs.Ranks.{Ranked}
 use Rattle.ranking.specs.Numbered.{piecesBy, bindsBy, RoomFor, RootRoom, KeptRoom}
 use Rattle.ranking.proofs.SetLaws.{first-room, then-room}
-use Rattle.shrinker.specs.Using.{keptIn, remainingIn, Held}
+use Rattle.shrinker.specs.Using.{remainingIn, Held}
 use Rattle.shrinker.specs.Job.{Writable, Makes}
 use Rattle.shrinker.proofs.UseLaws.{G, I, fits, scopes-few, root-ahead, root-pieces, kept-in, remaining-in}
 use Rattle.shrinker.proofs.ByteLaws.{pieces-by, binds-by, root-bytes, parts}
-
-no-scopes : scopesAmong [] ≡ 0
-unfolding scopesAmong
-no-scopes = refl
 
 with-scopes : (n : ℕ) (h : m.Head) → withScopes n h ≡ record { words = h .words; names = h .names; scopes = n }
 unfolding withScopes

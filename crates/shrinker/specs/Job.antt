@@ -1,12 +1,11 @@
 -- The job of making an image smaller. There is room for any image in `scratch`.
-use Prim.Native.Nat.{ℕ, _≤_, _<_}
+use Prim.Native.Nat.{ℕ, _≤_}
 use mathlib.Core.Path.{_≡_}
 use mathlib.Core.List.{List}
 use lib.ListN.{length}
 use Rattle.model.specs.Jobs.{fitted}
 use Rattle.shrinking.specs.Shrunk.{smaller, shrinkEnding}
 use Rattle.numbers.specs.Limits.{mostImage}
-use Rattle.scopes.specs.Sets.{setScopes}
 use Rattle.text.specs.Placing.{Placed}
 use Rattle.image.specs.declared.Judgement.{Judgement}
 use Rattle.finish.specs.declared.Ending.{Ending}
