@@ -111,7 +111,8 @@ shrunk("512 bindings, none used", ("y{3}", FULL, 32), ("y{1}", [], 1))
 shrunk("512 bindings, of which one set holds four", ("x{3,7}", FULL, 32), ("x{1,2}", [("x", [], 4), ("x", [1], 4), ("x", [1, 2], 4), ("x", [2], 4)], 2))
 MANY = [f"w{i}" for i in range(512)]
 shrunk("512 words with a binding each, every second used",
-       ("(" + " ".join(f"w{i}{{{i % 256 + 1}}}" for i in range(0, 512, 2)) + ")", [(w, [i % 256 + 1], 4) for i, w in enumerate(MANY)], 256, MANY),
+       ("(" + " ".join(f"w{i}{{{i % 256 + 1}}}" for i in range(0, 512, 2)) + ")",
+        [(w, [i % 256 + 1], 4) for i, w in enumerate(MANY)], 256, MANY),
        ("(" + " ".join(f"w{i}{{{i % 256 // 2 + 1}}}" for i in range(0, 512, 2)) + ")",
         [(f"w{i}", [i % 256 // 2 + 1], 4) for i in range(0, 512, 2)], 128, MANY))
 
