@@ -56,7 +56,7 @@ mutual
 mutual
   unfolding onSets
 
-  onSets-fits : (k n : ℕ) (f : Sets → Sets) → ((c : Sets) → SetsIn n c → SetsIn n (f c)) → (s : Stx) → StxFits k n s → StxFits k n (onSets f s)
+  pub onSets-fits : (k n : ℕ) (f : Sets → Sets) → ((c : Sets) → SetsIn n c → SetsIn n (f c)) → (s : Stx) → StxFits k n s → StxFits k n (onSets f s)
   onSets-fits k n f h (atom c a) i = (h c (i .0), i .1)
   onSets-fits k n f h (list c l) i = (h c (i .0), onSetsAll-fits k n f h l (i .1))
 

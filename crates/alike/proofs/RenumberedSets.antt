@@ -1,15 +1,16 @@
 -- A set renumbered is like what it came from, and is the only one that is.
 use mathlib.Core.Path.{_≡_, refl, sym, ap₂, _∙_}
 use Prim.Native.Nat.{ℕ, zero, suc, _^_, _≤_, _<_}
-use native.Mathlib.Nat.{zero-lt-suc, le-trans, pow-le-pow-right}
 use native.Mathlib.Omega.{arith}
 use mathlib.Core.Bool.{Bool, true, false, _||_, false≢true}
 use mathlib.Core.List.{List, [], _∷_}
 use lib.Dec.{eqb}
 use Rattle.model.specs.Scopes.{Scopes, has, add, members}
+use Rattle.model.specs.Objects.{Sets}
 use borrow.Author.Tests.{eqb-true}
 use Rattle.laws.proofs.ScopeSets.{has-none, has-add}
 use Rattle.laws.proofs.Members.{Asc, member, Small, asc-of, member-has}
+use Rattle.addresses.proofs.Fitting.{set-more}
 use Rattle.alike.proofs.Alike.{NewNumbers, SetAlike}
 use Rattle.alike.specs.Renumbering.{mapped, setOf, renumberSet}
 use Rattle.alike.proofs.SetLaws.{eqb-to, set-one}
@@ -19,7 +20,12 @@ abbrev pub most : ℕ
 most = 256
 
 pub small-of : (n m : ℕ) → n ≤ most → m < 2 ^ n → Small m
-small-of n m h q = le-trans q (pow-le-pow-right {n = 2} (zero-lt-suc 1) h)
+small-of n m h q = set-more h m q
+
+-- three sets, each the same
+pub sets-path : (a b c d e f : Scopes) → a ≡ b → c ≡ d → e ≡ f
+    → _≡_ {A = Sets} (record { at0 = a; at1 = c; at2 = e }) (record { at0 = b; at1 = d; at2 = f })
+sets-path a b c d e f p q r = cc
 
 pub has-add-some : (j k : ℕ) (m : Scopes) → 1 ≤ k → has j (add k m) ≡ (eqb j k || has j m)
 has-add-some j zero m h = absurd (no h)

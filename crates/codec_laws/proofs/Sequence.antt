@@ -1,13 +1,14 @@
 -- What a reader that succeeds says of its parts, and that a number read is written again, and a written one read back.
 use mathlib.Core.Path.{_≡_, refl, sym, ap, _∙_, subst}
 use Prim.Native.Nat.{ℕ, _≤_, _<_}
-use mathlib.Core.Bool.{Bool, true, false}
+use mathlib.Core.Bool.{Bool, true, false, _&&_}
 use mathlib.Core.List.{List, [], _∷_, _++_, append-assoc}
 use lib.Dec.{ltb, leb}
 use Rattle.model.specs.Refusals.{Refusal, layout}
 use Rattle.model.specs.Reading.{Read, got, fault, Reader, next, need, num, numUpTo, numBelow}
 use Rattle.model.specs.Writing.{numBytes}
 use borrow.Author.Tests.{le-leb, lt-ltb, leb-true, ltb-true}
+use Rattle.laws.proofs.Tests.{and-both}
 use Rattle.codec_laws.specs.WellFormed.{Bytes}
 use Rattle.codec_laws.proofs.NumberTrip.{num-same, num-back, got-value, got-rest, fault≢got}
 
@@ -27,6 +28,16 @@ pub moved : {A : Type 0} (P : A → List ℕ → Type 0) (a b : A) (s t : List �
 moved P a b s t e p = subst (λ z. P z t) (got-value a b s t e) (subst (P a) (got-rest a b s t e) p)
 
 -- ---- s is w and then rest
+
+-- a list of bytes, by a test
+unfoldable pub allBytes : List ℕ → Bool
+allBytes [] = true
+allBytes (b ∷ l) = ltb b 256 && allBytes l
+
+pub all-bytes : (l : List ℕ) → allBytes l ≡ true → Bytes l
+unfolding allBytes
+all-bytes [] e = tt
+all-bytes (b ∷ l) e = let w = and-both (ltb b 256) (allBytes l) e in (ltb-true b 256 (w .0), all-bytes l (w .1))
 
 pub bytes-rest : (s t : List ℕ) → Bytes (s ++ t) → Bytes t
 bytes-rest [] t h = h

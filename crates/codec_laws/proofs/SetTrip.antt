@@ -26,7 +26,7 @@ use Rattle.laws.proofs.Members.{Asc, Small, asc-of, addAll, set-of-members, mem
 pub pow-mono : (k n : ℕ) → k < n → 2 ^ k < 2 ^ n
 pow-mono k n h = omega (arith, pow-le-pow-right {n = 2} (zero-lt-suc 1) h, pow-suc 2 k, pow-pos k)
 
-pub add-small : (k n : ℕ) (m : Scopes) → k ≤ n → m < 2 ^ n → add k m < 2 ^ n
+add-small : (k n : ℕ) (m : Scopes) → k ≤ n → m < 2 ^ n → add k m < 2 ^ n
 unfolding add only
 add-small zero n m h q = q
 add-small (suc k) n m h q = or-lt n (2 ^ k) m (pow-mono k n h) q

@@ -2,14 +2,11 @@
 use mathlib.Core.Path.{_≡_, refl, ap, _∙_}
 use Prim.Native.Nat.{ℕ, zero, suc, _<_}
 use native.Mathlib.Omega.{arith}
-use mathlib.Core.Bool.{Bool, true, _&&_}
 use mathlib.Core.List.{List, [], _∷_}
-use lib.Dec.{ltb}
 use lib.ListN.{length, replicate}
 use Rattle.model.specs.Jobs.{Result, expandJob}
-use borrow.Author.Tests.{ltb-true}
 use Rattle.codec_laws.specs.WellFormed.{Bytes}
-use Rattle.laws.proofs.Tests.{and-both}
+use Rattle.codec_laws.proofs.Sequence.{allBytes, all-bytes}
 use Rattle.addresses.specs.OneNameOneAddress.{imageWritten}
 use Rattle.proof_bench.specs.Contracts.{Words, Call, Expanding, MeetsExpand}
 use Rattle.proof_bench.proofs.Uniqueness.{one-result}
@@ -124,40 +121,25 @@ call image b h = record {
   output-length = omega arith;
 }
 
-below : (n : ℕ) → n < 128 → n < 256
-below n h = omega arith
-
--- a list of small numbers is one of bytes
-unfoldable small : List ℕ → Bool
-small [] = true
-small (n ∷ l) = ltb n 128 && small l
-
-small-bytes : (l : List ℕ) → small l ≡ true → Bytes l
-unfolding small
-small-bytes [] e = tt
-small-bytes (n ∷ l) e =
-    let w = and-both (ltb n 128) (small l) e in
-    (below n (ltb-true n 128 (w .0)), small-bytes l (w .1))
-
 pub seven-call : Call seven 0 32 words room
-unfolding seven small
-seven-call = call seven (small-bytes seven refl) (omega arith)
+unfolding seven allBytes
+seven-call = call seven (all-bytes seven refl) (omega arith)
 
 pub identity-call : Call identity 0 32 words room
-unfolding identity small
-identity-call = call identity (small-bytes identity refl) (omega arith)
+unfolding identity allBytes
+identity-call = call identity (all-bytes identity refl) (omega arith)
 
 pub applied-call : Call applied 0 32 words room
-unfolding applied small
-applied-call = call applied (small-bytes applied refl) (omega arith)
+unfolding applied allBytes
+applied-call = call applied (all-bytes applied refl) (omega arith)
 
 pub doubled-call : Call doubled 0 32 words room
-unfolding doubled small
-doubled-call = call doubled (small-bytes doubled refl) (omega arith)
+unfolding doubled allBytes
+doubled-call = call doubled (all-bytes doubled refl) (omega arith)
 
 pub nested-call : Call nested 0 32 words room
-unfolding nested small
-nested-call = call nested (small-bytes nested refl) (omega arith)
+unfolding nested allBytes
+nested-call = call nested (all-bytes nested refl) (omega arith)
 
 -- ---- a function that meets the contract
 

@@ -1,6 +1,6 @@
 -- A tree that is like another, each within its scopes, is that tree renumbered: no dropped scope is left in it.
 use mathlib.Core.Path.{_≡_, refl, sym, ap, ap₂, _∙_}
-use Prim.Native.Nat.{ℕ, zero, suc, _+_, _-_, _^_, _≤_, _<_}
+use Prim.Native.Nat.{ℕ, zero, suc, _+_, _^_, _≤_, _<_}
 use native.Mathlib.Omega.{arith}
 use mathlib.Core.Bool.{Bool, true, false, true≢false, false≢true}
 use lib.ListN.{length}
@@ -15,16 +15,11 @@ use Rattle.codec_laws.specs.WellFormed.{StxFits, StxsFit, TreeFits, TreesFit, V
 use Rattle.alike.proofs.Alike.{NewNumbers, SetAlike, SetsAlike, StxAlike, atoms, lists, StxsAlike, nils, conses, TreeAlike, vars, apps, funs, datums, lsts, stxs, TreesAlike, tnils, tconses}
 use Rattle.alike.specs.Renumbering.{renumberSet, renumberSets, renumberStx}
 use Rattle.alike.proofs.SetLaws.{set-one}
-use Rattle.alike.proofs.RenumberedSets.{most, small-of}
+use Rattle.alike.proofs.RenumberedSets.{most, small-of, sets-path}
 use Rattle.shrinking.specs.Shrunk.{rank}
 use Rattle.shrinking.specs.Finished.{renumberTree, renumberTrees}
 use Rattle.shrinking.proofs.Ranks.{has-zero, extension-out, ranked}
 use Rattle.shrinking.proofs.Within.{set-like}
-
--- three sets, each the same
-pub sets-path : (a b c d e f : Scopes) → a ≡ b → c ≡ d → e ≡ f
-    → _≡_ {A = Sets} (record { at0 = a; at1 = c; at2 = e }) (record { at0 = b; at1 = d; at2 = f })
-sets-path a b c d e f p q r = cc
 
 module _ (u : Scopes) (small : Small u) (n : ℕ) (few : n ≤ most) where
   abbrev ρ : NewNumbers

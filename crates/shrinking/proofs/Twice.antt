@@ -22,11 +22,10 @@ use Rattle.codec_laws.proofs.ImageLaws.{syntax-read-keeps-limits}
 use Rattle.alike.proofs.Alike.{NewNumbers, SetAlike, SetsAlike, BindAlike, StxAlike, atoms, lists, StxsAlike, nils, conses}
 use Rattle.alike.specs.Renumbering.{mapped, setOf, renumberSet, renumberSets, renumberStx, renumberBind}
 use Rattle.alike.proofs.SetLaws.{none-alike, or-alike, within-alike, set-one}
-use Rattle.alike.proofs.RenumberedSets.{most, small-of}
+use Rattle.alike.proofs.RenumberedSets.{most, small-of, sets-path}
 use Rattle.shrinking.specs.Shrunk.{contains, usedIn, usedInAny, kept, joined, scopesIn, scopesInAll, scopesBound, remaining, rankIn, rank, renumberEach, withScopes, shrunk, bytesOf, smaller}
 use Rattle.shrinking.proofs.Ranks.{rank-again, mapped-again, ranked}
 use Rattle.shrinking.proofs.Within.{mapped-length, set-like, members-new, in-all, Under, UnderAll, SetsUnder, BindUnder, BindsUnder}
-use Rattle.shrinking.proofs.Trees.{sets-path}
 use Rattle.shrinking.proofs.Kept.{kept-used, kept-all}
 use Rattle.shrinking.proofs.Readable.{few-scopes, small-u, under-root, binds-under, like-root, smaller-reads, shrunk-bytes}
 

@@ -1,0 +1,10 @@
+pub mod Values
+pub mod Meanings
+pub mod Shapes
+pub mod States
+pub mod EvaluateAlike
+pub mod ExpandAlike
+pub mod Renumbers
+pub mod Rules
+pub mod Numbering
+pub mod Samples
