@@ -10,3 +10,5 @@ pub mod Starts
 pub mod Recordings
 pub mod Division
 pub mod Report
+pub mod Uses
+pub mod Replacing

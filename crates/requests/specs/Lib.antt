@@ -11,3 +11,5 @@ pub mod FromText
 pub mod ToText
 pub mod TextJobs
 pub mod Report
+pub mod Uses
+pub mod Replacing
