@@ -40,7 +40,7 @@ use Rattle.image.proofs.Heads.{bytes-of, image-short, HeadHere, head-he
 
 -- ---- behind the head h
 
-abbrev imageOf : m.Head → Tree → Image Tree
+abbrev pub imageOf : m.Head → Tree → Image Tree
 imageOf h x = record { head = h; binds = []; root = x }
 
 rooted : (h : m.Head) (g : Read Tree) → next g (λ x t. next (atEnd t) (λ y w. got (imageOf h x) w)) ≡ kept (imageOf h) (next g (λ x t. next (atEnd t) (λ y w. got x w)))
@@ -75,12 +75,15 @@ owned-not s e o = rw (e, o)
 -- ---- the ways out
 
 module _ (s : List ℕ) (known : (i : ℕ) → Fits w8 (getD s i 0)) (short : length s ≤ 65536) {q : HeadRead} (a : q ≡ headAt (length s) (readHead 2 s)) where
-  pub head-stops : {f : Refusal} → q ≡ hd.Fault f → Judges treeKind s [] (judged.Fault f)
+  pub head-refused : {f : Refusal} → q ≡ hd.Fault f → readTreeImage s ≡ fault (refusalOf f)
   unfolding readTreeImage
-  head-stops {f} e = bad-image treeKind s [] (image-short readOwned s short ∙ owned-stops s (rw (head-fault 2 s a e)))
+  head-refused e = rw (head-fault 2 s a e)
+
+  pub head-stops : {f : Refusal} → q ≡ hd.Fault f → Judges treeKind s [] (judged.Fault f)
+  head-stops {f} e = bad-image treeKind s [] (image-short readOwned s short ∙ owned-stops s (head-refused e))
 
   module _ {h : Head} {c : Cursor} (e : q ≡ hd.Read h c) where
-    H : HeadHere 2 s h (c .at)
+    pub H : HeadHere 2 s h (c .at)
     H = head-here 2 s (bytes-of s known) a e
 
     few : H .head .names ≤ 1024
@@ -90,29 +93,32 @@ module _ (s : List ℕ) (known : (i : ℕ) → Fits w8 (getD s i 0)) (short : le
     unfolding readTreeImage
     from-head = ap (λ (g : Read m.Head). next g behind) (H .reads) ∙ root-is (H .head) (drop (c .at) s)
 
-    module _ {u : List ℕ} (i : u ≡ drop (c .at - 0) s) {n : Counts} (ne : n ≡ declares h) {x : TreeRead} (w : x ≡ treeAt (c .at + length u) (wholeTree n u)) where
-      measured : x ≡ treeAt (c .at + length (drop (c .at) s)) (wholeTree (countsOf (H .head)) (drop (c .at) s))
+    module _ {u : List ℕ} (i : u ≡ drop (c .at - 0) s) {n : Counts} (ne : n ≡ declares h) {x : TreeRead} (w : x ≡ treeAt (c .at + length u) (wholeTree n 64 0 u)) where
+      measured : x ≡ treeAt (c .at + length (drop (c .at) s)) (wholeTree (countsOf (H .head)) 64 0 (drop (c .at) s))
       measured =
-          w ∙ ap (λ (k : Counts). treeAt (c .at + length u) (wholeTree k u)) (ne ∙ (λ k. record { symbols = symbol-count H k; names = name-count H k; scopes = scope-count H k }))
-          ∙ ap (λ (v : List ℕ). treeAt (c .at + length v) (wholeTree (countsOf (H .head)) v)) (behind-head s (c .at) i)
+          w ∙ ap (λ (k : Counts). treeAt (c .at + length u) (wholeTree k 64 0 u)) (ne ∙ (λ k. record { symbols = symbol-count H k; names = name-count H k; scopes = scope-count H k }))
+          ∙ ap (λ (v : List ℕ). treeAt (c .at + length v) (wholeTree (countsOf (H .head)) 64 0 v)) (behind-head s (c .at) i)
+
+      pub root-refused : {f : Refusal} → x ≡ tree.Fault f → readTreeImage s ≡ fault (refusalOf f)
+      root-refused {f} d =
+          let g : thenEnd (readTree 64 (H .head) 0) (drop (c .at) s) ≡ fault (refusalOf f) = tree-refused (H .head) few 64 0 (c .at) (drop (c .at) s) measured d in
+          from-head ∙ ap (kept (imageOf (H .head))) g
 
       pub root-stops : {f : Refusal} → x ≡ tree.Fault f → Judges treeKind s [] (judged.Fault f)
-      root-stops {f} d =
-          let g : thenEnd (readTree 64 (H .head) 0) (drop (c .at) s) ≡ fault (refusalOf f) = tree-refused (H .head) few (c .at) (drop (c .at) s) measured d in
-          bad-image treeKind s [] (image-short readOwned s short ∙ owned-stops s (from-head ∙ ap (kept (imageOf (H .head))) g))
+      root-stops {f} d = bad-image treeKind s [] (image-short readOwned s short ∙ owned-stops s (root-refused d))
 
       module _ {y : Extent} {past : Cursor} (d : x ≡ tree.Read y past) where
         K : Kept (extentOf []) (thenEnd (readTree 64 (H .head) 0) (drop (c .at) s)) y (drop (past .at - c .at) (drop (c .at) s))
-        K = tree-read (H .head) few (c .at) (drop (c .at) s) measured d
+        K = tree-read (H .head) few 64 0 (c .at) (drop (c .at) s) measured d
 
-        root : Tree
+        pub root : Tree
         root = K .value
 
-        root-reads : readTree 64 (H .head) 0 (drop (c .at) s) ≡ got root []
+        pub root-reads : readTree 64 (H .head) 0 (drop (c .at) s) ≡ got root []
         unfolding root thenEnd
         root-reads = then-whole (readTree 64 (H .head) 0 (drop (c .at) s)) (K .value) (drop (past .at - c .at) (drop (c .at) s)) (K .is)
 
-        all-read : readTreeImage s ≡ got (imageOf (H .head) root) []
+        pub all-read : readTreeImage s ≡ got (imageOf (H .head) root) []
         unfolding thenEnd atEnd
         all-read =
             let g : thenEnd (readTree 64 (H .head) 0) (drop (c .at) s) ≡ got root [] = rw root-reads in

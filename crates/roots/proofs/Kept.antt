@@ -228,6 +228,6 @@ pub syntax-root-is : (h : m.Head) (s : List ℕ) → kept size (thenEnd (readStx
 unfolding wholeSyntax thenEnd
 syntax-root-is h s = then-end size (readStx 64 h s) (stx-is h 64 s)
 
-pub tree-root-is : (h : m.Head) (s : List ℕ) → h .names ≤ 1024 → kept (extentOf []) (thenEnd (readTree 64 h 0) s) ≡ wholeTree (countsOf h) s
+pub tree-root-is : (h : m.Head) (levels low : ℕ) (s : List ℕ) → h .names ≤ 1024 → kept (extentOf []) (thenEnd (readTree levels h low) s) ≡ wholeTree (countsOf h) levels low s
 unfolding wholeTree thenEnd
-tree-root-is h s l = then-end (extentOf []) (readTree 64 h 0 s) (tree-is h 64 0 noneAround [] (around-none l) s)
+tree-root-is h levels low s l = then-end (extentOf []) (readTree levels h low s) (tree-is h levels low noneAround [] (around-none l) s)

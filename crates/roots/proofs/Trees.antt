@@ -396,22 +396,22 @@ pub none-is : replicate 1024 0 ≡ noneAround
 unfolding noneAround
 none-is = refl
 
-module _ (at : ℕ) (k : Counts) (around s : List ℕ) (none : around ≡ noneAround) {r : TreeRead} (h : r ≡ treeAt (at + length s) (measureTree k 64 0 around s)) where
-  from-none : r ≡ treeAt (at + length s) (measureTree k 64 0 noneAround s)
-  from-none = h ∙ ap (λ (l : List ℕ). treeAt (at + length s) (measureTree k 64 0 l s)) none
+module _ (levels low at : ℕ) (k : Counts) (around s : List ℕ) (none : around ≡ noneAround) {r : TreeRead} (h : r ≡ treeAt (at + length s) (measureTree k levels low around s)) where
+  from-none : r ≡ treeAt (at + length s) (measureTree k levels low noneAround s)
+  from-none = h ∙ ap (λ (l : List ℕ). treeAt (at + length s) (measureTree k levels low l s)) none
 
-  pub whole-stops : {f : Refusal} → r ≡ Fault f → Fault f ≡ treeAt (at + length s) (wholeTree k s)
+  pub whole-stops : {f : Refusal} → r ≡ Fault f → Fault f ≡ treeAt (at + length s) (wholeTree k levels low s)
   unfolding wholeTree
-  whole-stops e = root-stops tree-shape at (measureTree k 64 0 noneAround) s (tree-tail k 64 0 noneAround s) from-none e
+  whole-stops e = root-stops tree-shape at (measureTree k levels low noneAround) s (tree-tail k levels low noneAround s) from-none e
 
   module _ {x : Extent} {past : Cursor} {u : List ℕ} (e : r ≡ Read x past) (i : u ≡ drop (past .at - at) s) where
-    pub whole-ends : length u ≡ 0 → Read x past ≡ treeAt (at + length s) (wholeTree k s)
+    pub whole-ends : length u ≡ 0 → Read x past ≡ treeAt (at + length s) (wholeTree k levels low s)
     unfolding wholeTree
-    whole-ends z = root-ends tree-shape at (measureTree k 64 0 noneAround) s (tree-tail k 64 0 noneAround s) from-none e i z
+    whole-ends z = root-ends tree-shape at (measureTree k levels low noneAround) s (tree-tail k levels low noneAround s) from-none e i z
 
-    pub whole-more : (length u ≡ 0 → ⊥) → Fault Layout ≡ treeAt (at + length s) (wholeTree k s)
+    pub whole-more : (length u ≡ 0 → ⊥) → Fault Layout ≡ treeAt (at + length s) (wholeTree k levels low s)
     unfolding wholeTree
-    whole-more z = root-more tree-shape at (measureTree k 64 0 noneAround) s (tree-tail k 64 0 noneAround s) from-none e i z
+    whole-more z = root-more tree-shape at (measureTree k levels low noneAround) s (tree-tail k levels low noneAround s) from-none e i z
 
 pub ruleset leaf-laws = (variable-stops, variable-read, name-inside, atom-stops, content-stops, atom-read, object-stops, object-read)
 

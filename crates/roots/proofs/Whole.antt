@@ -49,18 +49,18 @@ module _ (h : m.Head) (at : ℕ) (s : List ℕ) {r : Number} (a : r ≡ numberAt
       let T : Took at s (wholeSyntax (countsOf h) s) n (past .at) = took number-shape a e syntax-tail in
       kept-got size (thenEnd (readStx 64 h) s) n (drop (past .at - at) s) (syntax-root-is h s ∙ T .is)
 
--- ---- kind 2: the tree, of which the charge for loading and the test for code 3 are kept
+-- ---- a tree alone, of which the charge for loading and the test for code 3 are kept
 
-module _ (h : m.Head) (few : h .names ≤ 1024) (at : ℕ) (s : List ℕ) {r : TreeRead} (a : r ≡ treeAt (at + length s) (wholeTree (countsOf h) s)) where
-  pub tree-refused : {f : Refusal} → r ≡ Fault f → thenEnd (readTree 64 h 0) s ≡ fault (refusalOf f)
+module _ (h : m.Head) (few : h .names ≤ 1024) (levels low at : ℕ) (s : List ℕ) {r : TreeRead} (a : r ≡ treeAt (at + length s) (wholeTree (countsOf h) levels low s)) where
+  pub tree-refused : {f : Refusal} → r ≡ Fault f → thenEnd (readTree levels h low) s ≡ fault (refusalOf f)
   tree-refused {f} e =
-      kept-fault (extentOf []) (thenEnd (readTree 64 h 0) s) (refusalOf f) (tree-root-is h s few ∙ refused tree-shape (at + length s) (wholeTree (countsOf h) s) a e)
+      kept-fault (extentOf []) (thenEnd (readTree levels h low) s) (refusalOf f) (tree-root-is h levels low s few ∙ refused tree-shape (at + length s) (wholeTree (countsOf h) levels low s) a e)
 
-  whole-tail : Tail s (wholeTree (countsOf h) s)
+  whole-tail : Tail s (wholeTree (countsOf h) levels low s)
   unfolding wholeTree
-  whole-tail = root-tail (measureTree (countsOf h) 64 0 noneAround) s (tree-tail (countsOf h) 64 0 noneAround s)
+  whole-tail = root-tail (measureTree (countsOf h) levels low noneAround) s (tree-tail (countsOf h) levels low noneAround s)
 
-  pub tree-read : {x : Extent} {past : Cursor} → r ≡ Read x past → Kept (extentOf []) (thenEnd (readTree 64 h 0) s) x (drop (past .at - at) s)
+  pub tree-read : {x : Extent} {past : Cursor} → r ≡ Read x past → Kept (extentOf []) (thenEnd (readTree levels h low) s) x (drop (past .at - at) s)
   tree-read {x} {past} e =
-      let T : Took at s (wholeTree (countsOf h) s) x (past .at) = took tree-shape a e whole-tail in
-      kept-got (extentOf []) (thenEnd (readTree 64 h 0) s) x (drop (past .at - at) s) (tree-root-is h s few ∙ T .is)
+      let T : Took at s (wholeTree (countsOf h) levels low s) x (past .at) = took tree-shape a e whole-tail in
+      kept-got (extentOf []) (thenEnd (readTree levels h low) s) x (drop (past .at - at) s) (tree-root-is h levels low s few ∙ T .is)

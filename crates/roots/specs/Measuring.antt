@@ -117,5 +117,6 @@ wholeSyntax k = thenEnd (measureStx (k .symbols) (k .scopes) mostNesting)
 unfoldable pub noneAround : List ℕ
 noneAround = replicate mostNames 0
 
-unfoldable pub wholeTree : Counts → Reader Extent
-wholeTree k = thenEnd (measureTree k mostNesting 0 noneAround)
+-- with so many levels left and a tag of at least `low`: the root of an image, or a part alone
+unfoldable pub wholeTree : Counts → ℕ → ℕ → Reader Extent
+wholeTree k levels low = thenEnd (measureTree k levels low noneAround)

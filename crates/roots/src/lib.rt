@@ -262,13 +262,13 @@ pub fn measure_syntax_root(c: Cursor, s: &[u8], counts: Counts) -> Number
     }
 }
 
-// The root of an image of kind 2, behind which the image ends.
-pub fn measure_tree_root(c: Cursor, s: &[u8], counts: Counts) -> TreeRead
+// A tree behind which the bytes end, around which there is no function.
+pub fn measure_whole_tree(c: Cursor, s: &[u8], counts: Counts, levels: u32, low: u32) -> TreeRead
     requires { ⌜ (c .at + length (now s) ≤ mostImage) × (counts .scopes ≤ setScopes) × (counts .names ≤ mostNames) ⌝ }
-    ensures { λ r. ⌜ r ≡ treeAt (c .at + length (now (s .entry))) (wholeTree counts (now (s .entry))) ⌝ }
+    ensures { λ r. ⌜ r ≡ treeAt (c .at + length (now (s .entry))) (wholeTree counts levels low (now (s .entry))) ⌝ }
 {
     let mut around = [0u8; Name::MOST as usize];
-    match measure_tree(c, s, &mut around, counts, Cursor::MOST_NESTING, 0) {
+    match measure_tree(c, s, &mut around, counts, levels, low) {
         TreeRead::Read(e, past) => {
             let rest = c.after(s, past);
             if rest.len() == 0 {
@@ -278,4 +278,12 @@ pub fn measure_tree_root(c: Cursor, s: &[u8], counts: Counts) -> TreeRead
         }
         TreeRead::Fault(f) => TreeRead::Fault(f),
     }
+}
+
+// The root of an image of kind 2, behind which the image ends.
+pub fn measure_tree_root(c: Cursor, s: &[u8], counts: Counts) -> TreeRead
+    requires { ⌜ (c .at + length (now s) ≤ mostImage) × (counts .scopes ≤ setScopes) × (counts .names ≤ mostNames) ⌝ }
+    ensures { λ r. ⌜ r ≡ treeAt (c .at + length (now (s .entry))) (wholeTree counts 64 0 (now (s .entry))) ⌝ }
+{
+    measure_whole_tree(c, s, counts, Cursor::MOST_NESTING, 0)
 }

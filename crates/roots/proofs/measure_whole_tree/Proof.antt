@@ -2,8 +2,8 @@ use Rattle.roots.proofs.Trees.{tree-laws}
 use Rattle.numbers.proofs.Answering.{answering}
 use Rattle.roots.proofs.Trees.{root-laws}
 use borrow.Author.Needs.{needs}
-use Rattle.roots.proofs.measure_tree_root.Statement.{statement}
-use Rattle.roots.proofs.measure_tree_root.Tie as tie
+use Rattle.roots.proofs.measure_whole_tree.Statement.{statement}
+use Rattle.roots.proofs.measure_whole_tree.Tie as tie
 
 slice-aggregate-measure-tree : tie.Need-slice-aggregate-measure-tree
 slice-aggregate-measure-tree c = search (root-laws, answering, tree-laws, needs)
@@ -29,8 +29,8 @@ returns-2 c = search (root-laws, answering, tree-laws, needs)
 returns-3 : tie.Need-returns-3
 returns-3 c = search (root-laws, answering, tree-laws, needs)
 
-pub measure-tree-root-spec : {M : Type 1} → statement M
-measure-tree-root-spec =
+pub measure-whole-tree-spec : {M : Type 1} → statement M
+measure-whole-tree-spec =
     tie.close
     (tie.spec
     slice-aggregate-measure-tree
