@@ -1,0 +1,4 @@
+pub mod LocateLaws
+pub mod UpdateLaws
+pub mod BringLaws
+pub mod ReplaceLaws

@@ -1,0 +1,3 @@
+pub mod Locating
+pub mod Updating
+pub mod Replacing
