@@ -4,3 +4,4 @@ pub mod PanelAnswers
 pub mod ScanAnswers
 pub mod ShrinkAnswers
 pub mod TextAnswers
+pub mod UsesAnswers

@@ -3,3 +3,4 @@ pub mod Panels
 pub mod Scans
 pub mod Shrinks
 pub mod Texts
+pub mod UsesJobs

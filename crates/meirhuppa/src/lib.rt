@@ -9,3 +9,4 @@ pub mod resolve;
 pub mod scan;
 pub mod shrink;
 pub mod text_jobs;
+pub mod uses_jobs;
