@@ -19,14 +19,20 @@ Notation for trees:
     `(a b){1}             syntax value
 
 Notation for recordings: a text for each scan, as "@1=1 @12=0", or "" where nothing changes.
+
+A summary is its size, its count of names and {name: (count, first place)} for the names that are used.
 """
 import collections
 
 CORE = ["lambda", "let-syntax", "quote", "syntax"]
 PRIMITIVES = ["stx-e", "mk-stx", "first", "rest", "link", "same", "pick"]
 RUNG_WORDS = ["and", "or", "not", "out", "set", "all"]
-JOBS = ["resolve", "expand", "parse", "evaluate", "panel", "scan", "read", "print", "", "", "", "shrink"]  # 8 to 10 are not there yet
-UNBUDGETED = JOBS[4:]  # take neither phase, budget nor table
+JOBS = ["resolve", "expand", "parse", "evaluate", "panel", "scan", "read", "print", "summary", "uses", "replace", "shrink"]
+UNBUDGETED = JOBS[4:]  # take neither budget nor table, nor a phase
+# Jobs of the second program that the library's program replay does not have yet: it cuts a stream there.
+NOT_IN_REPLAY = ["summary", "uses", "replace"]
+# What stands behind the image of a call, by job; the field phase is the name for uses, the place for replace.
+BEHIND = {"scan": ["recording"], "uses": ["summary"], "replace": ["summary", "part"]}
 SYMBOL, NUMBER, POINT, PRIMITIVE, RUNG_WORD, LIST = range(6)
 VARIABLE, APPLICATION, FUNCTION, ATOM, LIST_VALUE, SYNTAX_VALUE = range(6)
 TABLE_WORDS_PER_UNIT = 40
@@ -197,9 +203,28 @@ def tree_image(text, words=(), made=0, scopes=0):
     return head(2, known.words, made, scopes) + root
 
 
+def tree_part(text, words=()):
+    """A part as it stands in an image with these words, without head."""
+    known = Words(words)
+    reader = Text(text, known)
+    made = reader.whole(reader.tree)
+    assert len(known.words) == len(words), "a part brings no new word"
+    return made
+
+
+def in_words(numbers):
+    """Words of four bytes each, low byte first."""
+    return b"".join(number.to_bytes(4, "little") for number in numbers)
+
+
 def bits(names):
-    """What the panel check writes: the names of the bits, four bytes each, low byte first."""
-    return b"".join(name.to_bytes(4, "little") for name in names)
+    """What the panel check writes: the names of the bits."""
+    return in_words(names)
+
+
+def summary(size, names, used):
+    """A summary as bytes; used is {name: (count, first place)}, and a name that is not there is not used."""
+    return in_words([size, names, *(word for name in range(names) for word in used.get(name, (0, 0)))])
 
 
 def scan_changes(text):
@@ -216,23 +241,34 @@ def recording(scans):
     return out
 
 
-# A call of the stream; the recording is empty but for the job scan, whose number is SCAN. The image is the
-# text for the job read, whose number is READ.
-Call = collections.namedtuple("Call", "job phase budget table output image recording")
-SCAN, READ = JOBS.index("scan"), JOBS.index("read")
+# A call of the stream; recording, summary and part are empty but for the jobs that have them BEHIND the image.
+# The image is the text for the job read, whose number is READ.
+Call = collections.namedtuple("Call", "job phase budget table output image recording summary part", defaults=(b"", b"", b""))
+READ = JOBS.index("read")
+
+
+def inputs_of(call):
+    """The inputs of a call by name, the image first; of the job read that is its text."""
+    names = BEHIND.get(JOBS[call.job], [])
+    return {"text" if call.job == READ else "image": call.image} | {name: getattr(call, name) for name in names}
+
+
+def columns(job):
+    """How many columns the line of a job has."""
+    return 9 if JOBS[job] == "replace" else 8
 
 
 def call_bytes(call, number=number):
     """A call as it stands in a stream, its numbers written by number."""
-    out = b"".join(number(n) for n in (*call[:5], len(call.image))) + call.image
-    return out + number(len(call.recording)) + call.recording if call.job == SCAN else out
+    inputs = (number(len(given)) + given for given in inputs_of(call).values())
+    return b"".join(map(number, call[:5])) + b"".join(inputs)
 
 
-def call(job, image, phase=0, budget=1024, table=None, output=65536, recording=b""):
+def call(job, image, phase=0, budget=1024, table=None, output=65536, **behind):
     """A call of the stream. The table is just large enough unless given."""
     if table is None:
         table = min(TABLE_WORDS_PER_UNIT * budget, LARGEST_TABLE)
-    return call_bytes(Call(JOBS.index(job), phase, budget, table, output, image, recording))
+    return call_bytes(Call(JOBS.index(job), phase, budget, table, output, image, **behind))
 
 
 def calls_of(stream):
@@ -259,7 +295,7 @@ def calls_of(stream):
     while place < end:
         numbers = [next_number() for _ in range(5)]
         image = next_bytes()
-        yield Call(*numbers, image, next_bytes() if numbers[0] == SCAN else b"")
+        yield Call(*numbers, image, **{name: next_bytes() for name in BEHIND.get(JOBS[numbers[0]], [])})
 
 
 # ---- reading, for people: damage is shown, not judged ----
@@ -372,28 +408,48 @@ class Shower:
             yield f"at byte {self.place}: {damage}"
 
 
-def show_bits(written):
-    """What the panel check wrote, as a line."""
-    names = (int.from_bytes(written[i:i + 4], "little") for i in range(0, len(written), 4))
-    return "bits " + " ".join(map(str, names))
+def words_of(written):
+    """The whole words that bytes have."""
+    return [int.from_bytes(written[i:i + 4], "little") for i in range(0, len(written) - 3, 4)]
+
+
+def show_words(title, written):
+    """What is in whole words, as a line."""
+    return [" ".join([title, *map(str, words_of(written))])]
+
+
+def show_summary(given):
+    """A summary as a line: its size, its names, and count and first place of each name that has any; what is left over behind them."""
+    words = words_of(given)
+    size, names = words[:2] if len(words) > 1 else (0, 0)
+    last = min(2 + 2 * names, len(words) // 2 * 2)
+    used = (f" ${name}: {words[2 + 2 * name]} from {words[3 + 2 * name]}," for name in range((last - 2) // 2)
+            if any(words[2 + 2 * name:4 + 2 * name]))
+    return [f"summary of size {size} with {names} names:{''.join(used)} then {given[4 * last:].hex() or 'nothing'}"]
+
+
+def show_part(part):
+    """A part readably, as lines; its symbols are shown by number."""
+    shower = Shower(part)
+    try:
+        return [f"part {shower.tree()}" + (f" left over: {part[shower.place:].hex()}" if shower.place < len(part) else "")]
+    except Damage as damage:
+        return [f"at byte {shower.place}: {damage}"]
 
 
 def show_written(job, written):
     """What a job, given by its name, wrote, as lines."""
     if job in ("scan", "print"):
         return show_text(written)
-    return [show_bits(written)] if job == "panel" else show(written)
+    if job == "summary":
+        return show_summary(written)
+    return show_words("bits" if job == "panel" else "uses", written) if job in ("panel", "uses") else show(written)
 
 
 def show_text(text):
     """A text as lines, bytes that cannot be seen as \\x7f."""
     shown = "".join(chr(b) if 32 <= b < 127 or b == 10 else f"\\x{b:02x}" for b in text)
     return shown.split("\n")
-
-
-def show_given(call):
-    """The image of a call, or its text, as lines."""
-    return show_text(call.image) if call.job == READ else show(call.image)
 
 
 class RecordingShower(Shower):
@@ -423,3 +479,11 @@ def show(image):
     import sys
     sys.setrecursionlimit(max(sys.getrecursionlimit(), 400000))
     return list(Shower(image).lines())
+
+
+SHOWERS = {"image": show, "text": show_text, "recording": show_recording, "summary": show_summary, "part": show_part}
+
+
+def show_inputs(call):
+    """What a call is given: for each input its name, its bytes and its lines."""
+    return [(name, given, SHOWERS[name](given)) for name, given in inputs_of(call).items()]

@@ -4,7 +4,7 @@
 
    Each call is first answered with all the budget and output there is. The
    calls then hand out budgets, tables and outputs around what it needed.
-   --small keeps images and recordings shorter than so many bytes, and nearly
+   --small keeps images, recordings and parts shorter than so many bytes, and nearly
    all budgets to 200 at most. */
 #include <stdlib.h>
 #include <string.h>
@@ -80,16 +80,17 @@ static uint32_t choose_output(uint32_t need)
     return LONGEST_IMAGE + below(3) - 1;
 }
 
-/* Phase, budget and table of a job that takes none. */
+/* Phase, budget and table of a job that takes none. In its place some have a name or a place. */
 static void choose_unused(Call *call)
 {
-    call->phase = percent(95) ? below(5) : (uint32_t)next_chance();
+    if (!takes_summary(call->job))
+        call->phase = percent(95) ? below(5) : (uint32_t)next_chance();
     call->budget = percent(95) ? below(4) : (uint32_t)next_chance();
     call->table_words = percent(95) ? below(90) : below(LARGEST_STREAM_TABLE + 1);
 }
 
-/* The output of the panel check is words. */
-static uint32_t choose_panel_output(uint32_t need)
+/* The output of the panel check and of a summary is words. */
+static uint32_t choose_words_output(uint32_t need)
 {
     uint32_t choice = below(100);
     if (choice < 30)
@@ -100,7 +101,7 @@ static uint32_t choose_panel_output(uint32_t need)
         return need - between(1, 4);
     if (choice < 68)
         return below(need + 1);
-    return choice < 98 ? MOST_BITS * BYTES_PER_BIT : LONGEST_IMAGE;
+    return choice < 98 ? MOST_BITS * BYTES_PER_WORD : LONGEST_IMAGE;
 }
 
 /* Lines may be longer than an image. */
@@ -132,13 +133,36 @@ static void add_recording(Call *call)
     call->recording_length = recorded.length;
 }
 
+/* A name or a place, a summary and a part. Where the image is no tree, they are
+   those of an image before it. */
+static void add_summary(Call *call)
+{
+    static Draft summary, part;
+    static Image image;
+    clear_memory(memory);
+    if (read_image(memory, call->image, call->image_length, TREE_IMAGE, &image) == SUCCESS) {
+        call->phase = call->job == JOB_USES ? draft_name(&image) : draft_place(&image);
+        draft_summary(&image, &summary);
+        draft_part(memory, &image, call->phase, &part);
+    }
+    call->summary = summary.bytes;
+    call->summary_length = summary.length;
+    call->part = part.bytes;
+    call->part_length = part.length;
+}
+
+static uint32_t choose_unbudgeted_output(Job job, uint32_t need)
+{
+    if (job == JOB_PANEL || job == JOB_SUMMARY)
+        return choose_words_output(need);
+    return job == JOB_SCAN ? choose_lines_output(need) : choose_output(need);
+}
+
 static void choose_sizes(Call *call, const Answer *answer)
 {
     if (is_unbudgeted(call->job)) {
         choose_unused(call);
-        call->output_length = call->job == JOB_PANEL  ? choose_panel_output(answer->length)
-                              : call->job == JOB_SCAN ? choose_lines_output(answer->length)
-                                                      : choose_output(answer->length);
+        call->output_length = choose_unbudgeted_output(call->job, answer->length);
     } else {
         call->budget = choose_budget(answer->units);
         call->table_words = choose_table(call->budget);
@@ -149,7 +173,8 @@ static void choose_sizes(Call *call, const Answer *answer)
 /* Whether a call is within what --small asks for. */
 static bool is_small_enough(const Call *call, const Answer *answer)
 {
-    if (call->image_length >= small || call->recording_length >= small || answer->length > 200)
+    if (call->image_length >= small || call->recording_length >= small || call->part_length >= small ||
+        call->summary_length > 200 || answer->length > 200)
         return false;
     return (call->budget <= 200 || percent(5)) && call->budget <= 5000;
 }
@@ -166,6 +191,8 @@ static void emit(Job job, const Draft *draft, Answer *answer)
                  .image_length = draft->length};
     if (job == JOB_SCAN)
         add_recording(&call);
+    if (takes_summary(job))
+        add_summary(&call);
     answer_call(memory, &call, answer);
     if (wanted == 0)
         return;
@@ -176,16 +203,10 @@ static void emit(Job job, const Draft *draft, Answer *answer)
     wanted--;
 }
 
-static Job any_job(void)
-{
-    uint32_t job = below(JOBS);
-    return is_job(job) ? (Job)job : JOB_SHRINK;
-}
-
 static Job choose_job(uint32_t kind)
 {
     if (percent(2))
-        return any_job();
+        return (Job)below(JOBS);
     if (kind == TREE_IMAGE)
         return percent(95) ? JOB_EVALUATE : percent(50) ? JOB_PANEL : JOB_SCAN;
     uint32_t choice = below(10);
@@ -201,6 +222,9 @@ static void make_draft(Draft *draft, Job *job)
     } else if (percent(8)) {
         draft_finished(memory, draft);
         *job = percent(90) ? JOB_SHRINK : choose_job(draft->kind);
+    } else if (percent(9)) {
+        draft_contacts(memory, draft);
+        *job = percent(65) ? JOB_REPLACE : percent(60) ? JOB_USES : percent(80) ? JOB_SUMMARY : choose_job(draft->kind);
     } else if (percent(6)) {
         *job = (Job[]){JOB_RESOLVE, JOB_EXPAND, JOB_PARSE}[below(3)];
         draft_rivals(memory, *job, draft);
@@ -241,7 +265,8 @@ static bool take_result(Draft *draft, const Answer *answer, uint32_t kind)
 }
 
 /* Calls on what the last answer wrote: a text is read and printed, a program
-   is expanded, made smaller or not, parsed and checked or evaluated in turn. */
+   is expanded, made smaller or not, parsed and checked or evaluated in turn, a part is
+   replaced after another. */
 static void go_on(Job job, Draft *draft, Answer *answer)
 {
     if (job == JOB_READ && percent(50) && take_result(draft, answer, SYNTAX_IMAGE)) {
@@ -262,7 +287,9 @@ static void go_on(Job job, Draft *draft, Answer *answer)
         if (take_result(draft, answer, SYNTAX_IMAGE))
             emit(JOB_PARSE, draft, answer);
         if (percent(40) && take_result(draft, answer, TREE_IMAGE))
-            emit(percent(60) ? JOB_PANEL : JOB_SCAN, draft, answer);
+            emit((Job[]){JOB_PANEL, JOB_PANEL, JOB_SCAN, JOB_SUMMARY, JOB_REPLACE}[below(5)], draft, answer);
+    } else if (job == JOB_REPLACE && percent(50) && take_result(draft, answer, TREE_IMAGE)) {
+        emit(percent(50) ? JOB_REPLACE : percent(50) ? JOB_USES : JOB_SUMMARY, draft, answer);
     } else if (job == JOB_PARSE && percent(50) && take_result(draft, answer, TREE_IMAGE)) {
         emit(percent(75) ? JOB_EVALUATE : JOB_PANEL, draft, answer);
     } else if (job == JOB_EVALUATE && percent(5) && take_result(draft, answer, TREE_IMAGE)) {

@@ -28,6 +28,15 @@ void draft_ladder(Memory *memory, Draft *draft); /* a panel program for scans, a
 /* A recording for a program that drives these points; a small one is short. */
 void draft_recording(const bool driven_points[], bool is_small, Draft *draft);
 
+/* A tree full of variables, to be asked where they are; and what goes with an image
+   that has a tree: its summary, a name, a place, and a part for that place. */
+void draft_contacts(Memory *memory, Draft *draft);
+void draft_summary(const Image *image, Draft *draft);
+void put_summary(const Summary *summary, uint32_t names, Draft *draft); /* as it is, with entries for so many names */
+uint32_t draft_name(const Image *image);
+uint32_t draft_place(const Image *image);
+void draft_part(Memory *memory, const Image *image, uint32_t place, Draft *draft); /* memory is kept */
+
 /* A text, most often of one object and now and then damaged. */
 void draft_text(bool is_small, Draft *draft);
 

@@ -38,9 +38,17 @@ typedef struct {
 Code read_image(Memory *memory, const uint8_t *bytes, size_t length, uint32_t wanted_kind,
                 Image *image);
 
+/* Reads a part as it would be read in an image with these counts, at a level,
+   and in a list value where only_values is set. Its bytes have no head. */
+Code read_part(Memory *memory, const uint8_t *bytes, size_t length, Image *counts, uint32_t level,
+               bool only_values, const Tree **part);
+
 /* Writes the image to at most room bytes, which may be half written when there
    is no room: then the answer is false. */
 bool write_image(const Image *image, uint8_t *bytes, size_t room, size_t *length);
+
+/* The same for a part, which has no head. */
+bool write_part(const Tree *part, uint8_t *bytes, size_t room, size_t *length);
 
 /* Negative, zero or positive: by symbol and then set. */
 int compare_bindings(const Binding *left, const Binding *right);

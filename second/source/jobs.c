@@ -98,17 +98,28 @@ static void do_job(Work *work, const Call *call, Answer *answer)
         refuse(work, TOO_LONG);
 }
 
-/* The names of the bits by address, four bytes each, low byte first. */
+/* A word of the output: four bytes, low byte first. */
+static void put_word(Answer *answer, uint32_t word)
+{
+    for (int byte = 0; byte < BYTES_PER_WORD; byte++)
+        answer->output[answer->length++] = (uint8_t)(word >> (8 * byte));
+}
+
+/* The names of the bits by address. */
 static void write_bits(const Panel *panel, Answer *answer)
 {
     for (uint32_t i = 0; i < panel->bit_count; i++)
-        for (int byte = 0; byte < BYTES_PER_BIT; byte++)
-            answer->output[answer->length++] = (uint8_t)(panel->names[i] >> (8 * byte));
+        put_word(answer, panel->names[i]);
+}
+
+static Code read_tree_image(Memory *memory, const Call *call, Image *image)
+{
+    return read_image(memory, call->image, call->image_length, TREE_IMAGE, image);
 }
 
 Code load_panel(Memory *memory, const Call *call, Image *image, Panel *panel)
 {
-    Code code = read_image(memory, call->image, call->image_length, TREE_IMAGE, image);
+    Code code = read_tree_image(memory, call, image);
     if (code != SUCCESS)
         return code;
     if (!is_closed(image->tree, NULL))
@@ -122,7 +133,7 @@ static void answer_panel(Memory *memory, const Call *call, Image *image, Answer 
     answer->code = load_panel(memory, call, image, &panel);
     if (answer->code != SUCCESS)
         return;
-    uint32_t room = call->output_length / BYTES_PER_BIT; /* whole words */
+    uint32_t room = call->output_length / BYTES_PER_WORD; /* whole words */
     if (panel.bit_count > room)
         answer->code = TOO_LONG;
     else
@@ -192,6 +203,71 @@ static void answer_print(Memory *memory, const Call *call, Image *image, Answer 
         answer->code = TOO_LONG;
 }
 
+/* A question to a summary reads one entry. */
+static void put_uses(Answer *answer, Uses uses)
+{
+    put_word(answer, uses.count);
+    put_word(answer, uses.first);
+}
+
+static void answer_summary(Memory *memory, const Call *call, Image *image, Answer *answer)
+{
+    static Summary summary;
+    answer->code = read_tree_image(memory, call, image);
+    if (answer->code != SUCCESS)
+        return;
+    if (summary_words(image->names) > call->output_length / BYTES_PER_WORD) {
+        answer->code = TOO_LONG;
+        return;
+    }
+    summarize(image->tree, image->names, &summary);
+    put_word(answer, summary.size);
+    put_word(answer, summary.names);
+    for (uint32_t name = 0; name < summary.names; name++)
+        put_uses(answer, summary.uses[name]);
+}
+
+static Code load_summary(Memory *memory, const Call *call, Image *image, Summary *summary)
+{
+    Code code = read_tree_image(memory, call, image);
+    if (code != SUCCESS)
+        return code;
+    return read_summary(call->summary, call->summary_length, image, summary) ? SUCCESS : ANOTHER_SUMMARY;
+}
+
+static void answer_uses(Memory *memory, const Call *call, Image *image, Answer *answer)
+{
+    static Summary summary;
+    uint32_t name = call->phase;
+    answer->code = load_summary(memory, call, image, &summary);
+    if (answer->code != SUCCESS)
+        return;
+    if (name < summary.names)
+        put_uses(answer, summary.uses[name]);
+    else
+        answer->code = NO_SUCH_NAME;
+}
+
+static void answer_replace(Memory *memory, const Call *call, Image *image, Answer *answer)
+{
+    const Tree *new;
+    Part old;
+    answer->code = load_summary(memory, call, image, &answer->summary);
+    if (answer->code != SUCCESS)
+        return;
+    if (!find_part(image->tree, call->phase, &old)) {
+        answer->code = ANOTHER_SUMMARY;
+        return;
+    }
+    answer->code = read_part(memory, call->part, call->part_length, image, old.level, old.only_values, &new);
+    if (answer->code != SUCCESS)
+        return;
+    replace_in_summary(&answer->summary, image->tree, &old, new);
+    image->tree = with_part(memory, image->tree, old.tree, new);
+    if (!write_result(call, image, answer))
+        answer->code = TOO_LONG;
+}
+
 static void answer_shrink(Memory *memory, const Call *call, Image *image, Answer *answer)
 {
     answer->code = read_image(memory, call->image, call->image_length, SYNTAX_IMAGE, image);
@@ -202,7 +278,7 @@ static void answer_shrink(Memory *memory, const Call *call, Image *image, Answer
         answer->code = TOO_LONG;
 }
 
-/* A job that takes neither phase, budget nor table. */
+/* A job that takes neither budget nor table, nor a phase. */
 static void answer_unbudgeted(Memory *memory, const Call *call, Image *image, Answer *answer)
 {
     switch (call->job) {
@@ -214,6 +290,15 @@ static void answer_unbudgeted(Memory *memory, const Call *call, Image *image, An
         break;
     case JOB_READ:
         answer_read(memory, call, image, answer);
+        break;
+    case JOB_SUMMARY:
+        answer_summary(memory, call, image, answer);
+        break;
+    case JOB_USES:
+        answer_uses(memory, call, image, answer);
+        break;
+    case JOB_REPLACE:
+        answer_replace(memory, call, image, answer);
         break;
     case JOB_SHRINK:
         answer_shrink(memory, call, image, answer);

@@ -7,6 +7,7 @@
 
 #include "image.h"
 #include "scans.h"
+#include "uses.h"
 
 typedef enum {
     JOB_RESOLVE,
@@ -17,7 +18,10 @@ typedef enum {
     JOB_SCAN,
     JOB_READ,
     JOB_PRINT,
-    JOB_SHRINK = 11, /* 8 to 10 are not there yet */
+    JOB_SUMMARY,
+    JOB_USES,
+    JOB_REPLACE,
+    JOB_SHRINK,
     JOBS
 } Job;
 
@@ -26,14 +30,18 @@ enum { LONGEST_OUTPUT = 70000 };
 
 typedef struct {
     Job job;
-    uint32_t phase; /* used by resolve and expand */
-    uint32_t budget; /* not used by panel and those behind it, nor is the table */
+    uint32_t phase; /* used by resolve and expand; the name for uses, the place for replace */
+    uint32_t budget; /* used by the jobs up to evaluate, as is the table */
     uint32_t table_words;
-    uint32_t output_length; /* not used by resolve */
+    uint32_t output_length; /* not used by resolve and uses */
     const uint8_t *image; /* or the text, for read */
     size_t image_length;
     const uint8_t *recording; /* used by scan */
     size_t recording_length;
+    const uint8_t *summary; /* used by uses and replace */
+    size_t summary_length;
+    const uint8_t *part; /* used by replace */
+    size_t part_length;
 } Call;
 
 typedef struct {
@@ -43,17 +51,19 @@ typedef struct {
     uint32_t length;
     uint32_t first, second; /* with code 6: the places of two bindings that compete */
     uint8_t output[LONGEST_OUTPUT]; /* the first length bytes are written */
+    Summary summary; /* after a replacement */
 } Answer;
 
-static inline bool is_job(uint32_t number)
-{
-    return number <= JOB_PRINT || number == JOB_SHRINK;
-}
-
-/* Whether the job takes neither phase, budget nor table. */
+/* Whether the job takes neither budget nor table, nor a phase. */
 static inline bool is_unbudgeted(Job job)
 {
     return job >= JOB_PANEL;
+}
+
+/* Whether a summary is lent to the job. */
+static inline bool takes_summary(Job job)
+{
+    return job == JOB_USES || job == JOB_REPLACE;
 }
 
 /* Reads a tree image and checks it against the profile: every refusal of the

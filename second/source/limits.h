@@ -1,5 +1,5 @@
-/* The limits and codes of document 01 as requests T-01, T-02, T-05, T-07 and T-09
-   amend it, each with its number. */
+/* The limits and codes of document 01 as requests T-01, T-02, T-05, T-07, T-09 and
+   T-10 amend it, each with its number. */
 #ifndef LIMITS_H
 #define LIMITS_H
 
@@ -20,6 +20,7 @@ enum {
     PHASES = 3,
     MOST_BITS = 256, /* of a panel program */
     TABLE_WORDS_PER_UNIT = 40,
+    BYTES_PER_WORD = 4,
     /* Sizes are kept up to here: a larger charge is refused whatever it is. */
     SIZE_CAP = MOST_BUDGET + 1
 };
@@ -59,7 +60,9 @@ typedef enum {
     BAD_RECORDING = 24,
     CHANGES_DRIVEN = 25,
     BAD_TEXT = 26,
-    UNBALANCED = 27
+    UNBALANCED = 27,
+    ANOTHER_SUMMARY = 29,
+    NO_SUCH_NAME = 30
 } Code;
 
 #endif

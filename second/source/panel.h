@@ -8,7 +8,7 @@
 
 #include "pieces.h"
 
-enum { BYTES_PER_BIT = 4, POINTS = LARGEST_POINT + 1 };
+enum { POINTS = LARGEST_POINT + 1 };
 
 typedef struct {
     uint32_t bit_count;        /* all functions, also those over MOST_BITS */

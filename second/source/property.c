@@ -98,9 +98,9 @@ static const char *wrong_tree(const uint8_t *bytes, size_t length, uint32_t name
 /* Where the panel check takes a tree: whether two of its bits have one name. */
 static bool shares_names(const Answer *panel)
 {
-    for (uint32_t i = 0; i < panel->length; i += BYTES_PER_BIT)
-        for (uint32_t j = 0; j < i; j += BYTES_PER_BIT)
-            if (memcmp(panel->output + i, panel->output + j, BYTES_PER_BIT) == 0)
+    for (uint32_t i = 0; i < panel->length; i += BYTES_PER_WORD)
+        for (uint32_t j = 0; j < i; j += BYTES_PER_WORD)
+            if (memcmp(panel->output + i, panel->output + j, BYTES_PER_WORD) == 0)
                 return true;
     return false;
 }

@@ -297,6 +297,14 @@ static const Tree *read_tree(Reader *reader, uint32_t level, bool only_values)
 
 /* ---- the whole ---- */
 
+/* The fault of what was read, or that bytes are left over. */
+static Code whole(const Reader *reader)
+{
+    if (reader->fault != SUCCESS)
+        return reader->fault;
+    return reader->place == reader->length ? SUCCESS : BAD_LAYOUT;
+}
+
 Code read_image(Memory *memory, const uint8_t *bytes, size_t length, uint32_t wanted_kind,
                 Image *image)
 {
@@ -322,7 +330,16 @@ Code read_image(Memory *memory, const uint8_t *bytes, size_t length, uint32_t wa
     } else {
         image->tree = read_tree(&reader, 1, false);
     }
-    if (reader.fault != SUCCESS)
-        return reader.fault;
-    return reader.place == length ? SUCCESS : BAD_LAYOUT;
+    return whole(&reader);
+}
+
+Code read_part(Memory *memory, const uint8_t *bytes, size_t length, Image *counts, uint32_t level,
+               bool only_values, const Tree **part)
+{
+    Reader reader = {
+        .bytes = bytes, .length = length, .fault = SUCCESS, .memory = memory, .image = counts};
+    if (length > LONGEST_IMAGE)
+        return OVER_LIMIT;
+    *part = read_tree(&reader, level, only_values);
+    return whole(&reader);
 }

@@ -131,3 +131,11 @@ bool write_image(const Image *image, uint8_t *bytes, size_t room, size_t *length
     *length = writer.length;
     return true;
 }
+
+bool write_part(const Tree *part, uint8_t *bytes, size_t room, size_t *length)
+{
+    Writer writer = {.bytes = bytes, .room = room};
+    bool fits = write_tree(&writer, part);
+    *length = writer.length;
+    return fits;
+}
