@@ -9,46 +9,58 @@ import edge_cases
 import image
 
 
+def wrong_numbers(fields, code, units, name, rivals, column):
+    """What is wrong in the columns before the output."""
+    got_code, got_units, got_name = map(int, fields[:3])
+    got_rivals = int(fields[4]), int(fields[5])
+    for what, got, wanted in (("code", got_code, code), ("units", got_units, units), ("name", got_name, name),
+                              ("bindings", got_rivals, rivals), ("table", fields[6], column)):
+        if wanted is not edge_cases.UNKNOWN and got != wanted:
+            yield f"{what} {got}, expected {wanted}"
+
+
+def wrong_bytes(show, got, wanted):
+    """What is wrong in a column of bytes."""
+    if got != (wanted.hex() or "-"):
+        shown = show(bytes.fromhex(got.rstrip("!-")))[-1]
+        yield f"wrote {shown[:300]}, expected {show(wanted)[-1][:300]}"
+
+
+def wrong_output(fields, job, code, result):
+    """What is wrong in what was written. A replacement writes its image and, in a column of its own, its summary."""
+    writes = code == 0 and job != "resolve"
+    if not writes and (fields[3] != "0" or set(fields[7:]) != {"-"}):
+        yield f"wrote {' '.join(fields[7:])[:80]}"
+    if writes and result is None:
+        yield "the case settles no result"
+    if not writes or not isinstance(result, (bytes, tuple)):
+        return
+    written, *after = result if isinstance(result, tuple) else (result,)
+    if int(fields[3]) != len(written):
+        yield f"length {fields[3]}, expected {len(written)}"
+    yield from wrong_bytes(lambda given: image.show_written(job, given), fields[7], written)
+    for got, wanted in zip(fields[8:], after, strict=True):
+        yield from wrong_bytes(image.show_summary, got, wanted)
+
+
+def faults_of(line, case):
+    _, _, job, code, units, name, rivals, result, column = case
+    fields = line.split()
+    if len(fields) != image.columns(image.JOBS.index(job)):
+        return ["no answer"]
+    return [*wrong_numbers(fields, code, units, name, rivals, column), *wrong_output(fields, job, code, result)]
+
+
 def check(program):
     """The number of cases that passed, and a line for each that did not."""
     stream = b"".join(case[1] for case in edge_cases.CASES)
-    lines = subprocess.run([program], input=stream, capture_output=True, check=True).stdout
-    lines = lines.decode().splitlines()
-    passed, failed = 0, []
-    for index, (reason, _, job, code, units, name, rivals, result, column) in enumerate(edge_cases.CASES):
-        line = lines[index] if index < len(lines) else "nothing"
-        fields = line.split()
-        faults = []
-        if len(fields) != 8:
-            faults.append("no answer")
-        else:
-            got_code, got_units, got_name, got_length = map(int, fields[:4])
-            if got_code != code:
-                faults.append(f"code {got_code}, expected {code}")
-            if units is not edge_cases.UNKNOWN and got_units != units:
-                faults.append(f"units {got_units}, expected {units}")
-            if got_name != name:
-                faults.append(f"name {got_name}, expected {name}")
-            got_rivals = int(fields[4]), int(fields[5])
-            if got_rivals != rivals:
-                faults.append(f"bindings {got_rivals}, expected {rivals}")
-            if fields[6] != column:
-                faults.append(f"table {fields[6]}, expected {column}")
-            writes = code == 0 and job != "resolve"
-            if not writes and (got_length != 0 or fields[7] != "-"):
-                faults.append(f"wrote {fields[7][:80]}")
-            if writes and result is None:
-                faults.append("the case settles no result")
-            if writes and isinstance(result, bytes):
-                if fields[7] != (result.hex() or "-") or got_length != len(result):
-                    got = image.show_written(job, bytes.fromhex(fields[7].rstrip("!-")))[-1]
-                    wanted = image.show_written(job, result)[-1]
-                    faults.append(f"wrote {got[:300]}, expected {wanted[:300]}")
+    lines = subprocess.run([program], input=stream, capture_output=True, check=True).stdout.decode().splitlines()
+    failed = []
+    for index, case in enumerate(edge_cases.CASES):
+        faults = faults_of(lines[index] if index < len(lines) else "nothing", case)
         if faults:
-            failed.append(f"case {index} ({reason}): " + "; ".join(faults))
-        else:
-            passed += 1
-    return passed, failed
+            failed.append(f"case {index} ({case[0]}): " + "; ".join(faults))
+    return len(edge_cases.CASES) - len(failed), failed
 
 
 if __name__ == "__main__":

@@ -1,4 +1,4 @@
-"""Edge cases of document 01, as requests T-01 to T-05, T-07 and T-09 amend it, worked out by hand.
+"""Edge cases of document 01, as requests T-01 to T-05, T-07, T-09 and T-10 amend it, worked out by hand.
 
 Each case is a reason, a call and the answer that document 01 asks for. The
 notation is the one of image.py. `steps` walks through the charges of a call
@@ -6,14 +6,15 @@ one after another: with a budget just short of a charge the answer is code 19
 with the units charged before it, and with the whole budget the call ends. The
 cases of the panel check (T-01) are in panel_cases.py, those of the scan runner
 (T-02) in scan_cases.py, those of who competes (T-04) in rival_cases.py, those of
-text in and text out (T-05) in text_cases.py, those of the smaller image (T-11) in
-shrink_cases.py.
+text in and text out (T-05) in text_cases.py, those of where a bit is used (T-10) in
+uses_cases.py, those of the smaller image (T-11) in shrink_cases.py.
 """
 import panel_cases
 import rival_cases
 import scan_cases
 import shrink_cases
 import text_cases
+import uses_cases
 from image import (call, head, number, scope_set, sets, syntax_image, tree_image)
 
 CASES = []  # (reason, call bytes, job, code, units, name, rivals, output or None, table)
@@ -1375,6 +1376,6 @@ for length in (65536, 65537):
         case("a result of 65,537 bytes in a longer output", "evaluate", image, 20, 38 + 3 + 7 + 9,
              output=70000)
 
-# ==== the panel check, the scan runner, who competes, text, the smaller image ====
+# ==== the panel check, the scan runner, who competes, text, where a bit is used, the smaller image ====
 
-CASES += panel_cases.CASES + scan_cases.CASES + rival_cases.CASES + text_cases.CASES + shrink_cases.CASES
+CASES += panel_cases.CASES + scan_cases.CASES + rival_cases.CASES + text_cases.CASES + uses_cases.CASES + shrink_cases.CASES
