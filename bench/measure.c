@@ -14,13 +14,16 @@ enum { ROUNDS = 5, ROUND_NANOSECONDS = 200000 };
 
 static uint32_t table[MEIRHUPPA_WORDS_PER_UNIT * MEIRHUPPA_MOST_BUDGET];
 static _Alignas(uint32_t) uint8_t output[LONGEST_OUTPUT];
+static uint32_t summary[LARGEST_STREAM_SIZE / sizeof(uint32_t)];
 static meirhuppa_answer of_library;
 static Answer of_second;
 static Memory *memory;
 
+/* A replacement writes its summary over the one lent, so each call is lent it anew. */
 static void ask_first(const Call *call)
 {
-    of_library = ask_library(call, table, output);
+    memcpy(summary, call->summary, call->summary_length);
+    of_library = ask_library(call, table, output, summary);
 }
 
 static void ask_second(const Call *call)
@@ -66,6 +69,14 @@ static bool answers_agree(void)
            of_library.length == of_second.length && memcmp(output, of_second.output, of_library.length) == 0;
 }
 
+/* Of a replacement that both have made: the second program's summary has its words in the same order. */
+static bool summaries_agree(void)
+{
+    const Summary *wanted = &of_second.summary;
+    return summary[0] == wanted->size && summary[1] == wanted->names &&
+           memcmp(summary + 2, wanted->uses, wanted->names * sizeof *wanted->uses) == 0;
+}
+
 int main(void)
 {
     static Inputs inputs;
@@ -75,9 +86,10 @@ int main(void)
         if (call.budget > MEIRHUPPA_MOST_BUDGET && !is_unbudgeted(call.job))
             continue;
         call.table_words = MEIRHUPPA_WORDS_PER_UNIT * call.budget;
-        call.output_length = sizeof output;
+        if (call.output_length > 0) /* with none, the time is that before anything is written */
+            call.output_length = sizeof output;
         double library = time_of(ask_first, &call), second = time_of(ask_second, &call);
-        if (!answers_agree()) {
+        if (!answers_agree() || (call.job == JOB_REPLACE && of_library.code == SUCCESS && !summaries_agree())) {
             fprintf(stderr, "measure: the two programs answer differently\n");
             return 1;
         }

@@ -58,7 +58,7 @@ int main(void)
     static uint8_t output[OUTPUT_BYTES];
     int failed = 0;
     for (size_t i = 0; i < sizeof cases / sizeof *cases; i++) {
-        kept.given = ask_library(&cases[i].call, table, output);
+        kept.given = ask_library(&cases[i].call, table, output, NULL);
         if (!is_given(cases[i].wanted)) {
             printf("rivals: %s: code %u, bindings %u and %u\n", cases[i].what, (unsigned)kept.given.code, (unsigned)kept.given.first,
                    (unsigned)kept.given.second);

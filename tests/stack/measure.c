@@ -3,6 +3,7 @@
 #define _POSIX_C_SOURCE 200809L
 
 #include <stdio.h>
+#include <string.h>
 
 #include "../library_call.h"
 #include "../painted_stack.h"
@@ -12,11 +13,12 @@ enum { OUTPUT_BYTES = 1 << 20 };
 
 static uint32_t table[MEIRHUPPA_WORDS_PER_UNIT * MEIRHUPPA_MOST_BUDGET];
 static _Alignas(uint32_t) uint8_t output[OUTPUT_BYTES];
+static uint32_t summary[LARGEST_STREAM_SIZE / sizeof(uint32_t)];
 static meirhuppa_answer answer;
 
 static void *ask(void *call)
 {
-    answer = ask_library(call, table, output);
+    answer = ask_library(call, table, output, summary);
     return NULL;
 }
 
@@ -30,6 +32,7 @@ int main(void)
             call.budget = MEIRHUPPA_MOST_BUDGET;
         call.table_words = MEIRHUPPA_WORDS_PER_UNIT * call.budget;
         call.output_length = sizeof output;
+        memcpy(summary, call.summary, call.summary_length);
         used = stack_of(ask, &call);
         printf("%d %u %u %zu\n", (int)call.job, (unsigned)answer.code, (unsigned)answer.units, used);
     }

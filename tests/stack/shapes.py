@@ -1,5 +1,6 @@
 """The shapes of images that should take most stack, each with a name that says what it is."""
 import os
+import subprocess
 import sys
 
 SECOND = os.path.join(os.path.dirname(os.path.dirname(os.path.dirname(os.path.abspath(__file__)))), "second")
@@ -75,7 +76,7 @@ def rival_images():
 
 
 def tree_images():
-    """For evaluate, the panel check and the scans."""
+    """For evaluate, the panel check, the scans and the summaries."""
     yield "one application of 4,000 numbers", tree(wide(4000))
     yield "one list value of 4,000 numbers", tree("<" + "1 " * 4000 + ">")
     yield "13,000 numbers judged", tree("<" + "1 " * JUDGED + ">")
@@ -89,7 +90,7 @@ def tree_images():
 
 
 def panel_programs():
-    """For the panel check and the scans, all of them accepted."""
+    """For the panel check, the scans and the summaries, all of them accepted."""
     rung = "('out @1 @2)"
     yield "as many rungs as go in", large_panel("rungs")
     yield "as many points as go in", large_panel("points")
@@ -125,6 +126,35 @@ def text_calls():
         yield f"print: {name}", image.call("print", given)
 
 
+def with_summary(job, given, place=0, **inputs):
+    """A call with the summary that the second program makes of the image; where it makes none, with none."""
+    asked = subprocess.run([os.path.join(SECOND, "replay")], input=image.call("summary", given), stdout=subprocess.PIPE, check=True)
+    written = asked.stdout.split()[-1].decode()
+    return image.call(job, given, phase=place, summary=b"" if written == "-" else bytes.fromhex(written), **inputs)
+
+
+def parts():
+    """To be put at place 1 of an application."""
+    yield "a number", image.tree_part("1")
+    yield "62 list values in each other", image.tree_part("<" * 62 + "1" + ">" * 62)
+    yield "62 functions in each other", image.tree_part("[4 " * 62 + "$4" + "]" * 62)
+    yield "one application of 10,000 variables", image.tree_part(wide(10000, "$4"))
+
+
+def uses_calls():
+    """Every tree with its summary made, asked and its root replaced; and parts put into the longest tree, whose first name is searched for."""
+    subprocess.run(["make", "-s", "-C", SECOND, "replay"], check=True)
+    for name, given in (*tree_images(), *panel_programs()):
+        yield f"summary: {name}", image.call("summary", given)
+        yield f"uses: {name}", with_summary("uses", given)
+        yield f"replace: {name}", with_summary("replace", given, part=image.tree_part("1"))
+    long = tree(wide(20000, "$4"))
+    for name, part in parts():
+        yield f"replace: the first of 20,000 variables by {name}", with_summary("replace", long, 1, part=part)
+    deepest = tree("[4 " * 63 + "$4" + "]" * 63)
+    yield "replace: a variable at level 64", with_summary("replace", deepest, 63, part=image.tree_part("1"))
+
+
 def shrink_calls():
     """Every syntax image made smaller, and the longest that is."""
     for name, given in (*syntax_images(), *rival_images()):
@@ -151,6 +181,7 @@ def calls():
         yield f"panel: {name}", image.call("panel", given)
     yield from scan_calls()
     yield from text_calls()
+    yield from uses_calls()
     yield from shrink_calls()
     for name, _, long in endless_texts():
         yield f"{name}, {LONG_TEXT:,} bytes", long

@@ -1,9 +1,14 @@
-//! Meirhuppa's four jobs, its panel check, its scan runner, its reader and printer of text and its smaller images over slices. What they promise is
-//! document 01, with the two bindings of request T-04, and requests T-01, T-02, T-05 and T-11 for the others, and is proved of the code behind the boundary; this crate adds
-//! names for the refusals and the lengths of the slices, which are true by their type.
+//! Meirhuppa's four jobs, its panel check, its scan runner, its reader and printer of text, its summaries and its smaller images over slices. What
+//! they promise is document 01, with the two bindings of request T-04, and requests T-01, T-02, T-05, T-10 and T-11 for the others, and is proved of
+//! the code behind the boundary; this crate adds names for the refusals and the lengths of the slices, which are true by their type.
 //!
 //! A call takes at most 160 KiB of the calling thread's stack. That is measured, on x86-64, and not proved.
 #![deny(warnings)]
+
+#[cfg(target_arch = "x86_64")]
+mod uses;
+#[cfg(target_arch = "x86_64")]
+pub use uses::{replace, summary, uses, Summary, Uses};
 
 /// What a job that succeeded answers.
 #[derive(Clone, Copy, Debug, PartialEq, Eq)]
@@ -16,7 +21,8 @@ pub struct Answer {
     pub length: usize,
 }
 
-/// Why a job was refused, and the units charged before it: none of a panel check, a scan, a text or a smaller image. The output is as it was.
+/// Why a job was refused, and the units charged before it: none of a panel check, a scan, a text, a summary or a smaller image. What was lent is as
+/// it was.
 #[derive(Clone, Copy, Debug, PartialEq, Eq)]
 pub struct Refusal {
     pub code: Code,
@@ -51,7 +57,7 @@ impl std::fmt::Display for Refusal {
 
 impl std::error::Error for Refusal {}
 
-/// The refusals of document 01, and of requests T-01, T-02 and T-05. Number 16 is none of them and stays unused.
+/// The refusals of document 01, and of requests T-01, T-02, T-05 and T-10. Number 16 is none of them and stays unused; 28 is not given yet.
 #[derive(Clone, Copy, Debug, PartialEq, Eq)]
 #[non_exhaustive]
 pub enum Code {
@@ -91,8 +97,8 @@ pub enum Code {
     TooManyEntries,
     /// 19: a charge is larger than what remains.
     OverBudget,
-    /// 20: the result is longer than the output or 65,536 bytes; of a panel check, more bits than words lent; of scans, lines longer than the
-    /// output, whatever that is.
+    /// 20: the result is longer than the output or 65,536 bytes; of a panel check or a summary, more words than are lent; of scans, lines longer
+    /// than the output, whatever that is.
     TooLong,
     /// 21: the tree is no program of the panel profile.
     OutsideProfile,
@@ -108,11 +114,15 @@ pub enum Code {
     BadText,
     /// 27: a closing parenthesis with nothing open, or one left open at the end of the text.
     Unbalanced,
+    /// 29: the summary is too short or belongs to a tree with another size or count of names, or the tree has no such place.
+    AnotherTree,
+    /// 30: the image has no such name.
+    NoSuchName,
     /// A number that this crate has no name for.
     Unknown(u32),
 }
 
-const NUMBERED: [(u32, Code); 26] = [
+const NUMBERED: [(u32, Code); 28] = [
     (1, Code::Layout),
     (2, Code::OverLimit),
     (3, Code::Unowned),
@@ -139,6 +149,8 @@ const NUMBERED: [(u32, Code); 26] = [
     (25, Code::DrivenChange),
     (26, Code::BadText),
     (27, Code::Unbalanced),
+    (29, Code::AnotherTree),
+    (30, Code::NoSuchName),
 ];
 
 impl Code {
@@ -161,6 +173,9 @@ pub const WORDS_PER_UNIT: usize = 40;
 
 /// So many words lent to a panel check are always enough.
 pub const MOST_BITS: usize = 256;
+
+/// So many words lent for a summary are always enough: two, and two for each of 1,024 names.
+pub const MOST_SUMMARY: usize = 2050;
 
 /// Bytes of a scan's line, with its end, at most: so many for each scan are always enough.
 pub const MOST_LINE: usize = 7088;
@@ -203,6 +218,13 @@ mod library {
         pub length: u32,
         pub first: u32,
         pub second: u32,
+    }
+
+    #[repr(C)]
+    pub struct RawUses {
+        pub code: u32,
+        pub count: u32,
+        pub first: u32,
     }
 
     impl Raw {
@@ -260,7 +282,33 @@ mod library {
         ) -> Raw;
         pub fn meirhuppa_read(text: *const u8, text_length: usize, output: *mut u8, output_length: usize) -> Raw;
         pub fn meirhuppa_print(image: *const u8, image_length: usize, output: *mut u8, output_length: usize) -> Raw;
+        pub fn meirhuppa_summary(image: *const u8, image_length: usize, summary: *mut u32, summary_words: usize) -> Raw;
+        pub fn meirhuppa_uses(
+            image: *const u8,
+            image_length: usize,
+            summary: *const u32,
+            summary_words: usize,
+            name: u32,
+        ) -> RawUses;
+        pub fn meirhuppa_replace(
+            image: *const u8,
+            image_length: usize,
+            place: u32,
+            part: *const u8,
+            part_length: usize,
+            summary: *mut u32,
+            summary_words: usize,
+            output: *mut u8,
+            output_length: usize,
+        ) -> Raw;
         pub fn meirhuppa_shrink(image: *const u8, image_length: usize, output: *mut u8, output_length: usize) -> Raw;
+    }
+
+    pub fn uses_answer(raw: RawUses) -> Result<super::Uses, super::Refusal> {
+        if raw.code == 0 {
+            return Ok(super::Uses { count: raw.count, first: raw.first });
+        }
+        Err(super::Refusal { code: super::Code::of(raw.code), units: 0, rivals: None })
     }
 
     pub fn answer(raw: Raw) -> Result<super::Answer, super::Refusal> {
