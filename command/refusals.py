@@ -27,6 +27,8 @@ MEANINGS = {
     25: "a change names a driven point",
     26: "bad text, also no object or a second one",
     27: "unbalanced",
+    29: "the summary belongs to a tree with another size or count of names",
+    30: "name not in the image",
 }
 
 

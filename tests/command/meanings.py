@@ -1,4 +1,4 @@
-"""The one table of refusals is document 01's list, as the requests amend it, and document 02's numbers that have landed."""
+"""The one table of refusals is document 01's list, as the requests amend it, and document 02's numbers that the library gives."""
 import re
 
 import calls
@@ -24,9 +24,10 @@ def document_01():
 
 
 def document_02():
-    """The requests that have landed name their refusals as `21 outside the profile, 22 point driven twice`."""
+    """The requests name their refusals as `21 outside the profile, 22 point driven twice`."""
     said = " ".join(re.findall(r"Refusals: (.*)", paper("02-change-requests.md")))
-    return {int(code): text for code, text in re.findall(r"\b(2[1-7]) ((?:(?!, 2\d |, in that|, tested|;|, the first).)*)", said)}
+    named = re.findall(r"\b(2[1-7]|29|30) ((?:(?!, (?:2\d|30) |, in that|, tested|;|, the first|\.(?: |$)).)*)", said)
+    return {int(code): text for code, text in named}
 
 
 def of_header():
