@@ -9,13 +9,17 @@ use meirhuppa::resolve;
 use meirhuppa::scan;
 use meirhuppa::shrink;
 use meirhuppa::text_jobs;
+use meirhuppa::uses_jobs;
+use meirhuppa::uses_jobs::Uses;
 ghost use mathlib.Core.List.{[]};
 ghost use Rattle.model.specs.Jobs.{resolveJob, expandJob, parseJob, evaluateJob};
 ghost use Rattle.requests.specs.Panel.{panelJob};
 ghost use Rattle.requests.specs.ScanJob.{scanJob};
 ghost use Rattle.requests.specs.TextJobs.{readJob, printJob};
+ghost use Rattle.requests.specs.Uses.{summaryJob, usesJob};
+ghost use Rattle.requests.specs.Replacing.{replaceJob};
 ghost use Rattle.shrinking.specs.ShrinkJob.{shrinkJob};
-ghost use Rattle.one_answer.specs.Once.{Once, PanelOnce, ScanOnce, TextOnce, ShrinkOnce};
+ghost use Rattle.one_answer.specs.Once.{Once, PanelOnce, ScanOnce, TextOnce, ShrinkOnce, SummaryOnce, UsesOnce, ReplaceOnce};
 
 pub fn resolve_once(image: &[u8], phase: u32, budget: u32, table: &mut [u32]) -> Answer
     ensures { λ r. ⌜ Once (resolveJob (now (image .entry)) phase budget (now (table .entry))) r [] (now (table .exit)) ⌝ }
@@ -75,4 +79,28 @@ pub fn shrink_once(image: &[u8], out: &mut [u8]) -> Answer
     ensures { λ r. ⌜ ShrinkOnce (shrinkJob (now (image .entry)) (now (out .entry))) r (now (out .exit)) ⌝ }
 {
     shrink::meirhuppa_shrink(image, out)
+}
+
+pub fn summary_once(image: &[u8], summary: &mut [u32]) -> Answer
+    ensures { λ r. ⌜ SummaryOnce (summaryJob (now (image .entry)) (now (summary .entry))) r (now (summary .exit)) ⌝ }
+{
+    uses_jobs::meirhuppa_summary(image, summary)
+}
+
+pub fn uses_once(image: &[u8], summary: &[u32], name: u32) -> Uses
+    ensures { λ r. ⌜ UsesOnce (usesJob (now (image .entry)) (now (summary .entry)) name) r ⌝ }
+{
+    uses_jobs::meirhuppa_uses(image, summary, name)
+}
+
+pub fn replace_once(
+    image: &[u8],
+    place: u32,
+    part: &[u8],
+    summary: &mut [u32],
+    out: &mut [u8],
+) -> Answer
+    ensures { λ r. ⌜ ReplaceOnce (replaceJob (now (image .entry)) place (now (part .entry)) (now (summary .entry)) (now (out .entry))) r (now (summary .exit)) (now (out .exit)) ⌝ }
+{
+    uses_jobs::meirhuppa_replace(image, place, part, summary, out)
 }
