@@ -7,8 +7,10 @@ use native.Mathlib.Numerals.{add-one}
 use native.Mathlib.Nat.{div-add-mod', div-mul-le-self}
 use lib.ListN.{length, take, drop, getD, set, length-set, replicate, length-replicate, replicate-append-replicate}
 use lib.Seq.{length-take-le, take-all, take-suc, drop-at, sets-eq}
+use Rattle.text.specs.Hexadecimal.{hexDigit, hexOf}
 use Rattle.text.specs.Placing.{Placed}
-use Rattle.text.proofs.Placing.{placed-then, placed-length, begun, one-more, ended}
+use Rattle.text.proofs.Placing.{placed-then, placed-length, renamed, begun, one-more, ended}
+use Rattle.text.proofs.Hexadecimal.{hex-length}
 use Rattle.answer_line.specs.Format.{byteFill}
 use Rattle.answer_line.specs.Words.{bytesOf, bytesOfWords, bytesFill}
 
@@ -71,6 +73,51 @@ module _ {out₀ : List ℕ} {at : ℕ} {words out : List ℕ} {to i : ℕ} (w :
 
   pub laying-ended : length words ≤ i → Placed out₀ at (bytesOfWords words) out to
   laying-ended l = rw (take-all i words l) at (w .placed)
+
+-- ---- the same in hexadecimal
+
+hex-append : (l m : List ℕ) → hexOf (l ++ m) ≡ hexOf l ++ hexOf m
+unfolding hexOf
+hex-append [] m = refl
+hex-append (b ∷ l) m = ap (λ (r : List ℕ). hexDigit (b / 16) ∷ hexDigit (b % 16) ∷ r) (hex-append l m)
+
+-- a word's bytes, over four others
+pub four-are : (w : ℕ) {four : List ℕ} {past : ℕ} → Placed (0 ∷ 0 ∷ 0 ∷ 0 ∷ []) 0 (bytesOf w) four past → four ≡ bytesOf w
+unfolding bytesOf
+four-are w p = p .is
+
+pub four-spelled : (w : ℕ) {four out out′ : List ℕ} {at past p : ℕ} → Placed (0 ∷ 0 ∷ 0 ∷ 0 ∷ []) 0 (bytesOf w) four p → Placed out at (hexOf four) out′ past
+    → Placed out at (hexOf (bytesOf w)) out′ past
+four-spelled w f q = renamed (ap hexOf (four-are w f)) q
+
+-- words, of which the first i are placed
+pub record Spelling (out₀ : List ℕ) (at : ℕ) (words out : List ℕ) (to i : ℕ) : Type 0 where
+  pub within : i ≤ length words
+  pub placed : Placed out₀ at (hexOf (bytesOfWords (take i words))) out to
+
+pub spelling-begun : {out words : List ℕ} {at : ℕ} → Spelling out at words out at 0
+unfolding bytesOfWords hexOf
+spelling-begun = record { within = omega arith; placed = record { ends = omega arith; is = refl } }
+
+module _ {out₀ : List ℕ} {at : ℕ} {words out : List ℕ} {to i : ℕ} (w : Spelling out₀ at words out to i) where
+  pub spelling-room : at + length words * 8 ≤ length out₀ → i < length words → to + 8 ≤ length out
+  spelling-room h l =
+      let s = placed-length (w .placed) in let e = w .placed .ends in
+      let x = hex-length (bytesOfWords (take i words)) in
+      let a = bytes-length (take i words) in let b = length-take-le i words (w .within) in
+      omega arith
+
+  pub spelling-more : {out′ : List ℕ} {past : ℕ} → i < length words → Placed out to (hexOf (bytesOf (getD words i 0))) out′ past → Spelling out₀ at words out′ past (i + 1)
+  spelling-more l p =
+      record {
+        within = omega arith;
+        placed = rw (add-one i) (rw (bytes-more words i l) (rw (hex-append (bytesOfWords (take i words)) (bytesOf (getD words i 0))) (placed-then (w .placed) p)));
+      }
+
+  pub spelling-ended : length words ≤ i → Placed out₀ at (hexOf (bytesOfWords words)) out to
+  spelling-ended l = rw (take-all i words l) at (w .placed)
+
+pub ruleset spelling-laws = (four-spelled, spelling-begun, spelling-room, spelling-more, spelling-ended, placed-length)
 
 -- ---- over an output that is filled with one value
 

@@ -4,7 +4,7 @@ use mathlib.Core.Path.{_≡_, sym, ap, _∙_, subst}
 use mathlib.Core.List.{List, [], _∷_, _++_, append-nil}
 use mathlib.Core.Bool.{Bool, true, false}
 use native.Mathlib.Omega.{arith}
-use lib.ListN.{length, take, drop, length-append, take-append-drop, drop-of-length-le}
+use lib.ListN.{length, take, drop, getD, length-append, take-append-drop, drop-of-length-le}
 use lib.Seq.{take-all, length-take-le}
 use borrow.Author.Tests.{eq-eqb, ne-eqb}
 use Rattle.model.specs.Jobs.{digits, Result}
@@ -13,8 +13,10 @@ use Rattle.text.specs.Hexadecimal.{hexOf}
 use Rattle.text.proofs.Placing.{placed-then, renamed}
 use Rattle.text.proofs.Decimal.{digits-before}
 use Rattle.text.proofs.Hexadecimal.{hex-length}
-use Rattle.answer_line.specs.Format.{wordFill, byteFill, allAre, isClear, numberColumn, tableColumn, writtenColumn, outputColumn, numberColumns, bufferColumns, answerLine}
+use Rattle.answer_line.specs.Format.{wordFill, byteFill, allAre, isClear, numberColumn, tableColumn, writtenColumn, outputColumn, numberColumns, bufferColumns, answerColumns, answerLine, summaryFront, summaryColumn, replaceLine}
+use Rattle.answer_line.specs.Words.{bytesOfWords}
 use Rattle.numbers.proofs.Reading.{part-from}
+use Rattle.answer_line.proofs.Laying.{bytes-length}
 
 -- ---- numbers
 
@@ -103,9 +105,50 @@ module _ (budget : ℕ) {out o₁ o₂ : List ℕ} {at p q : ℕ} where
   unfolding bufferColumns
   buffers-placed len table output a b = placed-then a b
 
-  pub line-placed : (r : Result) {o₃ : List ℕ} {e : ℕ} → Placed out at (numberColumns (r .answer)) o₁ p
-      → Placed o₁ p (bufferColumns budget (r .answer .len) (r .table) (r .output)) o₂ q → Placed o₂ q (10 ∷ []) o₃ e → Placed out at (answerLine budget r) o₃ e
-  unfolding answerLine
-  line-placed r a b c = placed-then (placed-then a b) c
+  pub columns-placed : (r : Result) → Placed out at (numberColumns (r .answer)) o₁ p → Placed o₁ p (bufferColumns budget (r .answer .len) (r .table) (r .output)) o₂ q
+      → Placed out at (answerColumns budget r) o₂ q
+  unfolding answerColumns
+  columns-placed r a b = placed-then a b
 
-pub ruleset printing-laws = (number-placed, placed-then, numbers-placed, table-kept, table-clear, table-bad, part-room, written-none, written-all, written-part, all-few, part-few, kept-past, kept-rest, part-long, output-kept, output-lost, buffers-placed, line-placed)
+  pub line-placed : (r : Result) → Placed out at (answerColumns budget r) o₁ p → Placed o₁ p (10 ∷ []) o₂ q → Placed out at (answerLine budget r) o₂ q
+  unfolding answerLine
+  line-placed r a b = placed-then a b
+
+-- ---- the summary
+
+module _ (w : List ℕ) where
+  pub front-none : length w < 2 → take (length w) w ≡ summaryFront w
+  unfolding summaryFront
+  front-none h = take-all (length w) w (omega arith) ∙ sym (take-all (2 + 2 * getD w 1 0) w (omega arith))
+
+  pub front-all : {n : ℕ} → n ≡ 2 + 2 * getD w 1 0 → length w < n → take (length w) w ≡ summaryFront w
+  unfolding summaryFront
+  front-all e h = take-all (length w) w (omega arith) ∙ sym (take-all (2 + 2 * getD w 1 0) w (omega arith))
+
+  pub front-part : {n : ℕ} → n ≡ 2 + 2 * getD w 1 0 → take n w ≡ summaryFront w
+  unfolding summaryFront
+  front-part e = ap (λ (k : ℕ). take k w) e
+
+module _ (code : ℕ) (w : List ℕ) {out o₁ : List ℕ} {at p : ℕ} where
+  pub summary-refused : (code ≡ 0 → ⊥) → Placed out at (45 ∷ []) o₁ p → Placed out at (summaryColumn code w) o₁ p
+  unfolding summaryColumn
+  summary-refused n a = renamed (simp (ne-eqb code 0 n)) a
+
+  pub summary-spelled : (n : ℕ) → code ≡ 0 → take n w ≡ summaryFront w → Placed out at (hexOf (bytesOfWords (take n w))) o₁ p → Placed out at (summaryColumn code w) o₁ p
+  unfolding summaryColumn
+  summary-spelled n e f a = renamed (ap (λ (l : List ℕ). hexOf (bytesOfWords l)) f ∙ simp (eq-eqb code 0 e)) a
+
+pub summary-few : (w : List ℕ) (n : ℕ) {out o₁ : List ℕ} {at p : ℕ} → Placed out at (hexOf (bytesOfWords (take n w))) o₁ p → p ≤ at + length w * 8 + 1
+summary-few w n a = let e = a .ends in let h = hex-length (bytesOfWords (take n w)) in let b = bytes-length (take n w) in let s = take-short n w in omega arith
+
+pub summary-room : (w : List ℕ) (n at room : ℕ) → at + length w * 8 + 1 ≤ room → at + length (take n w) * 8 ≤ room
+summary-room w n at room h = let s = take-short n w in omega arith
+
+pub replaced-placed : (budget : ℕ) (r : Result) (w : List ℕ) {out o₁ o₂ o₃ o₄ : List ℕ} {at p q t e : ℕ} → Placed out at (answerColumns budget r) o₁ p → Placed o₁ p (32 ∷ []) o₂ q
+    → Placed o₂ q (summaryColumn (r .answer .code) w) o₃ t → Placed o₃ t (10 ∷ []) o₄ e → Placed out at (replaceLine budget r w) o₄ e
+unfolding replaceLine
+replaced-placed budget r w a b c d = placed-then a (placed-then b (placed-then c d))
+
+pub ruleset printing-laws = (number-placed, placed-then, numbers-placed, table-kept, table-clear, table-bad, part-room, written-none, written-all, written-part, all-few, part-few, kept-past, kept-rest, part-long, output-kept, output-lost, buffers-placed, columns-placed, line-placed)
+
+pub ruleset summary-laws = (front-none, front-all, front-part, summary-refused, summary-spelled, summary-few, summary-room)

@@ -1,16 +1,19 @@
 -- What a call of the replay stream asks for, and the line that answers it.
 use Prim.Native.Nat.{ℕ, _/_, _%_}
-use mathlib.Core.List.{List, [], _++_}
+use mathlib.Core.List.{List, [], _∷_, _++_}
 use lib.Dec.{eqb, leb}
 use lib.ListN.{replicate}
 use Rattle.model.specs.Choice.{if_then_else_}
-use Rattle.model.specs.Jobs.{Result, resolveJob, expandJob, parseJob, evaluateJob}
+use Rattle.model.specs.Jobs.{Answer, Result, resolveJob, expandJob, parseJob, evaluateJob}
 use Rattle.requests.specs.Panel.{panelJob}
 use Rattle.requests.specs.ScanJob.{scanJob}
 use Rattle.requests.specs.TextJobs.{TextResult, readJob, printJob}
+use Rattle.requests.specs.Uses.{summaryJob, UsesAnswer, usesJob}
+use Rattle.requests.specs.Replacing.{ReplaceResult, replaceJob}
 use Rattle.shrinking.specs.ShrinkJob.{ShrinkResult, shrinkJob}
-use Rattle.answer_line.specs.Format.{wordFill, byteFill, answerLine}
-use Rattle.answer_line.specs.Words.{bytesFill, bytesOfWords}
+use Rattle.answer_line.specs.Format.{wordFill, byteFill, answerLine, replaceLine}
+use Rattle.answer_line.specs.Numbers.{answered}
+use Rattle.answer_line.specs.Words.{bytesFill, bytesOfWords, wordsOf}
 
 -- resolve is not lent the output, which stays
 unfoldable pub keeping : List ℕ → Result → Result
@@ -24,11 +27,18 @@ jobOf job image ph budget table output =
     else if eqb job 2 then parseJob image budget table output
     else evaluateJob image budget table output
 
--- the panel check (job 4) with an output of so many bytes, filled before the call: it is lent as words, and what is over is no whole word, and stays
+-- words that came back, with an output of so many bytes: what is over is no whole word, and stays as it was filled
+unfoldable pub laidOut : Answer → List ℕ → ℕ → Result
+laidOut a words bytes = record { answer = a; output = bytesOfWords words ++ replicate (bytes % 4) byteFill; table = [] }
+
+-- the panel check (job 4) and the summary of a tree (job 8) with an output of so many bytes, filled before the call: it is lent as words
 unfoldable pub panelBytes : List ℕ → ℕ → Result
-panelBytes image bytes =
-    let r = panelJob image (replicate (bytes / 4) bytesFill) in
-    record { answer = r .answer; output = bytesOfWords (r .bits) ++ replicate (bytes % 4) byteFill; table = [] }
+unfolding laidOut
+panelBytes image bytes = let r = panelJob image (replicate (bytes / 4) bytesFill) in laidOut (r .answer) (r .bits) bytes
+
+unfoldable pub summaryBytes : List ℕ → ℕ → Result
+unfolding laidOut
+summaryBytes image bytes = let r = summaryJob image (replicate (bytes / 4) bytesFill) in laidOut (r .answer) (r .summary) bytes
 
 -- the scan runner (job 5) with an output of so many bytes, filled before the call
 unfoldable pub scanBytes : List ℕ → List ℕ → ℕ → Result
@@ -49,6 +59,7 @@ requestOf job image second bytes =
     if eqb job 4 then panelBytes image bytes
     else if eqb job 5 then scanBytes image second bytes
     else if eqb job 6 then textBytes (readJob image (replicate bytes byteFill))
+    else if eqb job 8 then summaryBytes image bytes
     else if eqb job 11 then shrinkBytes (shrinkJob image (replicate bytes byteFill))
     else textBytes (printJob image (replicate bytes byteFill))
 
@@ -63,5 +74,37 @@ freshJob job image second ph budget words bytes =
     if leb job 3 then jobOf job image ph budget (replicate words wordFill) (replicate bytes byteFill)
     else leaving (replicate words wordFill) (requestOf job image second bytes)
 
-unfoldable pub callLine : ℕ → List ℕ → List ℕ → ℕ → ℕ → ℕ → ℕ → List ℕ
-callLine job image second ph budget words bytes = answerLine budget (freshJob job image second ph budget words bytes)
+-- ---- a question to a summary (job 9), which stands behind the image as bytes. Count and first place are its output; none is lent.
+
+unfoldable pub toldBytes : UsesAnswer → List ℕ
+unfolding bytesOfWords
+toldBytes a = if eqb (a .code) 0 then bytesOfWords (a .count ∷ a .first ∷ []) else []
+
+unfoldable pub usesResult : List ℕ → UsesAnswer → Result
+unfolding toldBytes
+usesResult table a =
+    record { answer = answered (a .code) (if eqb (a .code) 0 then 8 else 0); output = toldBytes a; table = table }
+
+-- the name n
+unfoldable pub usesLine : List ℕ → List ℕ → ℕ → ℕ → List ℕ → List ℕ
+unfolding usesResult wordsOf
+usesLine image summary n budget table = answerLine budget (usesResult table (usesJob image (wordsOf summary) n))
+
+-- ---- a replacement (job 10), with a summary and a part behind the image, and an output of so many bytes, filled before the call
+
+unfoldable pub replacedLine : ℕ → List ℕ → ReplaceResult → List ℕ
+replacedLine budget table r = replaceLine budget (record { answer = r .answer; output = r .output; table = table }) (r .summary)
+
+-- at a place
+unfoldable pub replaceCall : List ℕ → List ℕ → List ℕ → ℕ → ℕ → List ℕ → ℕ → List ℕ
+unfolding replacedLine wordsOf
+replaceCall image summary part place budget table bytes = replacedLine budget table (replaceJob image place part (wordsOf summary) (replicate bytes byteFill))
+
+-- ---- any call: image, the inputs behind it, phase (or name, or place), budget, and how many words and bytes are lent
+
+unfoldable pub callLine : ℕ → List ℕ → List ℕ → List ℕ → ℕ → ℕ → ℕ → ℕ → List ℕ
+unfolding usesLine replaceCall
+callLine job image second third ph budget words bytes =
+    if eqb job 9 then usesLine image second ph budget (replicate words wordFill)
+    else if eqb job 10 then replaceCall image second third ph budget (replicate words wordFill) bytes
+    else answerLine budget (freshJob job image second ph budget words bytes)

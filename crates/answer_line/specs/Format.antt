@@ -1,13 +1,14 @@
--- The lines of the replay stream: CODE UNITS NAME LENGTH TABLE OUTPUT.
-use Prim.Native.Nat.{ℕ, _*_}
+-- The lines of the replay stream: CODE UNITS NAME LENGTH FIRST SECOND TABLE OUTPUT, and in job 10 SUMMARY.
+use Prim.Native.Nat.{ℕ, _+_, _*_}
 use mathlib.Core.List.{List, [], _∷_, _++_}
 use mathlib.Core.Bool.{Bool, true, _&&_}
 use lib.Dec.{eqb, leb}
-use lib.ListN.{length, take, drop}
+use lib.ListN.{length, take, drop, getD}
 use Rattle.model.specs.Choice.{if_then_else_}
 use Rattle.model.specs.Limits.{wordsPerUnit}
 use Rattle.model.specs.Jobs.{Answer, Result, digits}
 use Rattle.text.specs.Hexadecimal.{hexOf}
+use Rattle.answer_line.specs.Words.{bytesOfWords}
 
 -- what every word of the table and every byte of the output is before a call
 abbrev pub wordFill : ℕ
@@ -63,6 +64,25 @@ unfolding tableColumn outputColumn
 bufferColumns budget len table output = tableColumn budget table ++ outputColumn len output
 
 -- of a job with that budget that ended so
-unfoldable pub answerLine : ℕ → Result → List ℕ
+unfoldable pub answerColumns : ℕ → Result → List ℕ
 unfolding numberColumns bufferColumns
-answerLine budget r = numberColumns (r .answer) ++ bufferColumns budget (r .answer .len) (r .table) (r .output) ++ 10 ∷ []
+answerColumns budget r = numberColumns (r .answer) ++ bufferColumns budget (r .answer .len) (r .table) (r .output)
+
+unfoldable pub answerLine : ℕ → Result → List ℕ
+unfolding answerColumns
+answerLine budget r = answerColumns budget r ++ 10 ∷ []
+
+-- ---- job 10: a column more
+
+-- the words of a summary: its size, its count of names, and two for each of these; other words may stand behind them
+unfoldable pub summaryFront : List ℕ → List ℕ
+summaryFront w = take (2 + 2 * getD w 1 0) w
+
+-- in hexadecimal, each word low byte first; or `-` after a refusal
+unfoldable pub summaryColumn : ℕ → List ℕ → List ℕ
+unfolding hexOf bytesOfWords summaryFront
+summaryColumn code w = if eqb code 0 then hexOf (bytesOfWords (summaryFront w)) else 45 ∷ []
+
+unfoldable pub replaceLine : ℕ → Result → List ℕ → List ℕ
+unfolding answerColumns summaryColumn
+replaceLine budget r w = answerColumns budget r ++ (32 ∷ (summaryColumn (r .answer .code) w ++ 10 ∷ []))

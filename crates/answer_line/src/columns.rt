@@ -1,12 +1,13 @@
 // The columns of the line, each but the last with a space behind it. What puts one gives the place past it.
 use crate::Numbers;
 use crate::buffers;
+use crate::words;
 ghost use mathlib.Core.Path.{_≡_};
 ghost use mathlib.Core.List.{_++_};
 ghost use Prim.Native.Nat.{_+_, _*_, _≤_};
-ghost use lib.ListN.{length, drop};
+ghost use lib.ListN.{length, drop, take};
 ghost use Rattle.text.specs.Placing.{Placed};
-ghost use Rattle.answer_line.specs.Format.{byteFill, allAre, numberColumn, numberColumns, tableColumn, writtenColumn, outputColumn, bufferColumns};
+ghost use Rattle.answer_line.specs.Format.{byteFill, allAre, numberColumn, numberColumns, tableColumn, writtenColumn, outputColumn, bufferColumns, summaryFront, summaryColumn};
 ghost use Rattle.answer_line.specs.Numbers.{answerIs};
 
 fn put_number(out: &mut [u8], at: usize, n: u32) -> usize
@@ -102,4 +103,38 @@ pub fn put_buffers(
 {
     let second = put_table(out, at, budget, table);
     put_output(out, second, written, output)
+}
+
+// How many words the summary of so many names is.
+fn words_of(names: u32) -> usize
+    ensures { λ r. ⌜ r ≡ 2 + 2 * names ⌝ }
+{
+    2 + 2 * (names as usize)
+}
+
+// How many words a summary is, of those that there are.
+fn summary_words(words: &[u32]) -> usize
+    ensures few { λ r. ⌜ r ≤ length (now (words .entry)) ⌝ }
+    ensures front { λ r. ⌜ take r (now (words .entry)) ≡ summaryFront (now (words .entry)) ⌝ }
+{
+    if words.len() < 2 {
+        return words.len();
+    }
+    let count = words_of(words[1]);
+    if words.len() < count {
+        return words.len();
+    }
+    count
+}
+
+pub fn put_summary(out: &mut [u8], at: usize, code: u32, words: &[u32]) -> usize
+    requires { ⌜ at + length (now words) * 8 + 1 ≤ length (now out) ⌝ }
+    ensures bytes { λ r. ⌜ Placed (now (out .entry)) at (summaryColumn code (now (words .entry))) (now (out .exit)) r ⌝ }
+    ensures few { λ r. ⌜ r ≤ at + length (now (words .entry)) * 8 + 1 ⌝ }
+{
+    if code != 0 {
+        return text::put_text(out, at, b"-");
+    }
+    let count = summary_words(words);
+    words::put_words_hexadecimal(out, at, &words[..count])
 }

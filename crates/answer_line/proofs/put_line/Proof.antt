@@ -3,11 +3,8 @@ use borrow.Author.Needs.{needs}
 use Rattle.answer_line.proofs.put_line.Statement.{statement}
 use Rattle.answer_line.proofs.put_line.Tie as tie
 
-put-numbers-requires : tie.Need-put-numbers-requires
-put-numbers-requires c κs = search (printing-laws, needs)
-
-put-buffers-requires : tie.Need-put-buffers-requires
-put-buffers-requires c κs = search (printing-laws, needs)
+put-columns-requires : tie.Need-put-columns-requires
+put-columns-requires c κs = search (printing-laws, needs)
 
 slice-aggregate-put-text : tie.Need-slice-aggregate-put-text
 slice-aggregate-put-text c = search (printing-laws, needs)
@@ -24,10 +21,4 @@ returns c = search (printing-laws, needs)
 pub put-line-spec : {M : Type 1} → statement M
 put-line-spec =
     tie.close
-    (tie.spec
-    put-numbers-requires
-    put-buffers-requires
-    slice-aggregate-put-text
-    put-text-requires
-    same-length
-    returns)
+    (tie.spec put-columns-requires slice-aggregate-put-text put-text-requires same-length returns)
