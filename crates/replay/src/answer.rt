@@ -1,5 +1,6 @@
 // One call and the line that answers it.
 use crate::as_words;
+use crate::uses;
 use answer_line::Numbers;
 use answer_line::buffers;
 use meirhuppa::answers::Answer;
@@ -13,12 +14,15 @@ use meirhuppa::text_jobs;
 ghost use mathlib.Core.Path.{_≡_};
 ghost use mathlib.Core.List.{[]};
 ghost use Prim.Native.Nat.{_+_, _*_, _≤_};
-ghost use lib.ListN.{length};
+ghost use lib.ListN.{length, take, drop};
 ghost use Rattle.text.specs.Placing.{Placed};
 ghost use Rattle.meirhuppa.specs.Endings.{answerIs};
+ghost use Rattle.answer_line.specs.Numbers as line;
+ghost use Rattle.answer_line.specs.Format.{answerLine};
 ghost use Rattle.answer_line.specs.Calls.{jobOf, requestOf, freshJob, callLine};
 
-// The numbers at the head of a call; the last three are sizes.
+// The numbers at the head of a call; the last three are sizes. Behind the image some jobs have more: `split` bytes are the first such input, and
+// what follows them is the second.
 pub struct Call {
     pub job: u32,
     pub phase: u32,
@@ -26,6 +30,7 @@ pub struct Call {
     pub words: u32,
     pub output: u32,
     pub image: u32,
+    pub split: usize,
 }
 
 impl Call {
@@ -45,19 +50,27 @@ impl Call {
 
     pub const PRINT: u32 = 7;
 
+    pub const SUMMARY: u32 = 8;
+
+    pub const USES: u32 = 9;
+
+    pub const REPLACE: u32 = 10;
+
     pub const SHRINK: u32 = 11;
 
     pub const LAST_JOB: u32 = Call::SHRINK;
+}
 
-    // A job by its number. Those from 8 to 10 are not there yet: they are taken for one past the last.
-    pub fn known(job: u32) -> u32 {
-        if job <= Call::PRINT {
-            return job;
-        }
-        if job < Call::SHRINK {
-            return Call::LAST_JOB + 1;
-        }
-        job
+pub fn numbers(a: Answer) -> Numbers
+    ensures { λ r. ⌜ line.answerIs r ≡ answerIs a ⌝ }
+{
+    Numbers {
+        code: a.code,
+        units: a.units,
+        name: a.name,
+        length: a.length,
+        first: a.first,
+        second: a.second,
     }
 }
 
@@ -77,14 +90,17 @@ fn do_job(call: Call, image: &[u8], table: &mut [u32], output: &mut [u8]) -> Ans
     evaluate::meirhuppa_evaluate(image, call.budget, table, output)
 }
 
-// The requests of document 02, with an output that is filled first. Every number above those of the others is the printer's: no call has one
-// over `LAST_JOB`. A text stands in the image's place.
+// The requests of document 02 that are lent an output, which is filled first. Every number above those of the others is the printer's: no call has
+// one over `LAST_JOB`. A text stands in the image's place.
 fn do_request(call: Call, image: &[u8], second: &[u8], output: &mut [u8]) -> Answer
     requires { ⌜ length (now output) ≤ 70000 ⌝ }
     ensures { λ r. ⌜ record { answer = answerIs r; output = now (output .exit); table = [] } ≡ requestOf (call .job) (now (image .entry)) (now (second .entry)) (length (now (output .entry))) ⌝ }
 {
     if call.job == Call::PANEL {
         return as_words::panel(image, output);
+    }
+    if call.job == Call::SUMMARY {
+        return as_words::summary(image, output);
     }
     buffers::fill_bytes(output);
     if call.job == Call::SCAN {
@@ -112,9 +128,7 @@ fn do_fresh(call: Call, image: &[u8], second: &[u8], table: &mut [u32], output: 
     do_job(call, image, table, output)
 }
 
-// Puts the line of a call on the page, and gives the place past it. The buffers are exactly as long as the call says; the second input is
-// empty where the job has none.
-pub fn answer(
+fn put_answer(
     call: Call,
     image: &[u8],
     second: &[u8],
@@ -124,16 +138,35 @@ pub fn answer(
     at: usize,
 ) -> usize
     requires { ⌜ (at + length (now output) * 2 + 75 ≤ length (now page)) × (length (now output) ≤ 70000) ⌝ }
-    ensures { λ r. ⌜ Placed (now (page .entry)) at (callLine (call .job) (now (image .entry)) (now (second .entry)) (call .phase) (call .budget) (length (now (table .entry))) (length (now (output .entry)))) (now (page .exit)) r ⌝ }
+    ensures { λ r. ⌜ Placed (now (page .entry)) at (answerLine (call .budget) (freshJob (call .job) (now (image .entry)) (now (second .entry)) (call .phase) (call .budget) (length (now (table .entry))) (length (now (output .entry))))) (now (page .exit)) r ⌝ }
 {
     let a = do_fresh(call, image, second, table, output);
-    let numbers = Numbers {
-        code: a.code,
-        units: a.units,
-        name: a.name,
-        length: a.length,
-        first: a.first,
-        second: a.second,
-    };
-    answer_line::put_line(page, at, numbers, call.budget, table, output)
+    answer_line::put_line(page, at, numbers(a), call.budget, table, output)
+}
+
+// Puts the line of a call on the page, and gives the place past it. The buffers are exactly as long as the call says; `behind` is what the
+// job has behind the image.
+pub fn answer(
+    call: Call,
+    image: &[u8],
+    behind: &[u8],
+    table: &mut [u32],
+    output: &mut [u8],
+    page: &mut [u8],
+    at: usize,
+) -> usize
+    requires lent { ⌜ (call .split ≤ length (now behind)) × (call .split ≤ 70000) × (length (now output) ≤ 70000) ⌝ }
+    requires room { ⌜ at + length (now output) * 2 + call .split * 2 + 91 ≤ length (now page) ⌝ }
+    ensures { λ r. ⌜ Placed (now (page .entry)) at (callLine (call .job) (now (image .entry)) (take (call .split) (now (behind .entry))) (drop (call .split) (now (behind .entry))) (call .phase) (call .budget) (length (now (table .entry))) (length (now (output .entry)))) (now (page .exit)) r ⌝ }
+{
+    let split = call.split;
+    if call.job == Call::USES {
+        buffers::fill_words(table, buffers::WORD);
+        return uses::ask(call, image, &behind[..split], table, page, at);
+    }
+    if call.job == Call::REPLACE {
+        buffers::fill_words(table, buffers::WORD);
+        return uses::replace(call, image, behind, table, output, page, at);
+    }
+    put_answer(call, image, &behind[..split], table, output, page, at)
 }

@@ -2,24 +2,27 @@
 // table and the output that it was lent.
 mod answer;
 mod as_words;
+mod inputs;
 mod page;
 mod stream;
+mod uses;
 
 use crate::answer::Call;
+use crate::inputs::BEHIND;
+use crate::inputs::Inputs;
 use crate::page::MOST_BYTES;
 use crate::page::PAGE;
 use crate::stream::Input;
-use crate::stream::Length;
 use crate::stream::Number;
 use crate::stream::Place;
 ghost use mathlib.Core.Path.{_≡_};
 ghost use mathlib.Core.Bool.{false};
 ghost use mathlib.Core.List.{_∷_, []};
 ghost use Prim.Native.Nat.{_≤_};
+ghost use lib.ListN;
 ghost use lib.ListN.{length};
 ghost use Rattle.text.specs.Placing.{Placed};
 ghost use Rattle.replay.specs.Page.{lastStart};
-ghost use Rattle.replay.specs.Stream.{SecondOf};
 
 // The most words of the table that a call may ask for.
 const MOST_WORDS: usize = 170000;
@@ -50,26 +53,21 @@ fn cut(input: Input, count: usize, page: &mut [u8; PAGE]) -> Run
     ended(input, past)
 }
 
-// The inputs of a call: the image, and what stands behind it, into the front of `second`, whose length is given back. That is the scan
-// runner's recording; no other job has any.
-fn read_inputs(
-    job: u32,
-    input: Input,
-    room: &mut [u8; Input::ROOM],
-    image: &mut [u8],
-    second: &mut [u8],
-) -> Length
-    ensures { λ r. ⌜ SecondOf job (length (now (second .exit))) r ⌝ }
+// A call whose inputs are read, of which so many bytes stand behind the image. Gives the place past its line.
+fn put_call(
+    call: Call,
+    length: usize,
+    image: &[u8],
+    behind: &[u8],
+    table: &mut [u32],
+    output: &mut [u8],
+    page: &mut [u8; PAGE],
+    at: usize,
+) -> usize
+    requires inputs { ⌜ (call .split ≤ 70000) × (call .split ≤ length) × (length ≤ ListN.length (now behind)) ⌝ }
+    requires room { ⌜ (at ≤ lastStart) × (ListN.length (now output) ≤ 70000) ⌝ }
 {
-    match input.fill(room, image) {
-        Place::At(past) => {
-            if job == Call::SCAN {
-                return past.bytes(room, second);
-            }
-            Length::Read(0, past)
-        }
-        Place::Cut => Length::Cut,
-    }
+    answer::answer(call, image, &behind[..length], table, output, page, at)
 }
 
 // A call whose head is read, with image, table and output exactly as long as it says; its line starts where the run is.
@@ -78,26 +76,34 @@ fn exact(
     run: Run,
     room: &mut [u8; Input::ROOM],
     image: &mut [u8],
-    second: &mut [u8],
+    behind: &mut [u8],
     table: &mut [u32],
     output: &mut [u8],
     page: &mut [u8; PAGE],
 ) -> Run
-    requires { ⌜ (run .count ≤ lastStart) × (length (now output) ≤ 70000) ⌝ }
+    requires { ⌜ (run .count ≤ lastStart) × (length (now output) ≤ 70000) × (length (now behind) ≡ 140000) ⌝ }
 {
     let input = run.input;
     let count = run.count;
-    match read_inputs(call.job, input, room, image, second) {
-        Length::Read(length, past) => {
-            let part = &second[0..length];
-            let end = answer::answer(call, image, part, table, output, page, count);
+    match inputs::read_inputs(call.job, input, room, image, behind) {
+        Inputs::Read(split, length, past) => {
+            let asked = Call {
+                job: call.job,
+                phase: call.phase,
+                budget: call.budget,
+                words: call.words,
+                output: call.output,
+                image: call.image,
+                split,
+            };
+            let end = put_call(asked, length, image, behind, table, output, page, count);
             Run {
                 input: past,
                 count: end,
                 ongoing: true,
             }
         }
-        Length::Cut => cut(input, count, page),
+        Inputs::Cut => cut(input, count, page),
     }
 }
 
@@ -107,12 +113,12 @@ fn sized(
     run: Run,
     room: &mut [u8; Input::ROOM],
     image: &mut [u8],
-    second: &mut [u8],
+    behind: &mut [u8],
     table: &mut [u32],
     output: &mut [u8],
     page: &mut [u8; PAGE],
 ) -> Run
-    requires { ⌜ (run .count ≤ lastStart) × (length (now output) ≤ 70000) ⌝ }
+    requires { ⌜ (run .count ≤ lastStart) × (length (now output) ≤ 70000) × (length (now behind) ≡ 140000) ⌝ }
 {
     let words = call.words as usize;
     let bytes = call.output as usize;
@@ -130,7 +136,7 @@ fn sized(
         run,
         room,
         &mut image[0..length],
-        second,
+        behind,
         &mut table[0..words],
         &mut output[0..bytes],
         page,
@@ -142,31 +148,34 @@ fn next(
     run: Run,
     room: &mut [u8; Input::ROOM],
     image: &mut [u8],
-    second: &mut [u8],
+    behind: &mut [u8],
     table: &mut [u32],
     output: &mut [u8; MOST_BYTES],
     page: &mut [u8; PAGE],
-) -> Run {
+) -> Run
+    requires { ⌜ length (now behind) ≡ 140000 ⌝ }
+{
     let input = run.input;
     let count = page::next_start(page, run.count);
     let mut head = [0u32; 5];
     match input.number(room) {
         Number::Read(job, past) => match past.numbers(room, &mut head) {
-            Place::At(behind) => {
+            Place::At(start) => {
                 let call = Call {
-                    job: Call::known(job),
+                    job,
                     phase: head[0],
                     budget: head[1],
                     words: head[2],
                     output: head[3],
                     image: head[4],
+                    split: 0,
                 };
                 let here = Run {
-                    input: behind,
+                    input: start,
                     count,
                     ongoing: true,
                 };
-                sized(call, here, room, image, second, table, output, page)
+                sized(call, here, room, image, behind, table, output, page)
             }
             Place::Cut => cut(input, count, page),
         },
@@ -179,11 +188,13 @@ fn next(
 fn answer_all(
     room: &mut [u8; Input::ROOM],
     image: &mut [u8],
-    second: &mut [u8],
+    behind: &mut [u8],
     table: &mut [u32],
     output: &mut [u8; MOST_BYTES],
     page: &mut [u8; PAGE],
-) {
+)
+    requires { ⌜ length (now behind) ≡ 140000 ⌝ }
+{
     let mut run = Run {
         input: Input::start(),
         count: 0,
@@ -191,7 +202,7 @@ fn answer_all(
     };
     let mut turns = u64::MAX;
     while turns > 0 && run.ongoing {
-        run = next(run, room, image, second, table, output, page);
+        run = next(run, room, image, behind, table, output, page);
         turns -= 1;
     }
     page::write_front(page, run.count);
@@ -201,13 +212,13 @@ fn main() {
     let mut room = [0u8; Input::ROOM];
     let mut page = [0u8; PAGE];
     let mut image = [0u8; MOST_BYTES];
-    let mut second = [0u8; MOST_BYTES];
+    let mut behind = [0u8; BEHIND];
     let mut table = [0u32; MOST_WORDS];
     let mut output = [0u8; MOST_BYTES];
     answer_all(
         &mut room,
         &mut image,
-        &mut second,
+        &mut behind,
         &mut table,
         &mut output,
         &mut page,

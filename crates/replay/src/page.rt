@@ -7,8 +7,8 @@ ghost use Rattle.replay.specs.Page.{lastStart, startOf};
 // The most that a call may ask for: bytes of the image, of what stands behind it, and of the output.
 pub const MOST_BYTES: usize = 70000;
 
-// Two digits for each byte of the output.
-const MOST_LINE: usize = 2 * MOST_BYTES + MOST_OTHERS;
+// Two digits for each byte of the output, and of a summary.
+const MOST_LINE: usize = 4 * MOST_BYTES + MOST_OTHERS;
 
 // A line starts at this place at the latest.
 const LAST_START: usize = 65536;

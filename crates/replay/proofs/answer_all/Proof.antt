@@ -7,10 +7,10 @@ use Rattle.replay.proofs.answer_all.Statement.{statement}
 use Rattle.replay.proofs.answer_all.Tie as tie
 
 abbrev Inv-loop : tie.InvT-loop
-Inv-loop room₀ image₀ second₀ table₀ output₀ page₀ run₀ turns₀ room image second table output page run turns = (turns ≤ 18446744073709551615) × (length image ≡ length image₀) × (length second ≡ length second₀) × (length table ≡ length table₀)
+Inv-loop room₀ image₀ behind₀ table₀ output₀ page₀ run₀ turns₀ room image behind table output page run turns = (turns ≤ 18446744073709551615) × (length image ≡ length image₀) × (length behind ≡ length behind₀) × (length behind ≡ 140000) × (length table ≡ length table₀)
 
 abbrev μ-loop : tie.MeasureT-loop
-μ-loop room₀ image₀ second₀ table₀ output₀ page₀ run₀ turns₀ room image second table output page run turns = turns
+μ-loop room₀ image₀ behind₀ table₀ output₀ page₀ run₀ turns₀ room image behind table output page run turns = turns
 
 start-requires : tie.Need-start-requires Inv-loop μ-loop
 start-requires c κs = search needs

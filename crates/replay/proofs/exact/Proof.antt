@@ -1,4 +1,4 @@
-use Rattle.replay.proofs.Inputs.{second-within}
+use Rattle.replay.proofs.Behind.{given-laws}
 use borrow.Author.Needs.{needs}
 use Rattle.replay.proofs.exact.Statement.{statement}
 use Rattle.replay.proofs.exact.Tie as tie
@@ -6,20 +6,13 @@ use Rattle.replay.proofs.exact.Tie as tie
 read-inputs-requires : tie.Need-read-inputs-requires
 read-inputs-requires c κs = search needs
 
-enum-known-length : tie.Need-enum-known-length
-enum-known-length c = search needs
+enum-known-split : tie.Need-enum-known-split
+enum-known-split c = search needs
 
-sub-part : tie.Need-sub-part
-sub-part c = search needs
-
-part-part-start : tie.Need-part-part-start
-part-part-start c = search needs
-
-part-part-end : tie.Need-part-part-end
-part-part-end c = search (second-within, needs)
-
-answer-requires : tie.Need-answer-requires
-answer-requires c κs = search needs
+put-call-requires : tie.Need-put-call-requires
+put-call-requires c κs =
+    let asked = c .before .before .before .before .before .before .before .before .before .before .before .before .before .before .before .before .before .before .before .before .before .pre in
+    ((search (given-laws, needs), search (given-laws, needs), search (given-laws, asked .2, needs)), (asked .0, asked .1))
 
 enum-told : tie.Need-enum-told
 enum-told c = search needs
@@ -56,11 +49,8 @@ exact-spec =
     tie.close
     (tie.spec
     read-inputs-requires
-    enum-known-length
-    sub-part
-    part-part-start
-    part-part-end
-    answer-requires
+    enum-known-split
+    put-call-requires
     enum-told
     cut-requires
     same-length

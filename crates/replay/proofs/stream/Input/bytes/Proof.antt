@@ -1,4 +1,4 @@
-use Rattle.replay.proofs.Inputs.{input-laws}
+use Rattle.replay.proofs.Behind.{input-laws}
 use borrow.Author.Needs.{needs}
 use Rattle.replay.proofs.stream.Input.bytes.Statement.{statement}
 use Rattle.replay.proofs.stream.Input.bytes.Tie as tie
