@@ -11,3 +11,4 @@ pub mod Scans
 pub mod Texts
 pub mod Reports
 pub mod Smaller
+pub mod Uses
