@@ -29,8 +29,6 @@ PRIMITIVES = ["stx-e", "mk-stx", "first", "rest", "link", "same", "pick"]
 RUNG_WORDS = ["and", "or", "not", "out", "set", "all"]
 JOBS = ["resolve", "expand", "parse", "evaluate", "panel", "scan", "read", "print", "summary", "uses", "replace", "shrink"]
 UNBUDGETED = JOBS[4:]  # take neither budget nor table, nor a phase
-# Jobs of the second program that the library's program replay does not have yet: it cuts a stream there.
-NOT_IN_REPLAY = ["summary", "uses", "replace"]
 # What stands behind the image of a call, by job; the field phase is the name for uses, the place for replace.
 BEHIND = {"scan": ["recording"], "uses": ["summary"], "replace": ["summary", "part"]}
 SYMBOL, NUMBER, POINT, PRIMITIVE, RUNG_WORD, LIST = range(6)
