@@ -4,7 +4,7 @@ import subprocess
 
 import answers
 import reading
-from telling import BadUse, judge
+from telling import BadUse, judge, line_of, say
 
 BUDGET = 4096
 MOST_IMAGE = 65536
@@ -107,11 +107,36 @@ def shrink(image):
     return answer.written
 
 
+def names_in(checked):
+    return [name for name, _ in answers.bits_of(checked)]
+
+
 def bits(tree):
     """The names of a panel program's bits, in order of address."""
     answer = ask("panel", tree)
     judge("panel", answer.code)
-    return [name for name, _ in answers.bits_of(answer)]
+    return names_in(answer)
+
+
+def bits_if_taken(tree):
+    """The same; None where the panel check refuses the tree, which here ends nothing."""
+    answer = ask("panel", tree)
+    say(line_of("panel", answer.code) + (", so no bit has an address" if answer.code else ""))
+    return None if answer.code else names_in(answer)
+
+
+def summary(tree):
+    """The summary of a tree, to ask questions with."""
+    answer = ask("summary", tree)
+    judge("summary", answer.code)
+    return answer.written
+
+
+def uses(tree, summary, names):
+    """For each name how many variables have it, and the place of the first."""
+    asked = dict(zip(names, answers.questions(answers.proved("replay"), tree, summary, names)))
+    judge("uses", max((answer.code for answer in asked.values()), default=0))
+    return {name: answers.uses_of(answer) for name, answer in asked.items()}
 
 
 def scan(tree, recording):

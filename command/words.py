@@ -5,6 +5,7 @@ from collections import namedtuple
 
 import answers
 import bits
+import contacts
 import given
 import jobs
 import notation
@@ -88,6 +89,10 @@ def panel_(call):
     return panel.table(bits.bits_of(jobs.bits(found.tree), found.tree, found.expanded)).encode()
 
 
+def uses(call):
+    return contacts.table(way.to_tree(call.files[0])).encode()
+
+
 def scan(call):
     program, recording = call.files
     return jobs.scan(way.to_tree(program).tree, recording)
@@ -137,6 +142,7 @@ WORDS = {
     "print": Word((PROGRAM,), {ALL: None}, JOBS, print_),
     "shrink": Word((PROGRAM,), {}, JOBS, shrink),
     "panel": Word((PROGRAM,), {}, JOBS, panel_),
+    "uses": Word((PROGRAM,), {}, JOBS, uses),
     "scan": Word((PROGRAM, RECORDING), {}, SCANS, scan),
     "report": Word((given.opened,), {}, ("term_report",), report),
     "page": Word((PROGRAM, RECORDING), {}, SCANS, page),

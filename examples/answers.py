@@ -1,5 +1,5 @@
-"""What a replay program answers when it expands an image at phase 0, parses the result and checks the tree against the panel profile, prints an
-image as text or reads a text; and what a scan program prints when it runs the tree over a recording.
+"""What a replay program answers when it expands an image at phase 0, parses the result, checks the tree against the panel profile and is asked where
+names are used in it, prints an image as text or reads a text; and what a scan program prints when it runs the tree over a recording.
 
 A replay program reads calls and prints a line for each: second/replay, and target/bin/replay of the proved library. Of the scan programs
 there are likewise two.
@@ -37,14 +37,22 @@ def command(program):
     return [os.path.join(ROOT, "run-built"), name] if folder == BUILT else [program]
 
 
-def ask(replay, job, given, budget, phase=0):
-    call = image.call(job, given, phase=phase, budget=budget)
-    line = subprocess.run(command(replay), input=call, stdout=subprocess.PIPE, check=True).stdout.decode().strip()
-    if len(line.split()) != 8:
-        raise ValueError(f"{replay} prints {line!r} for a call of {job}")
+def answer_of(line):
     *numbers, _, written = line.split()
     code, units, name, _, *rivals = map(int, numbers)
     return Answer(line, code, units, name, rivals, b"" if written == "-" else bytes.fromhex(written))
+
+
+def ask_all(replay, job, calls):
+    """The answers to calls of one job, in one run."""
+    lines = subprocess.run(command(replay), input=b"".join(calls), stdout=subprocess.PIPE, check=True).stdout.decode().splitlines()
+    if [len(line.split()) for line in lines] != [8] * len(calls):
+        raise ValueError(f"{replay} prints {' '.join(lines[-1:])!r} for a call of {job}")
+    return [answer_of(line) for line in lines]
+
+
+def ask(replay, job, given, budget, phase=0):
+    return ask_all(replay, job, [image.call(job, given, phase=phase, budget=budget)])[0]
 
 
 def expand_and_parse(replay, given, budget):
@@ -74,6 +82,23 @@ def bits_of(checked):
     """The names of the bits that a panel check has written, each with its address."""
     words = range(0, len(checked.written), 4)
     return [(int.from_bytes(checked.written[place:place + 4], "little"), address) for address, place in enumerate(words)]
+
+
+def names_used(summary):
+    """The names that a tree has variables of. A summary is size and count of names, then for each name from 0 its count and first place."""
+    counts = image.words_of(summary)[2::2]
+    return [name for name, count in enumerate(counts) if count]
+
+
+def questions(replay, tree, summary, names):
+    """The answers to where each of the names is used. In a call the name stands in the place of the phase."""
+    return ask_all(replay, "uses", [image.call("uses", tree, phase=name, budget=0, summary=summary) for name in names])
+
+
+def uses_of(asked):
+    """How many variables have the name that was asked for, and the place of the first: 0 where there is none."""
+    count, first = image.words_of(asked.written)
+    return count, first
 
 
 def scan(program, tree, recording):

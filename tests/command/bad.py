@@ -9,8 +9,9 @@ KIND = "the kind is 1 or 2 but not the job's (2 for evaluate, 1 for the others)"
 TEXT = "bad text, also no object or a second one"
 # The job that is first handed a syntax image, and a tree image.
 FIRST = {"expand": "expand", "parse": "expand", "evaluate": "expand", "resolve": "resolve", "print": "print", "panel": "expand", "scan": "expand",
-         "page": "expand", "shrink": "expand"}
-FIRST_OF_TREE = {**FIRST, "parse": "parse", "evaluate": "evaluate", "panel": "panel", "scan": "scan", "page": "scan", "shrink": "shrink"}
+         "page": "expand", "shrink": "expand", "uses": "expand"}
+FIRST_OF_TREE = {**FIRST, "parse": "parse", "evaluate": "evaluate", "panel": "panel", "scan": "scan", "page": "scan", "shrink": "shrink",
+                 "uses": "summary"}
 TAKES_SYNTAX = ("expand", "parse", "resolve", "shrink")
 CHARGED = ("expand", "parse", "evaluate", "resolve")
 FILES = {**dict.fromkeys(FIRST, 1), "scan": 2, "page": 2, "report": 1}
@@ -130,6 +131,9 @@ def of_jobs():
     yield refused("panel", "9", "expand: code 0 units 2", "parse: code 0 units 2", "panel: code 21: outside the profile")
     yield refused("panel", twice, "expand: code 0 units 20", "parse: code 0 units 20", "panel: code 22: point driven twice")
     yield Case("panel, 257 bits", ["panel", "-"], tree_of_bits(257), 1, said=("panel: code 23: too many bits",))
+    yield refused("uses", "x", "expand: code 7 units 2: an identifier in expression place whose name has no meaning")
+    yield Case("uses, a tree that is too long", ["uses", "-"], b"\2" + bytes(65536), 1, said=(line("summary", 2, LIMIT),))
+    yield Case("uses, a tree nested too deep", ["uses", "-"], image.tree_image("(" * 64 + "$0" + ")" * 64), 1, said=(line("summary", 2, LIMIT),))
     yield Case("expand, out of units", ["expand", "-"], bits.encode(), 1, said=("read: code 0", second_line("expand", bits)))
     yield Case("panel, 256 bits", ["panel", "-"], tree_of_bits(256), 0, out=None, said=("panel: code 0",))
 

@@ -56,6 +56,12 @@ def second(job, given, phase=0):
     return answers.ask(second_program("replay"), job, given, BUDGET, phase)
 
 
+def second_uses(tree, names):
+    """How many variables have each of the names, and the place of the first."""
+    summary = second("summary", tree).written
+    return [answers.uses_of(answer) for answer in answers.questions(second_program("replay"), tree, summary, names)]
+
+
 def second_scan(tree, recording):
     return answers.scan(second_program("scan"), tree, recording).stdout
 

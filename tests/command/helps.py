@@ -13,6 +13,8 @@ LAST = {
     "echo run | ./meirhuppa resolve -": b"name 4 run",
     "./meirhuppa panel examples/accident.text": b"1        13    run   1",
     "./meirhuppa expand examples/accident.text | ./meirhuppa shrink - | ./meirhuppa panel -": b"1        13    run   1",
+    "./meirhuppa uses examples/accident.text": b"1        13    run   2         26",
+    "./meirhuppa parse examples/mixing-plant.text | ./meirhuppa uses -": b"10       28    -     4         234",
     "./meirhuppa scan examples/start-stop.text examples/start-stop.scans": b"9 @10=1",
     "printf '@1=1\\n@1=0\\n@2=1\\n' | ./meirhuppa scan examples/start-stop.text -": b"3 @10=0",
     "./meirhuppa report crates/term_report/stdin": b"mean 229 3",

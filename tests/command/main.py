@@ -15,6 +15,7 @@ import good
 import helps
 import meanings
 import printing
+import where_used
 
 AT_ONCE = 3
 NOT_LOOKED_AT = {".git", "target"}
@@ -49,7 +50,8 @@ def with_bad_input(pool):
 def faults(pool):
     """What failed, and None for each that passed."""
     before = contents(calls.ROOT)
-    yield from pool.map(calls.fault_of, good.cases())
+    for part in (good, where_used):
+        yield from pool.map(calls.fault_of, part.cases())
     yield from with_bad_input(pool)
     for part in (printing, helps, endings, meanings):
         yield from pool.map(fault_of, part.checks())
