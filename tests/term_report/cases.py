@@ -100,15 +100,14 @@ def longest_image():
 
 
 def peak_memory(file, times):
-    """Kilobytes at the most, where a file comes so many times over."""
+    """Kilobytes at the most, where a file comes so many times over; asked when the program has ended."""
     with subprocess.Popen(PROGRAM, stdin=subprocess.PIPE, stdout=subprocess.PIPE) as program:
         for _ in range(times):
             program.stdin.write(file)
-        program.stdin.flush()
-        with open(f"/proc/{program.pid}/status") as status:
-            peak = next(int(line.split()[1]) for line in status if line.startswith("VmHWM"))
-        program.communicate()
-    return peak
+        program.stdin.close()
+        program.stdout.read()
+        _, program.returncode, usage = os.wait4(program.pid, 0)
+    return usage.ru_maxrss
 
 
 def checks():
