@@ -5,10 +5,10 @@ use lib.Dec.{eqb, leb}
 use Rattle.model.specs.Choice.{if_then_else_}
 use Rattle.model.specs.Limits.{lastPhase}
 use Rattle.model.specs.Refusals.{noMeaning, noRule, noSyntax, noPhase, tooManyEntries}
-use Rattle.model.specs.Scopes.{Scope, Scopes, noScopes, add}
+use Rattle.model.specs.Scopes.{Scope, noScopes, add}
 use Rattle.model.specs.Objects.{Name, Symbol, Phase, symbol, number, point, prim, rung, Sets, setAt, changeAt, Stx, atom, list, Stxs, nil, cons}
 use Rattle.model.specs.Trees.{Tree, app, stx, tnil, tcons, asStx}
-use Rattle.model.specs.Steps.{Entries, Step, _>>=_, _>>_, done, refuse, unless, charge, made, addTo, flipIn, pruneFrom, freshName, freshScope, bind, resolveAt, parts1, parts2, parts3, identifier}
+use Rattle.model.specs.Steps.{Entries, Step, _>>=_, _>>_, done, refuse, unless, charge, made, addTo, flipIn, pruneFrom, freshName, freshScope, prunableNow, useScope, inside, bind, resolveAt, parts1, parts2, parts3, identifier}
 use Rattle.model.specs.Evaluating.{evaluate}
 use Rattle.model.specs.Parsing.{Form, lambda, letSyntax, quote, syntax, formOf, parse}
 
@@ -75,26 +75,21 @@ bindFresh ph c x = do
 pub record Surroundings : Type 0 where
   pub phase : Phase
   pub meanings : Env
-  pub prunable : Scopes
 
 -- of the root
 abbrev pub ofRoot : Phase → Surroundings
-ofRoot ph = record { phase = ph; meanings = coreOnly; prunable = noScopes }
+ofRoot ph = record { phase = ph; meanings = coreOnly }
 
--- of a right-hand side: the phase above, core meanings, nothing prunable
+-- of a right-hand side: the phase above, core meanings
 abbrev pub ofRightHandSide : Surroundings → Surroundings
 ofRightHandSide here = ofRoot (here .phase + 1)
 
--- of a binder's body: its name means m, its scope is prunable
+-- of a binder's body: its name means m
 abbrev pub ofBody : Binder → Meaning → Surroundings → Surroundings
-ofBody b m here =
-    record { phase = here .phase; meanings = extend (b .name) m (here .meanings); prunable = add (b .scope) (here .prunable) }
+ofBody b m here = record { phase = here .phase; meanings = extend (b .name) m (here .meanings) }
 
--- of what a macro gives: the scope of its use is prunable
-abbrev pub ofResult : Scope → Surroundings → Surroundings
-ofResult use-scope here = record { phase = here .phase; meanings = here .meanings; prunable = add use-scope (here .prunable) }
-
--- ---- forms. `self here x` expands x there, as a further entry.
+-- ---- forms. `self here x` expands x there, as a further entry. What is expanded `inside` has a prunable set of its own: that of before for a part,
+-- with the binder's scope for a body, the empty one for a right-hand side.
 
 abbrev pub Expander : Type 0
 Expander = Surroundings → Stx → Step Stx
@@ -107,41 +102,42 @@ expandAll self (cons s l) = do
   done (cons t r)
 
 unfoldable pub expandApplication : Expander → Surroundings → Sets → Stxs → Step Stx
-unfolding expandAll made
+unfolding expandAll inside made
 expandApplication self here c l = do
-  r ← expandAll (self here) l
+  r ← expandAll (λ x. inside (λ p. p) (self here x)) l
   made (list c r)
 
 -- (lambda id body) with sets c and head h, where id has sets ci and symbol x
 unfoldable pub expandFunction : Expander → Surroundings → Sets → Stx → Sets → Symbol → Stx → Step Stx
-unfolding bindFresh addTo made add
+unfolding bindFresh addTo inside add made
 expandFunction self here c h ci x body = do
   b ← bindFresh (here .phase) ci x
   in-scope ← addTo (b .scope) (here .phase) body
-  out ← self (ofBody b (variable (b .sets) x) here) in-scope
+  out ← inside (add (b .scope)) (self (ofBody b (variable (b .sets) x) here) in-scope)
   made (list c (cons h (cons (atom (b .sets) (symbol x)) (cons out nil))))
 
 unfoldable pub expandLambda : Expander → Surroundings → Sets → Stx → Stxs → Step Stx
 unfolding parts2 identifier expandFunction
 expandLambda self here c h l = parts2 l (λ i body. identifier i (λ ci x. expandFunction self here c h ci x body))
 
-unfoldable pub expandSyntax : Surroundings → Sets → Stx → Stxs → Step Stx
-unfolding parts1 pruneFrom
-expandSyntax here c h l = parts1 l (λ s. do
-  t ← pruneFrom (here .prunable) (here .phase) s
+unfoldable pub expandSyntax : Phase → Sets → Stx → Stxs → Step Stx
+unfolding parts1 prunableNow pruneFrom
+expandSyntax ph c h l = parts1 l (λ s. do
+  p ← prunableNow
+  t ← pruneFrom p ph s
   done (list c (cons h (cons t nil))))
 
 -- (let-syntax id rhs body), where id has sets ci and symbol x; d: entries to spare for the right-hand side
 unfoldable pub expandBinding : Expander → Entries → Surroundings → Sets → Symbol → Stx → Stx → Step Stx
-unfolding bindFresh addTo add parse evaluate lastPhase
+unfolding bindFresh inside addTo add parse evaluate lastPhase
 expandBinding self d here ci x rhs body = do
   b ← bindFresh (here .phase) ci x
   unless noPhase (leb (here .phase + 1) lastPhase)
-  r ← self (ofRightHandSide here) rhs
+  r ← inside (λ p. noScopes) (self (ofRightHandSide here) rhs)
   t ← parse d (here .phase + 1) r
   v ← evaluate d t
   in-scope ← addTo (b .scope) (here .phase) body
-  self (ofBody b (macro v) here) in-scope
+  inside (add (b .scope)) (self (ofBody b (macro v) here) in-scope)
 
 unfoldable pub expandLetSyntax : Expander → Entries → Surroundings → Stxs → Step Stx
 unfolding parts3 identifier expandBinding
@@ -151,17 +147,19 @@ unfoldable pub orNoSyntax : Option Stx → Step Stx
 orNoSyntax none = refuse noSyntax
 orNoSyntax (some s) = done s
 
+-- what the macro gives is expanded in the same expansion, not inside, so the scope of its use stays prunable there
 unfoldable pub expandMacro : Expander → Entries → Surroundings → Tree → Stx → Step Stx
-unfolding freshScope addTo flipIn evaluate asStx orNoSyntax add
+unfolding freshScope addTo flipIn useScope evaluate asStx orNoSyntax
 expandMacro self d here v form = do
   use-scope ← freshScope
   intro ← freshScope
   used ← addTo use-scope (here .phase) form
   marked ← flipIn intro (here .phase) used
+  useScope use-scope
   r ← evaluate d (app v (tcons (stx marked) tnil))
   s ← orNoSyntax (asStx r)
   back ← flipIn intro (here .phase) s
-  self (ofResult use-scope here) back
+  self here back
 
 -- the list with sets c of head h and tail l, by the head's meaning
 unfoldable pub expandForm : Expander → Entries → Surroundings → Sets → Stx → Stxs → Meaning → Step Stx
@@ -169,7 +167,7 @@ unfolding expandLambda expandLetSyntax expandSyntax expandMacro expandApplicatio
 expandForm self d here c h l (core lambda) = expandLambda self here c h l
 expandForm self d here c h l (core letSyntax) = expandLetSyntax self d here l
 expandForm self d here c h l (core quote) = parts1 l (λ s. done (list c (cons h l)))
-expandForm self d here c h l (core syntax) = expandSyntax here c h l
+expandForm self d here c h l (core syntax) = expandSyntax (here .phase) c h l
 expandForm self d here c h l (variable b x) = expandApplication self here c (cons h l)
 expandForm self d here c h l (macro v) = expandMacro self d here v (list c (cons h l))
 expandForm self d here c h l unknown = expandApplication self here c (cons h l)

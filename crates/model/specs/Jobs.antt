@@ -8,6 +8,7 @@ use lib.ListN.{length, drop, replicate}
 use Rattle.model.specs.Choice.{if_then_else_}
 use Rattle.model.specs.Limits.{mostEntries, mostBudget, mostImage, lastPhase, wordsPerUnit, programBudget}
 use Rattle.model.specs.Refusals.{Refusal, unowned, smallTable, noPhase, tooLong, codeOf}
+use Rattle.model.specs.Scopes.{noScopes}
 use Rattle.model.specs.Objects.{Name, Phase, Stx, size}
 use Rattle.model.specs.Trees.{Tree, var, app, fun, datum, lst, stx, Trees, tnil, tcons, loadSize}
 use Rattle.model.specs.Competing.{Rivals, noRivals}
@@ -85,7 +86,7 @@ withImage (got i s) f = f i
 withImage (fault r) f = refused r noRivals 0
 
 unfoldable pub start : Units → {R : Type 0} → Image R → State
-start budget i = record { left = budget; names = i .head .names; scopes = i .head .scopes; binds = i .binds }
+start budget i = record { left = budget; names = i .head .names; scopes = i .head .scopes; binds = i .binds; prunable = noScopes }
 
 -- the work's result and last state, or its refusal with the units charged before it
 unfoldable pub worked : {A : Type 0} → Units → Out A → (A → State → Ending) → Ending
