@@ -15,7 +15,7 @@ use Rattle.model.specs.Objects.{setAt, Stx}
 use Rattle.model.specs.Trees.{Tree}
 use Rattle.model.specs.Resolving.{Bind, Found, means, several, resolve}
 use Rattle.model.specs.Competing.{Rivals, noRivals, rivals}
-use Rattle.model.specs.Steps.{State, Out, ok, no, Step, after, charge, freshName, freshScope, bind, nameOf, resolveAt}
+use Rattle.model.specs.Steps.{State, Out, ok, no, Step, after, charge, freshName, freshScope, carrying, prunableNow, useScope, inside, bind, nameOf, resolveAt}
 use Rattle.model.specs.Jobs.{resolveRoot, expandRoot, parseRoot, evaluateRoot}
 use Rattle.laws.proofs.Walk.{Walkable, Resolves, Makes, resolveRoot-walks, expandRoot-walks, parseRoot-walks, evaluateRoot-walks}
 use Rattle.laws.proofs.StepLaws.{spend}
@@ -67,12 +67,19 @@ none-told-resolving : Resolves (From Always NoneToldBut6)
 unfolding resolveAt
 none-told-resolving ph c x s i = named-told (rivals x (setAt ph c) (s .binds)) (resolve x (setAt ph c) (s .binds)) s i
 
+put-back-ends : (Q : Refusal → Rivals → Type 0) {A : Type 0} (o : Out A) (p : Scopes) → Ends Always Q o → Ends Always Q (after o (λ a t. ok a (carrying p t)))
+put-back-ends Q (ok a t) p h = tt
+put-back-ends Q (no r q v) p h = h
+
 none-told-making : Makes (From Always NoneToldBut6)
-unfolding freshName freshScope bind
+unfolding freshName freshScope bind prunableNow useScope inside
 none-told-making = record {
   of-freshName = λ s i. choice-ends Always NoneToldBut6 (ltb (s .names) mostNames) _ _ tt (λ n. refl);
   of-freshScope = λ s i. choice-ends Always NoneToldBut6 (ltb (s .scopes) mostScopes) _ _ tt (λ n. refl);
   of-bind = λ b s i. choice-ends Always NoneToldBut6 (ltb (length (s .binds)) mostBindings) _ _ tt (λ n. refl);
+  of-prunableNow = λ s i. tt;
+  of-useScope = λ k s i. tt;
+  of-inside = λ f m h s i. put-back-ends NoneToldBut6 (m (carrying (f (s .prunable)) s)) (s .prunable) (h (carrying (f (s .prunable)) s) tt);
 }
 
 pub resolve-tells-none-but-6 : (ph : ℕ) (x : Stx) (s : State) → Ends Always NoneToldBut6 (resolveRoot ph x s)

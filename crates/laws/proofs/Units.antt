@@ -1,5 +1,5 @@
 -- Units never rise, and fall at each entry; names are never given back: of evaluating, parsing and expanding. Two uses of the one walk.
-use mathlib.Core.Path.{_≡_, sym, ap, subst}
+use mathlib.Core.Path.{_≡_, refl, sym, ap, subst}
 use Prim.Native.Nat.{ℕ, zero, suc, _-_, _≤_, _<_}
 use native.Mathlib.Nat.{le-refl, le-trans, sub-le}
 use native.Mathlib.Omega.{arith}
@@ -9,11 +9,12 @@ use lib.ListN.{length}
 use Rattle.model.specs.Limits.{mostNames, mostScopes, mostBindings}
 use Rattle.model.specs.Refusals.{Refusal, tooManyEntries}
 use Rattle.model.specs.Choice.{if_then_else_}
+use Rattle.model.specs.Scopes.{Scopes}
 use Rattle.model.specs.Objects.{setAt, Stx}
 use Rattle.model.specs.Trees.{Tree}
 use Rattle.model.specs.Resolving.{Found, means, several, resolve}
 use Rattle.model.specs.Competing.{Rivals, rivals}
-use Rattle.model.specs.Steps.{State, Out, ok, no, Step, after, charge, freshName, freshScope, bind, nameOf, resolveAt}
+use Rattle.model.specs.Steps.{State, Out, ok, no, Step, after, charge, freshName, freshScope, carrying, prunableNow, useScope, inside, bind, nameOf, resolveAt}
 use Rattle.model.specs.Evaluating.{evalEntry, evaluate}
 use Rattle.model.specs.Parsing.{parseEntry, parse}
 use Rattle.model.specs.Expanding.{Surroundings, expandEntry, expand}
@@ -59,12 +60,21 @@ units-resolving : Resolves UnitsFall
 unfolding leftOf resolveAt
 units-resolving ph c x s = named-left (rivals x (setAt ph c) (s .binds)) (resolve x (setAt ph c) (s .binds)) s
 
+-- the prunable set put back, whatever it was
+put-back-left : {A : Type 0} (o : Out A) (p : Scopes) → leftOf (after o (λ a t. ok a (carrying p t))) ≡ leftOf o
+unfolding leftOf carrying
+put-back-left (ok a t) p = refl
+put-back-left (no r q v) p = refl
+
 units-making : Makes UnitsFall
-unfolding leftOf freshName freshScope bind
+unfolding leftOf freshName freshScope bind prunableNow useScope inside carrying
 units-making = record {
   of-freshName = λ s. choice-left (ltb (s .names) mostNames) _ _ (s .left) (le-refl (s .left)) (le-refl (s .left));
   of-freshScope = λ s. choice-left (ltb (s .scopes) mostScopes) _ _ (s .left) (le-refl (s .left)) (le-refl (s .left));
   of-bind = λ b s. choice-left (ltb (length (s .binds)) mostBindings) _ _ (s .left) (le-refl (s .left)) (le-refl (s .left));
+  of-prunableNow = λ s. le-refl (s .left);
+  of-useScope = λ k s. le-refl (s .left);
+  of-inside = λ f m h s. subst (λ (n : ℕ). n ≤ s .left) (sym (put-back-left (m (carrying (f (s .prunable)) s)) (s .prunable))) (h (carrying (f (s .prunable)) s));
 }
 
 -- ---- names
@@ -110,12 +120,20 @@ names-resolving : Resolves NamesStay
 unfolding namesOf resolveAt
 names-resolving ph c x s = named-names (rivals x (setAt ph c) (s .binds)) (resolve x (setAt ph c) (s .binds)) s
 
+put-back-names : {A : Type 0} (o : Out A) (p : Scopes) (n : ℕ) → namesOf (after o (λ a t. ok a (carrying p t))) n ≡ namesOf o n
+unfolding namesOf carrying
+put-back-names (ok a t) p n = refl
+put-back-names (no r q v) p n = refl
+
 names-making : Makes NamesStay
-unfolding namesOf freshName freshScope bind
+unfolding namesOf freshName freshScope bind prunableNow useScope inside carrying
 names-making = record {
   of-freshName = λ s. choice-names (ltb (s .names) mostNames) _ _ (s .names) (omega arith) (le-refl (s .names));
   of-freshScope = λ s. choice-names (ltb (s .scopes) mostScopes) _ _ (s .names) (le-refl (s .names)) (le-refl (s .names));
   of-bind = λ b s. choice-names (ltb (length (s .binds)) mostBindings) _ _ (s .names) (le-refl (s .names)) (le-refl (s .names));
+  of-prunableNow = λ s. le-refl (s .names);
+  of-useScope = λ k s. le-refl (s .names);
+  of-inside = λ f m h s. subst (λ (n : ℕ). s .names ≤ n) (sym (put-back-names (m (carrying (f (s .prunable)) s)) (s .prunable) (s .names))) (h (carrying (f (s .prunable)) s));
 }
 
 -- ---- both, of the three

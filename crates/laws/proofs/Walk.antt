@@ -8,14 +8,14 @@ use mathlib.Core.Option.{Option, none, some}
 use lib.Dec.{leb}
 use Rattle.model.specs.Limits.{mostEntries, mostNesting, lastPhase}
 use Rattle.model.specs.Refusals.{Refusal, unowned, noMeaning, noRule, noSyntax, notApplicable, wrongArgument, noPhase, tooDeep, tooManyEntries, codeOf}
-use Rattle.model.specs.Scopes.{Scopes, add}
+use Rattle.model.specs.Scopes.{Scopes, noScopes, add}
 use Rattle.model.specs.Objects.{symbol, number, point, prim, rung, Sets, setAt, changeAt, Stx, atom, list, Stxs, nil, cons, size, nesting}
 use Rattle.model.specs.Trees.{Tree, var, app, fun, datum, lst, stx, Trees, tnil, tcons, tcount, tsize, tnesting, substitute, asStx, strip, loadSize}
 use Rattle.model.specs.Resolving.{Bind}
-use Rattle.model.specs.Steps.{Step, after, done, refuse, unless, charge, made, madeTree, addTo, flipIn, pruneFrom, freshName, freshScope, bind, resolveAt, parts1, parts2, parts3, identifier}
+use Rattle.model.specs.Steps.{Step, after, done, refuse, unless, charge, made, madeTree, addTo, flipIn, pruneFrom, freshName, freshScope, prunableNow, useScope, inside, bind, resolveAt, parts1, parts2, parts3, identifier}
 use Rattle.model.specs.Evaluating.{Primitive, primitiveOf, primitive, applicable, eachTree, argument, orWrongKind, applyPrimitive, apply, evalEntry, evaluate}
 use Rattle.model.specs.Parsing.{Form, lambda, letSyntax, quote, syntax, formOf, headForm, parseAll, parseForm, parseEntry, parse}
-use Rattle.model.specs.Expanding.{Meaning, core, variable, macro, unknown, Env, meaning, headMeaning, expandName, bindFresh, Surroundings, ofRoot, ofRightHandSide, ofBody, ofResult, Expander, expandAll, expandApplication, expandFunction, expandLambda, expandSyntax, expandBinding, expandLetSyntax, orNoSyntax, expandMacro, expandForm, expandEntry, expand}
+use Rattle.model.specs.Expanding.{Meaning, core, variable, macro, unknown, Env, meaning, headMeaning, expandName, bindFresh, Surroundings, ofRoot, ofRightHandSide, ofBody, Expander, expandAll, expandApplication, expandFunction, expandLambda, expandSyntax, expandBinding, expandLetSyntax, orNoSyntax, expandMacro, expandForm, expandEntry, expand}
 use Rattle.model.specs.Jobs.{resolveRoot, expandRoot, parseRoot, evaluateRoot}
 
 -- a claim about steps that the walk carries from the single steps to the rules. Evaluating is made of these; it is never refused by 6
@@ -29,11 +29,14 @@ pub record Walkable (P : (A : Type 0) → Step A → Type 0) : Type 1 where
 abbrev pub Resolves : ((A : Type 0) → Step A → Type 0) → Type 0
 Resolves P = (ph : ℕ) (c : Sets) (x : ℕ) → P ℕ (resolveAt ph c x)
 
--- and expanding makes names, scopes and bindings
-pub record Makes (P : (A : Type 0) → Step A → Type 0) : Type 0 where
+-- and expanding makes names, scopes and bindings, and hands the prunable set on
+pub record Makes (P : (A : Type 0) → Step A → Type 0) : Type 1 where
   pub of-freshName : P ℕ freshName
   pub of-freshScope : P ℕ freshScope
   pub of-bind : (b : Bind) → P (Unit {0}) (bind b)
+  pub of-prunableNow : P Scopes prunableNow
+  pub of-useScope : (k : ℕ) → P (Unit {0}) (useScope k)
+  pub of-inside : {A : Type 0} (f : Scopes → Scopes) (m : Step A) → P A m → P A (inside f m)
 
 module _ (P : (A : Type 0) → Step A → Type 0) (walk : Walkable P) where
   unless-walks : (r : Refusal) → (codeOf r ≡ 6 → ⊥) → (b : Bool) → P _ (unless r b)
@@ -265,27 +268,30 @@ module _ (P : (A : Type 0) → Step A → Type 0) (walk : Walkable P) where
           walk .in-turn (self x) _ (h x) (λ t. walk .in-turn (expandAll self l) _ (expandAll-walks self h l) (λ r. walk .of-done (cons t r)))
 
       module _ (self : Expander) (steady : Steady self) where
+        inside-walks : (f : Scopes → Scopes) (here : Surroundings) (x : Stx) → P _ (inside f (self here x))
+        inside-walks f here x = makes .of-inside f (self here x) (steady here x)
+
         application-walks : (here : Surroundings) (c : Sets) (l : Stxs) → P _ (expandApplication self here c l)
         unfolding expandApplication
         application-walks here c l =
-            walk .in-turn (expandAll (self here) l) _ (expandAll-walks (self here) (steady here) l) (λ r. made-walks (list c r))
+            walk .in-turn (expandAll (λ x. inside (λ p. p) (self here x)) l) _ (expandAll-walks _ (inside-walks (λ p. p) here) l) (λ r. made-walks (list c r))
 
         function-walks : (here : Surroundings) (c : Sets) (h : Stx) (ci : Sets) (x : ℕ) (body : Stx) → P _ (expandFunction self here c h ci x body)
         unfolding expandFunction
         function-walks here c h ci x body =
             walk .in-turn (bindFresh (here .phase) ci x) _ (bindFresh-walks (here .phase) ci x) (λ b.
             walk .in-turn (addTo (b .scope) (here .phase) body) _ (addTo-walks (b .scope) (here .phase) body) (λ i.
-            walk .in-turn (self (ofBody b (variable (b .sets) x) here) i) _ (steady _ i) (λ o. made-walks (list c (cons h (cons (atom (b .sets) (symbol x)) (cons o nil)))))))
+            walk .in-turn (inside (add (b .scope)) (self (ofBody b (variable (b .sets) x) here) i)) _ (inside-walks (add (b .scope)) _ i) (λ o. made-walks (list c (cons h (cons (atom (b .sets) (symbol x)) (cons o nil)))))))
 
         binding-walks : (d : ℕ) (here : Surroundings) (ci : Sets) (x : ℕ) (rhs body : Stx) → P _ (expandBinding self d here ci x rhs body)
         unfolding expandBinding
         binding-walks d here ci x rhs body =
             walk .in-turn (bindFresh (here .phase) ci x) _ (bindFresh-walks (here .phase) ci x) (λ b.
             walk .in-turn (unless noPhase (leb (here .phase + 1) lastPhase)) _ (unless-walks noPhase (λ e. omega arith) (leb (here .phase + 1) lastPhase)) (λ u.
-            walk .in-turn (self (ofRightHandSide here) rhs) _ (steady (ofRightHandSide here) rhs) (λ r.
+            walk .in-turn (inside (λ p. noScopes) (self (ofRightHandSide here) rhs)) _ (inside-walks (λ p. noScopes) (ofRightHandSide here) rhs) (λ r.
             walk .in-turn (parse d (here .phase + 1) r) _ (parse-walks d (here .phase + 1) r) (λ t.
             walk .in-turn (evaluate d t) _ (evaluate-walks d t) (λ v.
-            walk .in-turn (addTo (b .scope) (here .phase) body) _ (addTo-walks (b .scope) (here .phase) body) (λ i. steady _ i))))))
+            walk .in-turn (addTo (b .scope) (here .phase) body) _ (addTo-walks (b .scope) (here .phase) body) (λ i. inside-walks (add (b .scope)) _ i))))))
 
         macro-walks : (d : ℕ) (here : Surroundings) (v : Tree) (form : Stx) → P _ (expandMacro self d here v form)
         unfolding expandMacro
@@ -294,9 +300,10 @@ module _ (P : (A : Type 0) → Step A → Type 0) (walk : Walkable P) where
             walk .in-turn freshScope _ (makes .of-freshScope) (λ intro.
             walk .in-turn (addTo outer (here .phase) form) _ (addTo-walks outer (here .phase) form) (λ used.
             walk .in-turn (flipIn intro (here .phase) used) _ (flipIn-walks intro (here .phase) used) (λ marked.
+            walk .in-turn (useScope outer) _ (makes .of-useScope outer) (λ u.
             walk .in-turn (evaluate d (app v (tcons (stx marked) tnil))) _ (evaluate-walks d _) (λ r.
             walk .in-turn (orNoSyntax (asStx r)) _ (orNoSyntax-walks (asStx r)) (λ s.
-            walk .in-turn (flipIn intro (here .phase) s) _ (flipIn-walks intro (here .phase) s) (λ back. steady (ofResult outer here) back)))))))
+            walk .in-turn (flipIn intro (here .phase) s) _ (flipIn-walks intro (here .phase) s) (λ back. steady here back))))))))
 
         form-walks : (d : ℕ) (here : Surroundings) (c : Sets) (h : Stx) (l : Stxs) (m : Meaning) → P _ (expandForm self d here c h l m)
         unfolding expandForm expandLambda expandLetSyntax expandSyntax
@@ -306,7 +313,9 @@ module _ (P : (A : Type 0) → Step A → Type 0) (walk : Walkable P) where
             parts3-walks l _ (λ i rhs body. identifier-walks i _ (λ ci x. binding-walks d here ci x rhs body))
         form-walks d here c h l (core quote) = parts1-walks l _ (λ s. walk .of-done (list c (cons h l)))
         form-walks d here c h l (core syntax) =
-            parts1-walks l _ (λ s. walk .in-turn (pruneFrom (here .prunable) (here .phase) s) _ (pruneFrom-walks (here .prunable) (here .phase) s) (λ t. walk .of-done _))
+            parts1-walks l _ (λ s.
+            walk .in-turn prunableNow _ (makes .of-prunableNow) (λ p.
+            walk .in-turn (pruneFrom p (here .phase) s) _ (pruneFrom-walks p (here .phase) s) (λ t. walk .of-done _)))
         form-walks d here c h l (variable b x) = application-walks here c (cons h l)
         form-walks d here c h l (macro v) = macro-walks d here v (list c (cons h l))
         form-walks d here c h l unknown = application-walks here c (cons h l)
