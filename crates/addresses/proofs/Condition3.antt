@@ -10,6 +10,7 @@ use lib.ListN.{length}
 use Rattle.model.specs.Choice.{if_then_else_}
 use Rattle.model.specs.Limits.{mostEntries, mostImage}
 use Rattle.model.specs.Refusals.{Refusal, overBudget, unowned}
+use Rattle.model.specs.Scopes.{noScopes}
 use Rattle.model.specs.Objects.{Stx, size}
 use Rattle.model.specs.Trees.{Tree, loadSize}
 use Rattle.model.specs.Resolving.{Bind}
@@ -139,7 +140,7 @@ module _ (image : List ℕ) (is-bytes : Bytes image) (budget : ℕ) (b : List �
       (parse-spends mostEntries 0 (run .s .binds) (run .r) st (record { are = refl; ascending = result-fits .ascending })) refl
     where
       st : State
-      st = record { left = x .cost; names = run .s .names; scopes = run .s .scopes; binds = run .s .binds }
+      st = record { left = x .cost; names = run .s .names; scopes = run .s .scopes; binds = run .s .binds; prunable = noScopes }
 
   -- with any units that cover it
   tree-is : (n : ℕ) → entryCharge 0 (result .binds) (result .root) ≤ n

@@ -20,10 +20,10 @@ use Rattle.model.specs.Expanding.{coreOnly, ofRoot, expand}
 use Rattle.model.specs.Jobs.{Ending, refused, named, written, answerOf, Result, lent, atPhase, withImage, start, worked, fitted, reached, expandRoot, expandEnding, expandJob}
 use Rattle.codec_laws.specs.WellFormed.{Bytes, SyntaxFits}
 use Rattle.codec_laws.proofs.ImageLaws.{syntax-read-keeps-limits}
-use Rattle.addresses.proofs.Outcomes.{Possible, Outcome, gives, stops, chain, Kept, charge-out}
+use Rattle.addresses.proofs.Outcomes.{Possible, Outcome, gives, stops, chain, weaken, Kept, charge-out}
 use Rattle.addresses.proofs.States.{StateFits, kept-grows}
 use Rattle.addresses.proofs.Results.{Expanded, expanded-after}
-use Rattle.addresses.proofs.Expansion.{Piece, piece-grows, weaken, expand-good}
+use Rattle.addresses.proofs.Expansion.{Piece, piece-grows, expand-good}
 use Rattle.addresses.proofs.Faults.{possible, Reads, reads, faults, image-reads}
 use Rattle.addresses.proofs.Endings.{lent-cases, expandRoot-is, expandWork, expandEnding-is, expandJob-is}
 

@@ -7,32 +7,27 @@ use mathlib.Core.Option.{Option, none, some}
 use lib.Dec.{leb}
 use Rattle.model.specs.Limits.{mostNesting, lastPhase}
 use Rattle.model.specs.Refusals.{noMeaning, noRule, noSyntax, noPhase, tooManyEntries, overBudget}
-use Rattle.model.specs.Scopes.{Scopes}
+use Rattle.model.specs.Scopes.{Scopes, noScopes, add}
 use Rattle.model.specs.Objects.{Atom, symbol, number, point, prim, rung, Sets, Stx, atom, list, Stxs, nil, cons, nesting, nestings, addScope, flipScope, pruneScopes}
 use Rattle.model.specs.Trees.{Tree, stx, tnil, tcons, tnesting, asStx}
 use Rattle.model.specs.Competing.{noRivals}
-use Rattle.model.specs.Steps.{State, Out, ok, parts1}
+use Rattle.model.specs.Steps.{State, Out, ok, Step, parts1, prunableNow, inside}
 use Rattle.model.specs.Parsing.{lambda, letSyntax, quote, syntax, headForm}
-use Rattle.model.specs.Expanding.{Meaning, core, variable, macro, unknown, coreOnly, extend, meaning, expandName, Surroundings, ofRightHandSide, ofBody, ofResult, Expander, expandAll, expandApplication, expandFunction, expandLambda, expandSyntax, expandBinding, expandLetSyntax, orNoSyntax, expandMacro, expandForm, expandEntry, expand}
+use Rattle.model.specs.Expanding.{Meaning, core, variable, macro, unknown, coreOnly, extend, meaning, expandName, Surroundings, ofRightHandSide, ofBody, Expander, expandAll, expandApplication, expandFunction, expandLambda, expandSyntax, expandBinding, expandLetSyntax, orNoSyntax, expandMacro, expandForm, expandEntry, expand}
 use Rattle.model.specs.Jobs.{closed}
 use Rattle.laws.specs.Ordered.{SetsIn}
 use Rattle.laws.proofs.Stable.{later-trans, same}
 use Rattle.laws.proofs.StepLaws.{spend}
 use Rattle.codec_laws.specs.WellFormed.{StxFits, StxsFit}
-use Rattle.addresses.proofs.Outcomes.{Outcome, gives, stops, chain, Kept, kept-same, kept-trans, kept-spend, charge-out, unless-out, made-out, addTo-out, flipIn-out, pruneFrom-out, resolveAt-out, parts1-out, parts2-out, parts3-out, identifier-out}
+use Rattle.addresses.proofs.Outcomes.{Outcome, gives, stops, chain, weaken, Kept, kept-same, kept-trans, kept-spend, useScope-out, inside-out, charge-out, unless-out, made-out, addTo-out, flipIn-out, pruneFrom-out, resolveAt-out, parts1-out, parts2-out, parts3-out, identifier-out}
 use Rattle.addresses.proofs.Fitting.{sets-more, stx-more, stxs-more, addScope-fits, flipScope-fits, pruneScopes-fits, addScope-nesting, flipScope-nesting, pruneScopes-nesting}
 use Rattle.addresses.proofs.Evaluated.{TreeGood, evaluate-good, application-of, stx-is}
 use Rattle.addresses.proofs.States.{StateFits, Grows, grows-trans, kept-grows, bindFresh-out, freshScope-out}
 use Rattle.addresses.proofs.Meanings.{vars, MeaningGood, EnvGood, meaning-grows, env-grows, value-grows, meaning-variable, Stays, HeadGood, head-out}
 use Rattle.addresses.proofs.Costs.{Costs, paid, short}
-use Rattle.addresses.proofs.Results.{Expanded, expanded-after, expanded-vars, expanded-same, variable-expanded, atom-expanded, quote-expanded, syntax-expanded, ExpandedAll, none-expanded, cons-expanded, application-expanded, function-expanded}
+use Rattle.addresses.proofs.Results.{Expanded, expanded-after, expanded-vars, expanded-kept, expanded-same, variable-expanded, atom-expanded, quote-expanded, syntax-expanded, ExpandedAll, none-expanded, cons-expanded, application-expanded, function-expanded}
 
 -- ---- small laws
-
--- what holds of a step's result says something else
-pub weaken : {A : Type 0} {P Q : A → State → Type 0} {o : Out A} → Outcome A P o → ((a : A) (t : State) → P a t → Q a t) → Outcome A Q o
-weaken (gives a t p) h = gives a t (h a t p)
-weaken (stops r q u p) h = stops r q u p
 
 -- a step of known cost gives the one thing, or is refused by 19
 costs-out : {A : Type 0} {a : A} {u : ℕ} {s : State} {o : Out A} → Costs A a u s o → Outcome A (λ x t. (a ≡ x) × Kept s t) o
@@ -126,14 +121,26 @@ module _ (k : ℕ) where
   ExpandGood d self = (here : Surroundings) (x : Stx) (s : State) → StateFits k s → MeanWell here s → Piece s x
       → Outcome Stx (ExpandedIn d here s) (self here x s)
 
+  -- an expansion of its own
+  inside-good : (d : ℕ) (self : Expander) → ExpandGood d self → (f : Scopes → Scopes) (here : Surroundings) (x : Stx) (s : State)
+      → StateFits k s → MeanWell here s → Piece s x → Outcome Stx (ExpandedIn d here s) (inside f (self here x) s)
+  inside-good d self h f here x s g v i =
+      inside-out {P = λ t. ExpandedIn d here t} f (self here x) s
+      (λ t kp. let w : Grows k s t = kept-grows k s t kp in h here x t (w .keeps g) (env-grows k (here .phase) s t w (here .meanings) v) (piece-grows s t x w i))
+      (λ t kp r u n kn a. expanded-kept k d (here .phase) (here .meanings) s u n r kn
+      (expanded-after k d d (here .phase) (here .meanings) s t u r (le-refl d) (kept-grows k s t kp) a))
+
   -- ---- applications
 
+  abbrev part : Expander → Surroundings → Stx → Step Stx
+  part self here x = inside (λ p. p) (self here x)
+
   all-out : (d : ℕ) (self : Expander) → ExpandGood d self → (here : Surroundings) (l : Stxs) (s : State)
-      → StateFits k s → MeanWell here s → Pieces s l → Outcome Stxs (ExpandedAll k d (here .phase) (here .meanings) s) (expandAll (self here) l s)
+      → StateFits k s → MeanWell here s → Pieces s l → Outcome Stxs (ExpandedAll k d (here .phase) (here .meanings) s) (expandAll (part self here) l s)
   unfolding expandAll
   all-out d self h here nil s g v i = gives nil s (none-expanded k d (here .phase) (here .meanings) s)
   all-out d self h here (cons x l) s g v i =
-      chain _ (h here x s g v (first-piece s x l i)) (λ y t a.
+      chain _ (inside-good d self h (λ p. p) here x s g v (first-piece s x l i)) (λ y t a.
       chain _ (all-out d self h here l t (a .grows .keeps g) (env-grows k (here .phase) s t (a .grows) (here .meanings) v) (pieces-grow s t l (a .grows) (other-pieces s x l i))) (λ r u b.
       gives (cons y r) u (cons-expanded k d (here .phase) (here .meanings) s t u y r a b)))
 
@@ -147,10 +154,10 @@ module _ (k : ℕ) where
     others : ExpandedAll k d (here .phase) (here .meanings) between tail s′
 
   parts-out : (d : ℕ) (self : Expander) → ExpandGood d self → (here : Surroundings) (x : Stx) (l : Stxs) (s : State)
-      → StateFits k s → MeanWell here s → Pieces s (cons x l) → Outcome Stxs (Parts d here s) (expandAll (self here) (cons x l) s)
+      → StateFits k s → MeanWell here s → Pieces s (cons x l) → Outcome Stxs (Parts d here s) (expandAll (part self here) (cons x l) s)
   unfolding expandAll
   parts-out d self h here x l s g v i =
-      chain _ (h here x s g v (first-piece s x l i)) (λ y t a.
+      chain _ (inside-good d self h (λ p. p) here x s g v (first-piece s x l i)) (λ y t a.
       chain _ (all-out d self h here l t (a .grows .keeps g) (env-grows k (here .phase) s t (a .grows) (here .meanings) v) (pieces-grow s t l (a .grows) (other-pieces s x l i))) (λ r u b.
       gives (cons y r) u (record { head = y; tail = r; is = refl; between = t; first = a; others = b })))
 
@@ -182,7 +189,7 @@ module _ (k : ℕ) where
       let mean : MeaningGood k (here .phase) (b .name) u (variable (b .sets) x) =
       meaning-grows k (here .phase) (b .name) t u (kept-grows k t u (ad .1)) (variable (b .sets) x)
       (le-trans (le-trans (g .core-first) (g .names-from)) (le-of-eq (sym (bd .name-is))), bd .bound-in, bd .sets-in) in
-      chain _ (rec (ofBody b (variable (b .sets) x) here) y u (grown .keeps g) (mean, env-grows k (here .phase) s u grown (here .meanings) v)
+      chain _ (inside-good d self rec (add (b .scope)) (ofBody b (variable (b .sets) x) here) y u (grown .keeps g) (mean, env-grows k (here .phase) s u grown (here .meanings) v)
       (added (b .scope) (here .phase) body y s t u (bd .scope-le) (bd .grows) ib ad)) (λ out s′ a.
       weaken (made-out (list c (cons h (cons (atom (b .sets) (symbol x)) (cons out nil)))) s′) (λ r w m.
       expanded-same k (suc d) (here .phase) (here .meanings) s s′ w (list c (cons h (cons (atom (b .sets) (symbol x)) (cons out nil)))) r (m .1) (m .0)
@@ -211,7 +218,7 @@ module _ (k : ℕ) where
   binding-out d self rec here ci x rhs body s g v ic hx ir ib =
       chain _ (bindFresh-out k (here .phase) ci x s g hx ic) (λ b t bd. chain _ (unless-out noPhase refl (leb (here .phase + 1) lastPhase) t) (λ n t₂ un.
       let g₂ : Grows k s t₂ = subst (λ (z : State). Grows k s z) (un .1) (bd .grows) in
-      chain _ (rec (ofRightHandSide here) rhs t₂ (g₂ .keeps g) tt (piece-grows s t₂ rhs g₂ ir)) (λ r t₃ rh.
+      chain _ (inside-good d self rec (λ p. noScopes) (ofRightHandSide here) rhs t₂ (g₂ .keeps g) tt (piece-grows s t₂ rhs g₂ ir)) (λ r t₃ rh.
       chain _ (costs-out (rh .parses d (le-refl d) t₃ same)) (λ tr t₄ pa.
       let good : TreeGood k (t₃ .names) (t₃ .scopes) tr = subst (TreeGood k (t₃ .names) (t₃ .scopes)) (pa .0) (right-hand-side-has-no-free-variable d (here .phase + 1) t₂ t₃ r rh) in
       chain _ (evaluate-good k (t₃ .names) (t₃ .scopes) d tr good t₄) (λ val t₅ ev. chain _ (addTo-out (b .scope) (here .phase) body t₅) (λ y u ad.
@@ -222,7 +229,7 @@ module _ (k : ℕ) where
       let g₆ : Grows k s u = grows-trans k s t₃ u g₃ (kept-grows k t₃ u kp) in
       let reached : b .scope ≤ t₅ .scopes = le-trans (le-trans (bd .scope-le) (le-of-eq (ap (λ (z : State). z .scopes) (un .1))))
       (le-trans (rh .grows .scopes-le) (le-of-eq (kp₅ .scopes-is))) in
-      weaken (rec (ofBody b (macro val) here) y u (g₆ .keeps g)
+      weaken (inside-good d self rec (add (b .scope)) (ofBody b (macro val) here) y u (g₆ .keeps g)
       (value-grows k t₃ u (kept-grows k t₃ u kp) val (ev .0 .0), env-grows k (here .phase) s u g₆ (here .meanings) v)
       (added (b .scope) (here .phase) body y s t₅ u reached g₅ ib ad)) (λ out s′ a.
       expanded-vars k (suc d) (here .phase) (here .meanings) (extend (b .name) (macro val) (here .meanings)) s s′ out refl
@@ -261,18 +268,20 @@ module _ (k : ℕ) where
       let i₃ : Piece t₃ used = added us (here .phase) form used s t₂ t₃ (le-trans (f₁ .1) (f₂ .0 .scopes-le)) g₂ i ad in
       chain _ (flipIn-out intro (here .phase) used t₃) (λ marked t₄ fl.
       let i₄ : Piece t₄ marked = flipped intro (here .phase) used marked t₃ t₄ (le-trans (f₂ .1) (le-of-eq (ad .1 .scopes-is))) i₃ fl in
-      let kp₄ : Kept t₂ t₄ = kept-trans (ad .1) (fl .1) in
-      let g₄ : Grows k s t₄ = grows-trans k s t₂ t₄ g₂ (kept-grows k t₂ t₄ kp₄) in
-      chain _ (application-of k (t₄ .names) (t₄ .scopes) d v (tcons (stx marked) tnil) (value-grows k s t₄ g₄ v gv) (piece-value t₄ marked i₄, tt) t₄) (λ r t₅ ev.
-      chain _ (syntax-out (asStx r) t₅) (λ x t₆ sy.
-      let kp₆ : Kept t₄ t₆ = kept-trans (ev .1) (kept-same (sy .1)) in
-      let i₆ : Piece t₆ x = piece-grows t₄ t₆ x (kept-grows k t₄ t₆ kp₆) (value-piece t₄ r x (ev .0 .0) (sy .0)) in
-      chain _ (flipIn-out intro (here .phase) x t₆) (λ back t₇ fl₇.
-      let kp₂₆ : Kept t₂ t₆ = kept-trans kp₄ kp₆ in
-      let i₇ : Piece t₇ back = flipped intro (here .phase) x back t₆ t₇ (le-trans (f₂ .1) (le-of-eq (kp₂₆ .scopes-is))) i₆ fl₇ in
-      let g₇ : Grows k s t₇ = grows-trans k s t₂ t₇ g₂ (kept-grows k t₂ t₇ (kept-trans kp₂₆ (fl₇ .1))) in
-      weaken (rec (ofResult us here) back t₇ (g₇ .keeps g) (env-grows k (here .phase) s t₇ g₇ (here .meanings) w) i₇) (λ out s′ a.
-      expanded-after k d (suc d) (here .phase) (here .meanings) s t₇ s′ out (up d) g₇ a))))))))
+      chain _ (useScope-out us t₄) (λ n t₅ kp₅.
+      let kp₂₅ : Kept t₂ t₅ = kept-trans (ad .1) (kept-trans (fl .1) kp₅) in
+      let g₅ : Grows k s t₅ = grows-trans k s t₂ t₅ g₂ (kept-grows k t₂ t₅ kp₂₅) in
+      let i₅ : Piece t₅ marked = piece-grows t₄ t₅ marked (kept-grows k t₄ t₅ kp₅) i₄ in
+      chain _ (application-of k (t₅ .names) (t₅ .scopes) d v (tcons (stx marked) tnil) (value-grows k s t₅ g₅ v gv) (piece-value t₅ marked i₅, tt) t₅) (λ r t₆ ev.
+      chain _ (syntax-out (asStx r) t₆) (λ x t₇ sy.
+      let kp₇ : Kept t₅ t₇ = kept-trans (ev .1) (kept-same (sy .1)) in
+      let i₇ : Piece t₇ x = piece-grows t₅ t₇ x (kept-grows k t₅ t₇ kp₇) (value-piece t₅ r x (ev .0 .0) (sy .0)) in
+      chain _ (flipIn-out intro (here .phase) x t₇) (λ back t₈ fl₈.
+      let kp₂₇ : Kept t₂ t₇ = kept-trans kp₂₅ kp₇ in
+      let i₈ : Piece t₈ back = flipped intro (here .phase) x back t₇ t₈ (le-trans (f₂ .1) (le-of-eq (kp₂₇ .scopes-is))) i₇ fl₈ in
+      let g₈ : Grows k s t₈ = grows-trans k s t₂ t₈ g₂ (kept-grows k t₂ t₈ (kept-trans kp₂₇ (fl₈ .1))) in
+      weaken (rec here back t₈ (g₈ .keeps g) (env-grows k (here .phase) s t₈ g₈ (here .meanings) w) i₈) (λ out s′ a.
+      expanded-after k d (suc d) (here .phase) (here .meanings) s t₈ s′ out (up d) g₈ a)))))))))
 
   -- ---- quote and syntax
 
@@ -288,17 +297,17 @@ module _ (k : ℕ) where
       (piece-grows s t (list c (cons h (cons (pruneScopes p ph x) nil))) (kept-grows k s t (f .1)) r)
 
   syntax-form : (d : ℕ) (here : Surroundings) (c : Sets) (h : Stx) (l : Stxs) (s : State) → Piece s (list c (cons h l)) → Stays k (here .phase) h syntax s
-      → Outcome Stx (ExpandedIn (suc d) here s) (expandSyntax here c h l s)
-  unfolding expandSyntax
+      → Outcome Stx (ExpandedIn (suc d) here s) (expandSyntax (here .phase) c h l s)
+  unfolding expandSyntax prunableNow
   syntax-form d here c h l s i hd =
-      parts1-out l _ s (λ x q. chain _ (pruneFrom-out (here .prunable) (here .phase) x s) (λ y t f.
+      parts1-out l _ s (λ x q. chain _ (pruneFrom-out (s .prunable) (here .phase) x s) (λ y t f.
       gives (list c (cons h (cons y nil))) t
       (expanded-after k (suc d) (suc d) (here .phase) (here .meanings) s t t (list c (cons h (cons y nil))) (le-refl (suc d)) (kept-grows k s t (f .1))
       (syntax-expanded k d (here .phase) (here .meanings) c h y t (pruned x y t q f .fits) (pruned x y t q f .shallow)
       (λ st w. hd st (later-trans (s .scopes) (t .scopes) (s .binds) (t .binds) (st .binds) (kept-grows k s t (f .1) .scopes-le) (kept-grows k s t (f .1) .later) w))))))
     where
-      pruned : (x y : Stx) (t : State) → l ≡ cons x nil → (pruneScopes (here .prunable) (here .phase) x ≡ y) × Kept s t → Piece t (list c (cons h (cons y nil)))
-      pruned x y t q f = pruned-piece (here .prunable) (here .phase) c h x y s t (subst (λ (z : Stxs). Piece s (list c (cons h z))) q i) f
+      pruned : (x y : Stx) (t : State) → l ≡ cons x nil → (pruneScopes (s .prunable) (here .phase) x ≡ y) × Kept s t → Piece t (list c (cons h (cons y nil)))
+      pruned x y t q f = pruned-piece (s .prunable) (here .phase) c h x y s t (subst (λ (z : Stxs). Piece s (list c (cons h z))) q i) f
 
   quote-form : (d : ℕ) (here : Surroundings) (c : Sets) (h : Stx) (l : Stxs) (s : State) → Piece s (list c (cons h l)) → Stays k (here .phase) h quote s
       → Outcome Stx (ExpandedIn (suc d) here s) (parts1 l (λ x. λ t. ok (list c (cons h l)) t) s)

@@ -7,12 +7,12 @@ use lib.Dec.{leb}
 use Rattle.model.specs.Choice.{if_then_else_}
 use Rattle.model.specs.Limits.{mostNesting}
 use Rattle.model.specs.Refusals.{Refusal, layout, overLimit, unowned, wrongKind, smallTable, ambiguous, noMeaning, noRule, noSyntax, notApplicable, wrongArgument, noPhase, noNameLeft, noScopeLeft, noBindingLeft, tooDeep, tooManyEntries, overBudget, tooLong}
-use Rattle.model.specs.Scopes.{Scopes}
+use Rattle.model.specs.Scopes.{Scopes, add}
 use Rattle.model.specs.Objects.{symbol, number, point, prim, rung, Sets, setAt, Stx, atom, list, Stxs, nil, cons, size, nesting, addScope, flipScope, pruneScopes}
 use Rattle.model.specs.Trees.{Tree, tnesting}
 use Rattle.model.specs.Resolving.{Found, means, several, resolve}
 use Rattle.model.specs.Competing.{Rivals, noRivals, rivals}
-use Rattle.model.specs.Steps.{State, Out, ok, no, Step, after, unless, charge, made, madeTree, addTo, flipIn, pruneFrom, nameOf, resolveAt, parts1, parts2, parts3, identifier}
+use Rattle.model.specs.Steps.{State, Out, ok, no, Step, after, unless, charge, made, madeTree, addTo, flipIn, pruneFrom, carrying, useScope, inside, nameOf, resolveAt, parts1, parts2, parts3, identifier}
 use borrow.Author.Tests.{leb-true}
 use Rattle.laws.specs.Ordered.{Sorted}
 use Rattle.laws.specs.Rivalry.{Told}
@@ -50,6 +50,11 @@ pub chain : {A B : Type 0} {P : A → State → Type 0} {Q : B → State → Typ
 chain f (gives a t p) h = h a t p
 chain f (stops r q u p) h = stops r q u p
 
+-- what holds of a step's result says something else
+pub weaken : {A : Type 0} {P Q : A → State → Type 0} {o : Out A} → Outcome A P o → ((a : A) (t : State) → P a t → Q a t) → Outcome A Q o
+weaken (gives a t p) h = gives a t (h a t p)
+weaken (stops r q u p) h = stops r q u p
+
 -- ---- counts and bindings are kept, units are only charged
 
 pub record Kept (s t : State) : Type 0 where
@@ -76,7 +81,33 @@ pub kept-spend : (n : ℕ) (s : State) → Kept s (spend n s)
 unfolding spend
 kept-spend n s = record { names-is = refl; scopes-is = refl; binds-is = refl; left-le = sub-le (s .left) n }
 
+-- the prunable set is no part of this
+pub kept-carrying : (p : Scopes) (s : State) → Kept s (carrying p s)
+unfolding carrying
+kept-carrying p s = record { names-is = refl; scopes-is = refl; binds-is = refl; left-le = le-refl (s .left) }
+
 -- ---- the steps
+
+pub useScope-out : (k : ℕ) (s : State) → Outcome (Unit {0}) (λ v t. Kept s t) (useScope k s)
+unfolding useScope
+useScope-out k s = gives tt (carrying (add k (s .prunable)) s) (kept-carrying (add k (s .prunable)) s)
+
+-- an expansion of its own: what holds from a state that differs in the prunable set alone, to one that does
+pub inside-out : {A : Type 0} {P : State → A → State → Type 0} {Q : A → State → Type 0} (f : Scopes → Scopes) (m : Step A) (s : State)
+    → ((t : State) → Kept s t → Outcome A (P t) (m t)) → ((t : State) → Kept s t → (a : A) (u w : State) → Kept u w → P t a u → Q a w)
+    → Outcome A Q (inside f m s)
+unfolding inside
+inside-out {A} {P} {Q} f m s h back = go (h here kept)
+  where
+    here : State
+    here = carrying (f (s .prunable)) s
+
+    kept : Kept s here
+    kept = kept-carrying (f (s .prunable)) s
+
+    go : {o : Out A} → Outcome A (P here) o → Outcome A Q (after o (λ a t. ok a (carrying (s .prunable) t)))
+    go (gives a u p) = gives a (carrying (s .prunable) u) (back here kept a u (carrying (s .prunable) u) (kept-carrying (s .prunable) u) p)
+    go (stops r q u p) = stops r q u p
 
 pub charge-out : (n : ℕ) (s : State) → Outcome (Unit {0}) (λ v t. Kept s t) (charge n s)
 unfolding charge spend

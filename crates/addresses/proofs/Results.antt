@@ -195,6 +195,29 @@ module _ (k : ℕ) where
     plain = g .plain;
   }
 
+  -- the prunable set differs afterwards
+  pub expanded-kept : (d ph : ℕ) (e : Env) (s t u : State) (r : Stx) → Kept t u → Expanded d ph e s r t → Expanded d ph e s r u
+  expanded-kept d ph e s t u r kp g = record {
+    grows = grows-trans k s t u (g .grows) w;
+    fits = stx-more k (w .scopes-le) r (g .fits);
+    shallow = g .shallow;
+    tree = g .tree;
+    cost = g .cost;
+    parses = λ m h st l. g .parses m h st (back st l);
+    tree-fits = tree-more k (w .names-le) (w .scopes-le) (g .tree) (g .tree-fits);
+    tree-shallow = g .tree-shallow;
+    tree-shorter = g .tree-shorter;
+    owned = g .owned;
+    rises = subst (λ (z : ℕ). Rise (s .names) z (functionNames (g .tree))) (kp .names-is) (g .rises);
+    plain = λ st l. g .plain st (back st l);
+  }
+    where
+      w : Grows k t u
+      w = kept-grows k t u kp
+
+      back : (st : State) → Later (u .scopes) (u .binds) (st .binds) → Later (t .scopes) (t .binds) (st .binds)
+      back st l = later-trans (t .scopes) (u .scopes) (t .binds) (u .binds) (st .binds) (w .scopes-le) (w .later) l
+
   pub expanded-same : (d ph : ℕ) (e : Env) (s t u : State) (x y : Stx) → t ≡ u → x ≡ y → Expanded d ph e s x t → Expanded d ph e s y u
   expanded-same d ph e s t u x y a b w = subst (λ (z : Stx). Expanded d ph e s z u) b (subst (λ (z : State). Expanded d ph e s x z) a w)
 

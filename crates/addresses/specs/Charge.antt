@@ -2,6 +2,7 @@
 use Prim.Native.Nat.{ℕ, _+_}
 use mathlib.Core.Option.{Option, none, some}
 use mathlib.Core.List.{List, [], _∷_}
+use Rattle.model.specs.Scopes.{noScopes}
 use Rattle.model.specs.Objects.{Stx, atom, list, Stxs, nil, cons, size, sizes}
 use Rattle.model.specs.Resolving.{Bind}
 use Rattle.model.specs.Steps.{Out, ok, no}
@@ -15,7 +16,7 @@ formMade (no r p u) = none
 unfoldable pub formAt : ℕ → List Bind → Stxs → Option Form
 unfolding formMade headForm
 formAt ph bs nil = none
-formAt ph bs (cons h l) = formMade (headForm ph h (record { left = 0; names = 0; scopes = 0; binds = bs }))
+formAt ph bs (cons h l) = formMade (headForm ph h (record { left = 0; names = 0; scopes = 0; binds = bs; prunable = noScopes }))
 
 unfoldable pub sumOf : List ℕ → ℕ
 sumOf [] = 0
