@@ -28,7 +28,7 @@ pub record StepAlike (w : Pairing) {A : Type 0} (R : A → A → Type 0) (m n : 
 
 -- ---- one step after another
 
-after-alike : {w : Pairing} {A B : Type 0} {R : A → A → Type 0} {S : B → B → Type 0} {o p : Out A} (f g : A → Step B) → OutAlike w R o p
+pub after-alike : {w : Pairing} {A B : Type 0} {R : A → A → Type 0} {S : B → B → Type 0} {o p : Out A} (f g : A → Step B) → OutAlike w R o p
     → ((a b : A) → R a b → StepAlike w S (f a) (g b)) → OutAlike w S (after o f) (after p g)
 after-alike f g (oks {a} {b} {s} {t} r h) k = k a b r .run s t h
 after-alike f g nos k = nos
