@@ -8,7 +8,7 @@ use Rattle.model.specs.Scopes.{Scope, add}
 use Rattle.model.specs.Objects.{Symbol, Phase, symbol, number, point, prim, rung, Sets, setAt, changeAt, Stx, atom, list, Stxs, nil, cons, size}
 use Rattle.model.specs.Reading.{readSyntax, readImage}
 use Rattle.model.specs.Writing.{syntaxBytes}
-use Rattle.model.specs.Steps.{Units, Entries, Step, ok, done, refuse, charge, made, addTo, freshScope, bind, resolveAt, parts1, parts2, identifier, _>>=_, _>>_}
+use Rattle.model.specs.Steps.{Units, Entries, Step, ok, done, refuse, charge, made, addTo, freshScope, inside, bind, resolveAt, parts1, parts2, identifier, _>>=_, _>>_}
 use Rattle.model.specs.Parsing.{lambda, letSyntax, quote, syntax}
 use Rattle.model.specs.Expanding.{Meaning, core, variable, macro, unknown, meaning, headMeaning, expandName, Binder, bindFresh, Surroundings, ofRoot, ofBody, Expander, expandAll, expandSyntax, expandLetSyntax, expandMacro}
 use Rattle.model.specs.Jobs.{Ending, lent, atPhase, withImage, start, worked, fitted, reached}
@@ -25,11 +25,11 @@ pub record Rules : Type 0 where
   pub parts : (Stx → Step Stx) → Stxs → Step Stxs
 
 unfoldable pub ruledFunction : Rules → Expander → Surroundings → Sets → Stx → Sets → Symbol → Stx → Step Stx
-unfolding made add
+unfolding made inside add
 ruledFunction w self here c h ci x body = do
   b ← w .binder (here .phase) ci x
   in-scope ← w .inScope (b .scope) (here .phase) body
-  out ← self (ofBody b (variable (b .sets) x) here) in-scope
+  out ← inside (add (b .scope)) (self (ofBody b (variable (b .sets) x) here) in-scope)
   made (list c (cons h (cons (atom (b .sets) (symbol x)) (cons out nil))))
 
 unfoldable pub ruledLambda : Rules → Expander → Surroundings → Sets → Stx → Stxs → Step Stx
@@ -37,9 +37,9 @@ unfolding parts2 identifier ruledFunction
 ruledLambda w self here c h l = parts2 l (λ i body. identifier i (λ ci x. ruledFunction w self here c h ci x body))
 
 unfoldable pub ruledApplication : Rules → Expander → Surroundings → Sets → Stxs → Step Stx
-unfolding made
+unfolding made inside
 ruledApplication w self here c l = do
-  r ← w .parts (self here) l
+  r ← w .parts (λ x. inside (λ p. p) (self here x)) l
   made (list c r)
 
 unfoldable pub ruledForm : Rules → Expander → Entries → Surroundings → Sets → Stx → Stxs → Meaning → Step Stx
@@ -47,7 +47,7 @@ unfolding ruledLambda expandLetSyntax expandSyntax expandMacro ruledApplication 
 ruledForm w self d here c h l (core lambda) = ruledLambda w self here c h l
 ruledForm w self d here c h l (core letSyntax) = expandLetSyntax self d here l
 ruledForm w self d here c h l (core quote) = parts1 l (λ s. done (list c (cons h l)))
-ruledForm w self d here c h l (core syntax) = expandSyntax here c h l
+ruledForm w self d here c h l (core syntax) = expandSyntax (here .phase) c h l
 ruledForm w self d here c h l (variable b x) = ruledApplication w self here c (cons h l)
 ruledForm w self d here c h l (macro v) = expandMacro self d here v (list c (cons h l))
 ruledForm w self d here c h l unknown = ruledApplication w self here c (cons h l)
