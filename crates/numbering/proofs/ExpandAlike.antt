@@ -6,6 +6,7 @@ use mathlib.Core.Option.{Option}
 use lib.Dec.{leb}
 use Rattle.model.specs.Limits.{lastPhase}
 use Rattle.model.specs.Refusals.{noMeaning, noRule, noSyntax, noPhase, tooManyEntries}
+use Rattle.model.specs.Scopes.{noScopes, add}
 use Rattle.model.specs.Objects.{symbol, number, point, prim, rung, Sets, Stx, atom, list, Stxs, nil, cons}
 use Rattle.model.specs.Trees.{Tree}
 use Rattle.model.specs.Steps.{Step}
@@ -18,7 +19,7 @@ use Rattle.alike.proofs.ParseAlike.{Seen, SeenAll, parse-alike}
 use Rattle.numbering.proofs.Values.{OptionAlike, nones, somes, asStx-alike}
 use Rattle.numbering.proofs.Meanings.{MeaningAlike, cores, variables, macros, unknowns, EnvAlike, core-only, extends, HereAlike, heres, meaning-alike}
 use Rattle.numbering.proofs.Shapes.{made-alike, parts1-alike, parts2-alike, parts3-alike, identifier-alike}
-use Rattle.numbering.proofs.States.{Renumbering, pairing, then-scope, then-binder, addTo-alike, flipIn-alike, pruneFrom-alike, freshScope-alike, agree-alike, resolveAt-alike, bindFresh-alike}
+use Rattle.numbering.proofs.States.{Renumbering, pairing, then-scope, then-binder, addTo-alike, flipIn-alike, pruneFrom-alike, freshScope-alike, prunableNow-alike, useScope-alike, inside-alike, agree-alike, resolveAt-alike, bindFresh-alike}
 use Rattle.numbering.proofs.EvaluateAlike.{evaluate-alike}
 
 -- every identifier is seen
@@ -92,50 +93,53 @@ module _ (q : Renumbering) where
         → StepAlike W (StxAlike ρ) (expandApplication f a c l) (expandApplication g b d r)
     unfolding expandApplication
     application-alike a b h c d i l r j =
-        then-alike _ _ (expandAll-alike (f a) (g b) (k a b h) j) (λ l₁ r₁ j₁. made-alike ρ (list c l₁) (list d r₁) (lists i j₁))
+        then-alike _ _ (expandAll-alike _ _ (λ x y o. inside-alike q (λ p. p) (λ p. p) (λ s t u. u) _ _ (k a b h x y o)) j) (λ l₁ r₁ j₁.
+        made-alike ρ (list c l₁) (list d r₁) (lists i j₁))
 
     function-alike : {a b : Surroundings} → HereAlike ρ a b → (c d : Sets) → SetsAlike ρ c d → (x y : Stx) → StxAlike ρ x y
         → (ci di : Sets) → SetsAlike ρ ci di → (s : ℕ) (body other : Stx) → StxAlike ρ body other
         → StepAlike W (StxAlike ρ) (expandFunction f a c x ci s body) (expandFunction g b d y di s other)
     unfolding expandFunction
-    function-alike (heres {ph} {p} {q = o} e u) c d i x y j ci di m s body other t =
+    function-alike (heres {ph} e) c d i x y j ci di m s body other t =
         then-binder q _ _ (bindFresh-alike q ph ci di m s) (λ n z c₁ c₂ v w.
         then-alike _ _ (addTo-alike q z ph v body other t) (λ x₁ y₁ t₁.
-        then-alike _ _ (k _ _ (heres (extends (variables w) e) (add-alike ρ z v p o u)) x₁ y₁ t₁) (λ x₂ y₂ t₂.
+        then-alike _ _ (inside-alike q (add z) (add z) (add-alike ρ z v) _ _ (k _ _ (heres (extends (variables w) e)) x₁ y₁ t₁)) (λ x₂ y₂ t₂.
         made-alike ρ _ _ (lists i (conses j (conses (atoms (symbol s) w) (conses t₂ nils)))))))
 
     binding-alike : (n : ℕ) {a b : Surroundings} → HereAlike ρ a b → (ci di : Sets) → SetsAlike ρ ci di → (s : ℕ) (x y : Stx) → StxAlike ρ x y
         → (body other : Stx) → StxAlike ρ body other → StepAlike W (StxAlike ρ) (expandBinding f n a ci s x body) (expandBinding g n b di s y other)
     unfolding expandBinding
-    binding-alike n (heres {ph} {p} {q = o} e u) ci di m s x y j body other t =
+    binding-alike n (heres {ph} e) ci di m s x y j body other t =
         then-binder q _ _ (bindFresh-alike q ph ci di m s) (λ n₀ z c₁ c₂ v w.
         then-same _ _ (unless-alike noPhase (leb (ph + 1) lastPhase) (leb (ph + 1) lastPhase) refl) (λ n₁.
-        then-alike _ _ (k _ _ (heres core-only (none-alike ρ)) x y j) (λ x₁ y₁ j₁.
+        then-alike _ _ (inside-alike q (λ p. noScopes) (λ p. noScopes) (λ c d i. none-alike ρ) _ _ (k _ _ (heres core-only) x y j)) (λ x₁ y₁ j₁.
         then-alike _ _ (parsed n (ph + 1) x₁ y₁ j₁) (λ t₁ t₂ i₁.
         then-alike _ _ (evaluate-alike W ρ n t₁ t₂ i₁) (λ v₁ v₂ i₂.
         then-alike _ _ (addTo-alike q z ph v body other t) (λ x₂ y₂ j₂.
-        k _ _ (heres (extends (macros i₂) e) (add-alike ρ z v p o u)) x₂ y₂ j₂))))))
+        inside-alike q (add z) (add z) (add-alike ρ z v) _ _ (k _ _ (heres (extends (macros i₂) e)) x₂ y₂ j₂)))))))
 
     macro-alike : (n : ℕ) {a b : Surroundings} → HereAlike ρ a b → (t u : Tree) → TreeAlike ρ t u → (x y : Stx) → StxAlike ρ x y
         → StepAlike W (StxAlike ρ) (expandMacro f n a t x) (expandMacro g n b u y)
     unfolding expandMacro
-    macro-alike n (heres {ph} {p} {q = o} e u) t t₀ i x y j =
+    macro-alike n (heres {ph} e) t t₀ i x y j =
         then-scope q _ _ (freshScope-alike q) (λ z v.
         then-scope q _ _ (freshScope-alike q) (λ intro w.
         then-alike _ _ (addTo-alike q z ph v x y j) (λ x₁ y₁ j₁.
         then-alike _ _ (flipIn-alike q intro ph w x₁ y₁ j₁) (λ x₂ y₂ j₂.
+        then-same _ _ (useScope-alike q z v) (λ n₁.
         then-alike _ _ (evaluate-alike W ρ n _ _ (apps i (tconses (stxs j₂) tnils))) (λ t₁ t₂ i₁.
         then-alike _ _ (orNoSyntax-alike (asStx-alike ρ i₁)) (λ x₃ y₃ j₃.
         then-alike _ _ (flipIn-alike q intro ph w x₃ y₃ j₃) (λ x₄ y₄ j₄.
-        k _ _ (heres e (add-alike ρ z v p o u)) x₄ y₄ j₄)))))))
+        k _ _ (heres {ph = ph} e) x₄ y₄ j₄))))))))
 
     syntax-alike : {a b : Surroundings} → HereAlike ρ a b → (c d : Sets) → SetsAlike ρ c d → (x y : Stx) → StxAlike ρ x y → (l r : Stxs)
         → StxsAlike ρ l r
-        → StepAlike W (StxAlike ρ) (expandSyntax a c x l) (expandSyntax b d y r)
+        → StepAlike W (StxAlike ρ) (expandSyntax (a .phase) c x l) (expandSyntax (b .phase) d y r)
     unfolding expandSyntax
-    syntax-alike (heres {ph} {p} {q = o} e u) c d i x y j l r m =
+    syntax-alike (heres {ph} e) c d i x y j l r m =
         parts1-alike ρ _ _ m (λ s t h.
-        then-alike _ _ (pruneFrom-alike q p o u ph s t h) (λ s₁ t₁ h₁. done-alike (lists i (conses j (conses h₁ nils)))))
+        then-alike _ _ (prunableNow-alike q) (λ p₁ p₂ u.
+        then-alike _ _ (pruneFrom-alike q p₁ p₂ u ph s t h) (λ s₁ t₁ h₁. done-alike (lists i (conses j (conses h₁ nils))))))
 
     form-alike : (n : ℕ) (a b : Surroundings) → HereAlike ρ a b → (c d : Sets) → SetsAlike ρ c d → (x y : Stx) → StxAlike ρ x y
         → (l r : Stxs) → StxsAlike ρ l r → {o p : Meaning} → MeaningAlike ρ o p
@@ -158,15 +162,15 @@ module _ (q : Renumbering) where
     expandEntry-alike : (n : ℕ) (a b : Surroundings) → HereAlike ρ a b → (x y : Stx) → StxAlike ρ x y
         → StepAlike W (StxAlike ρ) (expandEntry f n a x) (expandEntry g n b y)
     unfolding expandEntry
-    expandEntry-alike n a b (heres {ph} e u) x y (atoms {c} {d} (symbol s) i) =
+    expandEntry-alike n a b (heres {ph} e) x y (atoms {c} {d} (symbol s) i) =
         then-same _ _ (resolveAt-alike q ph c d i s) (λ o. expandName-alike (meaning-alike ρ o e))
     expandEntry-alike n a b h x y (atoms (number s) i) = done-alike (atoms (number s) i)
     expandEntry-alike n a b h x y (atoms (point s) i) = done-alike (atoms (point s) i)
     expandEntry-alike n a b h x y (atoms (prim s) i) = done-alike (atoms (prim s) i)
     expandEntry-alike n a b h x y (atoms (rung s) i) = done-alike (atoms (rung s) i)
     expandEntry-alike n a b h x y (lists i nils) = refuse-alike noRule
-    expandEntry-alike n a b (heres {ph} {e} {f = e₀} m u) x y (lists {c} {d} i (conses {x = s} {y = t} {l} {r} j o)) =
-        then-alike _ _ (headMeaning-alike ph e e₀ m s t j) (λ v w z. form-alike n _ _ (heres m u) c d i s t j l r o z)
+    expandEntry-alike n a b (heres {ph} {e} {f = e₀} m) x y (lists {c} {d} i (conses {x = s} {y = t} {l} {r} j o)) =
+        then-alike _ _ (headMeaning-alike ph e e₀ m s t j) (λ v w z. form-alike n _ _ (heres m) c d i s t j l r o z)
 
   pub expand-alike : (n : ℕ) (a b : Surroundings) → HereAlike ρ a b → (x y : Stx) → StxAlike ρ x y
       → StepAlike W (StxAlike ρ) (expand n a x) (expand n b y)

@@ -5,12 +5,11 @@ use mathlib.Core.Bool.{Bool, true, false}
 use mathlib.Core.Option.{Option, none, some}
 use lib.Dec.{eqb}
 use Rattle.model.specs.Choice.{if_then_else_}
-use Rattle.model.specs.Scopes.{Scopes}
 use Rattle.model.specs.Objects.{Sets}
 use Rattle.model.specs.Trees.{Tree}
 use Rattle.model.specs.Parsing.{Form, formOf}
 use Rattle.model.specs.Expanding.{Meaning, core, variable, macro, unknown, Env, coreOnly, extend, coreMeaning, meaning, Binder, Surroundings}
-use Rattle.alike.proofs.Alike.{NewNumbers, SetAlike, SetsAlike, TreeAlike}
+use Rattle.alike.proofs.Alike.{NewNumbers, SetsAlike, TreeAlike}
 
 pub data MeaningAlike (ρ : NewNumbers) : Meaning → Meaning → Type 0 where
   cores : {f : Form} → MeaningAlike ρ (core f) (core f)
@@ -23,8 +22,7 @@ pub data EnvAlike (ρ : NewNumbers) : Env → Env → Type 0 where
   extends : {n : ℕ} {m o : Meaning} {e f : Env} → MeaningAlike ρ m o → EnvAlike ρ e f → EnvAlike ρ (extend n m e) (extend n o f)
 
 pub data HereAlike (ρ : NewNumbers) : Surroundings → Surroundings → Type 0 where
-  heres : {ph : ℕ} {e f : Env} {p q : Scopes} → EnvAlike ρ e f → SetAlike ρ p q
-      → HereAlike ρ (record { phase = ph; meanings = e; prunable = p }) (record { phase = ph; meanings = f; prunable = q })
+  heres : {ph : ℕ} {e f : Env} → EnvAlike ρ e f → HereAlike ρ (record { phase = ph; meanings = e }) (record { phase = ph; meanings = f })
 
 -- a scope that is left as it is
 pub data ScopeAlike (ρ : NewNumbers) : ℕ → ℕ → Type 0 where

@@ -38,7 +38,7 @@ root-expands : (q : Renumbering) (ph : ℕ) (x y : Stx) → StxAlike (q .map) x 
 unfolding expandRoot
 root-expands q ph x y h =
     then-same _ _ (charges-alike (size x) (size y) (size-alike (q .map) h)) (λ u.
-    expand-alike q mostEntries (ofRoot ph) (ofRoot ph) (heres core-only (none-alike (q .map))) x y h)
+    expand-alike q mostEntries (ofRoot ph) (ofRoot ph) (heres core-only) x y h)
 
 renumbered-is : (g : ℕ → ℕ) (image rest : List ℕ) (i : Image Stx) → readImage readSyntax image ≡ got i rest
     → renumbered g image ≡ syntaxBytes (i .head) (renumberBinds g (i .binds)) (renumberStx g (i .root))
@@ -96,7 +96,7 @@ module _ (i : Image Stx) (fit : SyntaxFits (i .head) (i .binds) (i .root)) (f : 
   unfolding start
   start-alike budget =
       states (le-refl n)
-      (renumbered-alike ρ zero-is n few-scopes up (symbols (i .head)) (i .head .names) (i .binds) (fit .binds-fit) (fit .ascending))
+      (renumbered-alike ρ zero-is n few-scopes up (symbols (i .head)) (i .head .names) (i .binds) (fit .binds-fit) (fit .ascending)) (none-alike ρ)
 
   -- ---- what is written
 
@@ -117,7 +117,7 @@ module _ (i : Image Stx) (fit : SyntaxFits (i .head) (i .binds) (i .root)) (f : 
       → SyntaxFits (reached (i .head) t) (t .binds) b
       → syntaxBytes (reached (i .head) t) (t .binds) b ≡ renumbered g (syntaxBytes (reached (i .head) s) (s .binds) a)
   unfolding reached
-  state-written a b like s t (states {names} {reached = k} {l} {r = m} base store) one two =
+  state-written a b like s t (states {names} {reached = k} {l} {r = m} base store pruned) one two =
       written-alike (record { words = i .head .words; names = names; scopes = k }) a b l m base store like one two
 
   -- ---- how the two jobs end
