@@ -16,7 +16,7 @@ use Rattle.scopes.specs.Sets.{wordsFrom, setWords}
 use Rattle.scopes.proofs.Stores.{stores-before, stores-after, stores-at}
 use Rattle.scopes.proofs.Words.{words-same}
 use Rattle.store.specs.declared.bindings.Binding.{Binding}
-use Rattle.store.specs.Words.{bindAt, bindsFrom, bindsOf, bindOf, Put, Placed, Shifted}
+use Rattle.store.specs.Words.{bindAt, bindsFrom, bindsOf, bindOf, Put, Placed, Shifted, Inserts}
 use Rattle.store.specs.Sizes.{bindingSize, mostBindings}
 
 -- the store has room for as many bindings as the model allows
@@ -66,7 +66,7 @@ unfolding bindsOf
 binds-length l n = from-length l 0 n
 
 -- two runs of the same bindings
-same-run : (l m : List ℕ) (i j n : ℕ) → ((k : ℕ) → k < n → bindAt l (i + k) ≡ bindAt m (j + k)) → bindsFrom l i n ≡ bindsFrom m j n
+pub same-run : (l m : List ℕ) (i j n : ℕ) → ((k : ℕ) → k < n → bindAt l (i + k) ≡ bindAt m (j + k)) → bindsFrom l i n ≡ bindsFrom m j n
 unfolding bindsFrom
 same-run l m i j zero h = refl
 same-run l m i j (suc n) h =
@@ -183,13 +183,16 @@ put-words l i b h p q = record {
     word (suc (suc (suc (suc k)))) g = absurd (omega arith)
 
 pub inserted : (b : Bind) (was moved now : List ℕ) (n i : ℕ) → n * bindingSize + bindingSize ≤ length moved
-    → Placed b was n i → Shifted (i * bindingSize) (n * bindingSize) was moved → Put b moved now i → bindsOf now (n + 1) ≡ insert b (bindsOf was n)
+    → Placed b was n i → Shifted (i * bindingSize) (n * bindingSize) was moved → Put b moved now i → Inserts b n was now
 unfolding bindsOf bindsFrom
-inserted b was moved now n i h w s e =
-    ap (bindsFrom now 0) (let k : n + 1 ≡ i + suc (n - i) = omega (arith, w .inside) in k)
-    ∙ split-run now 0 i (suc (n - i))
-    ∙ ap₂ _++_ (same-run now was 0 0 i kept) parts
-    ∙ sym (w .there)
+inserted b was moved now n i h w s e = record {
+  binds =
+      ap (bindsFrom now 0) (let k : n + 1 ≡ i + suc (n - i) = omega (arith, w .inside) in k)
+      ∙ split-run now 0 i (suc (n - i))
+      ∙ ap₂ _++_ (same-run now was 0 0 i kept) parts
+      ∙ sym (w .there);
+  kept = λ k g. e .after k (omega (arith, inside)) ∙ s .after k g;
+}
   where
     inside : i ≤ n
     inside = w .inside
@@ -223,6 +226,7 @@ pub record Moving (k hi : ℕ) (was now : List ℕ) : Type 0 where
   pub long : length now ≡ length was
   pub kept : (j : ℕ) → j < k + bindingSize → getD now j 0 ≡ getD was j 0
   pub moved : (j : ℕ) → k ≤ j → j < hi → getD now (j + bindingSize) 0 ≡ getD was j 0
+  pub after : (j : ℕ) → hi + bindingSize ≤ j → getD now j 0 ≡ getD was j 0
 
 pub moving-start : (hi : ℕ) (l : List ℕ) → Moving hi hi l l
 moving-start hi l = record {
@@ -230,6 +234,7 @@ moving-start hi l = record {
   long = refl;
   kept = λ j h. refl;
   moved = λ j h p. absurd (let e : ⊥ = omega arith in e);
+  after = λ j h. refl;
 }
 
 -- the word below k is moved too
@@ -240,6 +245,7 @@ moving-on {k} {hi} {was} {now} w h room = record {
   long = length-set now (k - 1 + bindingSize) (getD now (k - 1) 0) ∙ w .long;
   kept = λ j p. getD-set-other now (k - 1 + bindingSize) j (getD now (k - 1) 0) 0 (λ e. omega arith) ∙ w .kept j (omega arith);
   moved = λ j p q. ⊎-elim (λ e. here j (sym e)) (λ f. above j (omega arith) q) (eq-or-lt-of-le p);
+  after = λ j p. getD-set-other now (k - 1 + bindingSize) j (getD now (k - 1) 0) 0 (λ e. omega (arith, w .below)) ∙ w .after j p;
 }
   where
     there : k - 1 + bindingSize < length now
@@ -256,4 +262,4 @@ moving-on {k} {hi} {was} {now} w h room = record {
     above j p q = getD-set-other now (k - 1 + bindingSize) (j + bindingSize) (getD now (k - 1) 0) 0 (λ e. omega arith) ∙ w .moved j p q
 
 pub moving-end : {lo k hi : ℕ} {was now : List ℕ} → Moving k hi was now → k ≡ lo → Shifted lo hi was now
-moving-end w e = record { kept = λ j h. w .kept j (omega arith); moved = λ j h p. w .moved j (omega arith) p }
+moving-end w e = record { kept = λ j h. w .kept j (omega arith); moved = λ j h p. w .moved j (omega arith) p; after = w .after }

@@ -12,3 +12,7 @@ mostBindings = 512
 
 abbrev pub storeSize : ℕ
 storeSize = mostBindings * bindingSize
+
+-- with the prunable set behind the bindings
+abbrev pub heldSize : ℕ
+heldSize = storeSize + setWords

@@ -3,10 +3,11 @@ use mathlib.Core.Path.{_≡_}
 use mathlib.Core.List.{List, [], _∷_, _++_}
 use Prim.Native.Nat.{ℕ, zero, suc, _+_, _-_, _*_, _%_, _≤_, _<_}
 use lib.ListN.{getD, length}
+use Rattle.model.specs.Scopes.{Scopes}
 use Rattle.model.specs.Resolving.{Bind, insert}
 use Rattle.scopes.specs.Sets.{scopesOf, wordsFrom, wordDigits, setWords}
 use Rattle.store.specs.declared.bindings.Binding.{Binding}
-use Rattle.store.specs.Sizes.{bindingSize}
+use Rattle.store.specs.Sizes.{bindingSize, mostBindings, storeSize}
 
 abbrev pub bindOf : Binding → Bind
 bindOf b = record { symb = b .symbol .0; target = b .target .0; set = scopesOf (b .set) }
@@ -30,6 +31,10 @@ unfoldable pub bindsOf : List ℕ → ℕ → List Bind
 unfolding bindsFrom
 bindsOf l n = bindsFrom l 0 n
 
+-- the prunable set of the store l, behind the bindings
+unfoldable pub prunableOf : List ℕ → Scopes
+prunableOf l = wordsFrom wordDigits setWords l storeSize
+
 -- b is put at place i, and the other words stay
 pub record Put (b : Bind) (was now : List ℕ) (i : ℕ) : Type 0 where
   pub long : length now ≡ length was
@@ -42,7 +47,18 @@ pub record Placed (b : Bind) (l : List ℕ) (n i : ℕ) : Type 0 where
   pub inside : i ≤ n
   pub there : insert b (bindsOf l n) ≡ bindsFrom l 0 i ++ b ∷ bindsFrom l i (n - i)
 
--- the words from lo to hi stand one binding further on, the ones before are as they were
+-- the words from lo to hi stand one binding further on, the ones before and the ones behind are as they were
 pub record Shifted (lo hi : ℕ) (was now : List ℕ) : Type 0 where
   pub kept : (k : ℕ) → k < lo → getD now k 0 ≡ getD was k 0
   pub moved : (k : ℕ) → lo ≤ k → k < hi → getD now (k + bindingSize) 0 ≡ getD was k 0
+  pub after : (k : ℕ) → hi + bindingSize ≤ k → getD now k 0 ≡ getD was k 0
+
+-- b is put in its place among the first n, and the words behind the one more stay
+pub record Inserts (b : Bind) (n : ℕ) (was now : List ℕ) : Type 0 where
+  pub binds : bindsOf now (n + 1) ≡ insert b (bindsOf was n)
+  pub kept : (k : ℕ) → n * bindingSize + bindingSize ≤ k → getD now k 0 ≡ getD was k 0
+
+-- the prunable set is p, and the bindings stay
+pub record Prunes (p : Scopes) (was now : List ℕ) : Type 0 where
+  pub is : prunableOf now ≡ p
+  pub same : (n : ℕ) → n ≤ mostBindings → bindsOf now n ≡ bindsOf was n

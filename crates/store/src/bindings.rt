@@ -3,10 +3,10 @@ use scopes::Name;
 use scopes::ScopeSet;
 use scopes::Symbol;
 ghost use mathlib.Core.Path.{_≡_};
-ghost use Prim.Native.Nat.{_+_, _*_, _%_, _≤_, _<_};
+ghost use Prim.Native.Nat.{_+_, _*_, _%_, _≤_};
 ghost use lib.ListN.{length};
 ghost use Rattle.model.specs.Resolving as model;
-ghost use Rattle.store.specs.Words.{bindOf, bindAt, bindsOf, Put, Placed, Shifted};
+ghost use Rattle.store.specs.Words.{bindOf, bindAt, Put, Placed, Shifted, Inserts};
 ghost use Rattle.store.specs.Sizes.{bindingSize};
 
 pub struct Binding {
@@ -102,7 +102,7 @@ fn shift(store: &mut [u64], lo: usize, hi: usize)
 // b put in its place among the first count, which are one more then. That there is room for it is for the caller to judge.
 pub fn insert(store: &mut [u64], count: usize, b: Binding)
     requires { ⌜ count * bindingSize + bindingSize ≤ length (now store) ⌝ }
-    ensures { λ r. ⌜ bindsOf (now (store .exit)) (count + 1) ≡ model.insert (bindOf b) (bindsOf (now (store .entry)) count) ⌝ }
+    ensures { λ r. ⌜ Inserts (bindOf b) count (now (store .entry)) (now (store .exit)) ⌝ }
 {
     let i = place(store, count, b);
     shift(store, i * Binding::WORDS, count * Binding::WORDS);
