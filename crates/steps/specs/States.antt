@@ -4,6 +4,7 @@ use Prim.Native.Nat.{ℕ, _+_, _-_, _*_, _≤_}
 use lib.ListN.{length}
 use lib.Dec.{eqb, ltb}
 use Rattle.model.specs.Choice.{if_then_else_}
+use Rattle.model.specs.Scopes.{Scopes, noScopes}
 use Rattle.model.specs.Resolving.{Bind}
 use Rattle.model.specs.Steps as m
 use Rattle.refusals.specs.declared.Refusal.{Refusal}
@@ -13,33 +14,34 @@ use Rattle.steps.specs.declared.Stop.{Stop}
 use Rattle.steps.specs.declared.Charged.{Charged}
 use Rattle.steps.specs.declared.Charged.the-variants.{Paid, Refused}
 use Rattle.store.specs.declared.rivals.Rivals.{Rivals}
-use Rattle.store.specs.Sizes.{mostBindings, storeSize}
-use Rattle.store.specs.Words.{bindsOf}
+use Rattle.store.specs.Sizes.{mostBindings, heldSize}
+use Rattle.store.specs.Words.{bindsOf, prunableOf}
 use Rattle.table.specs.Sizes.{tableSize, unitSize}
 
 -- entries in progress: the model's mostEntries
 abbrev pub mostEntries : ℕ
 mostEntries = 128
 
--- what an agreement speaks of that lies outside the state: what the first n places of the store stand for. Evaluate and parse take any;
--- expand takes what its store's contents are.
+-- what an agreement speaks of that lies outside the state: what the first n places of the store stand for, and the prunable set behind them.
+-- Evaluate and parse take any; expand takes what its store's contents are.
 pub record Store : Type 0 where
   pub bindings : ℕ → List Bind
+  pub prunable : Scopes
 
 abbrev pub storeOf : List ℕ → Store
-storeOf l = record { bindings = bindsOf l }
+storeOf l = record { bindings = bindsOf l; prunable = prunableOf l }
 
 -- where any will do
 abbrev pub noStore : Store
-noStore = record { bindings = λ n. [] }
+noStore = record { bindings = λ n. []; prunable = noScopes }
 
 -- the store is whole, and holds no more than it has room for
 pub record Held (st : List ℕ) (s : State) : Type 0 where
   pub few : s .bindings ≤ mostBindings
-  pub wide : storeSize ≤ length st
+  pub wide : heldSize ≤ length st
 
 abbrev pub stateOf : State → Store → m.State
-stateOf s b = record { left = s .left; names = s .names; scopes = s .scopes; binds = b .bindings (s .bindings) }
+stateOf s b = record { left = s .left; names = s .names; scopes = s .scopes; binds = b .bindings (s .bindings); prunable = b .prunable }
 
 -- no bindings compete
 abbrev pub quiet : Rivals
