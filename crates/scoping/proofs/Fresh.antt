@@ -13,7 +13,7 @@ use Rattle.model.specs.Refusals as ref
 use Rattle.model.specs.Scopes.{add}
 use Rattle.model.specs.Objects.{size, Sets, setAt, changeAt, Atom, symbol, number, point, prim, rung, tagOf, contentOf, Stx, atom, list, addScope, flipScope, onSets}
 use Rattle.model.specs.Trees.{stx}
-use Rattle.model.specs.Resolving.{Bind, insert}
+use Rattle.model.specs.Resolving.{Bind}
 use Rattle.model.specs.Competing.{noRivals}
 use Rattle.model.specs.Steps as ms
 use Rattle.model.specs.Steps.{ok, no, after, charge, freshName, freshScope, bind}
@@ -24,9 +24,10 @@ use Rattle.scopes.specs.Sets.{scopesOf, Declared}
 use Rattle.scopes.specs.declared.Name.{Name}
 use Rattle.scopes.specs.declared.Scope.{Scope}
 use Rattle.scopes.specs.declared.ScopeSet.{ScopeSet}
-use Rattle.store.specs.Words.{bindOf, bindsOf, bindsFrom, bindAt}
+use Rattle.store.specs.Words.{bindOf, bindsOf, Inserts}
 use Rattle.store.specs.declared.bindings.Binding.{Binding}
 pub use Rattle.store.proofs.Runs.{binds-length}
+use Rattle.store.proofs.Pruning.{prunable-kept}
 use Rattle.steps.specs.States.{Store, storeOf, noStore, stateOf, stopOf, paid, raisedTo, chargeOf, Room}
 use Rattle.steps.specs.Agreement.{Later, Ended, ended, Gave, Agrees, gives, stops}
 use Rattle.steps.specs.declared.State.{State}
@@ -58,11 +59,11 @@ use Rattle.scoping.specs.declared.Marking.{Marking}
 use Rattle.scoping.specs.declared.Marking.the-variants as marking
 use Rattle.steps.proofs.Laws.{after-after}
 use Rattle.table.specs.Sizes.{nodeSpare, unitSize}
-use Rattle.store.specs.Sizes.{bindingSize, storeSize}
+use Rattle.store.specs.Sizes.{bindingSize, heldSize}
 
 -- ---- the next name and scope
 
-name-ok : (y : ms.State) → y .names < 1024 → freshName y ≡ ok (y .names) (record { left = y .left; names = y .names + 1; scopes = y .scopes; binds = y .binds })
+name-ok : (y : ms.State) → y .names < 1024 → freshName y ≡ ok (y .names) (record { left = y .left; names = y .names + 1; scopes = y .scopes; binds = y .binds; prunable = y .prunable })
 unfolding freshName mostNames
 name-ok y h = rw (lt-ltb (y .names) 1024 h) refl
 
@@ -70,7 +71,7 @@ name-no : (y : ms.State) → 1024 ≤ y .names → freshName y ≡ no ref.noName
 unfolding freshName mostNames
 name-no y h = rw (le-ltb (y .names) 1024 h) refl
 
-pub scope-ok : (y : ms.State) → y .scopes < 256 → freshScope y ≡ ok (y .scopes + 1) (record { left = y .left; names = y .names; scopes = y .scopes + 1; binds = y .binds })
+pub scope-ok : (y : ms.State) → y .scopes < 256 → freshScope y ≡ ok (y .scopes + 1) (record { left = y .left; names = y .names; scopes = y .scopes + 1; binds = y .binds; prunable = y .prunable })
 unfolding freshScope mostScopes
 scope-ok y h = rw (lt-ltb (y .scopes) 256 h) refl
 
@@ -82,7 +83,7 @@ abbrev takes : State → State
 takes s = record { top = s .top; left = s .left; names = s .names + 1; scopes = s .scopes + 1; bindings = s .bindings }
 
 after-name : State → Store → ms.State
-after-name s b = record { left = s .left; names = s .names + 1; scopes = s .scopes; binds = b .bindings (s .bindings) }
+after-name s b = record { left = s .left; names = s .names + 1; scopes = s .scopes; binds = b .bindings (s .bindings); prunable = b .prunable }
 
 module _ (s : State) where
   pub take-no-name : {f : Stop} → 1024 ≤ s .names → f ≡ stopOf NoNameLeft s → Takes s (charged.Refused f)
@@ -145,13 +146,13 @@ module _ (st : List ℕ) (s : State) (b : Binding) where
     room-yet : ltb (length (bindsOf st (s .bindings))) 512 ≡ true
     room-yet = lt-ltb (length (bindsOf st (s .bindings))) 512 (omega (arith, binds-length st (s .bindings)))
 
-    pub put-holds : storeSize ≤ length st → s .bindings * bindingSize ≤ length st
+    pub put-holds : heldSize ≤ length st → s .bindings * bindingSize ≤ length st
     put-holds w = omega arith
 
-    pub put-fits : storeSize ≤ length st → s .bindings * bindingSize + bindingSize ≤ length st
+    pub put-fits : heldSize ≤ length st → s .bindings * bindingSize + bindingSize ≤ length st
     put-fits w = omega arith
 
-    pub put-done : {st1 : List ℕ} → bindsOf st1 (s .bindings + 1) ≡ insert (bindOf b) (bindsOf st (s .bindings))
+    pub put-done : {st1 : List ℕ} → Inserts (bindOf b) (s .bindings) st st1
         → Puts st st1 s b (charged.Paid (record { top = s .top; left = s .left; names = s .names; scopes = s .scopes; bindings = s .bindings + 1 }))
     unfolding bind mostBindings
     put-done {st1} f =
@@ -159,7 +160,7 @@ module _ (st : List ℕ) (s : State) (b : Binding) where
         record {
           means = λ l. gives t (record {
             value = tt;
-            is = rw (room-yet, f) refl;
+            is = rw (room-yet, f .binds, prunable-kept f h) refl;
             shown = record { few = omega arith };
             later = record { kept = later-refl l s .kept; grows = omega arith; fits = omega arith; spent = omega arith };
           });
@@ -176,7 +177,7 @@ module _ {l st : List ℕ} (s : State) {i : ℕ} (r : ReadyBinder l st (unpaid s
   unfolding unpaid size
   bind-copy-ready = record { thing = atom (r .sets) (symbol (r .symb)); shown = r .shown; charged = omega arith; room = omega (arith, r .room .fits); small = r .room .small; low = r .room .low }
 
-  pub bind-wide : storeSize ≤ length st
+  pub bind-wide : heldSize ≤ length st
   bind-wide = r .held .wide
 
   pub bind-few : {t : State} {n : ℕ} → t ≡ raisedTo n s → t .bindings ≤ 512
@@ -388,7 +389,7 @@ module _ (s : State) {x : Charged} (h : x ≡ freshScopeOf s) where
         record {
           means = λ b x w. rw (q .is, tu) (stops _ (
               then-ok _ (scope-ok (stateOf s b) (first .some))
-              ∙ then-no _ (scope-no (record { left = s .left; names = s .names; scopes = s .scopes + 1; binds = b .bindings (s .bindings) }) (omega (arith, q .none, ts)))));
+              ∙ then-no _ (scope-no (record { left = s .left; names = s .names; scopes = s .scopes + 1; binds = b .bindings (s .bindings); prunable = b .prunable }) (omega (arith, q .none, ts)))));
         }
 
     module _ {u : State} (z : y ≡ charged.Paid u) where
@@ -419,12 +420,12 @@ module _ (s : State) {x : Charged} (h : x ≡ freshScopeOf s) where
           record {
             means = λ b x w.
                 let d = a .means b x (rw ut w) in
-                let same : stateOf u b ≡ record { left = s .left; names = s .names; scopes = s .scopes + 1 + 1; binds = b .bindings (s .bindings) } = rw (second .is, first .is) refl in
-                let named : marksRule ph (s .scopes + 1) (s .scopes + 1 + 1) x (record { left = s .left; names = s .names; scopes = s .scopes + 1 + 1; binds = b .bindings (s .bindings) }) ≡ marksRule ph (t .scopes) (u .scopes) x (stateOf u b) =
+                let same : stateOf u b ≡ record { left = s .left; names = s .names; scopes = s .scopes + 1 + 1; binds = b .bindings (s .bindings); prunable = b .prunable } = rw (second .is, first .is) refl in
+                let named : marksRule ph (s .scopes + 1) (s .scopes + 1 + 1) x (record { left = s .left; names = s .names; scopes = s .scopes + 1 + 1; binds = b .bindings (s .bindings); prunable = b .prunable }) ≡ marksRule ph (t .scopes) (u .scopes) x (stateOf u b) =
                 λ j. marksRule ph ((sym ts) j) ((sym us) j) x ((sym same) j) in
                 let goes : markRule ph x (stateOf s b) ≡ marksRule ph (t .scopes) (u .scopes) x (stateOf u b) =
                 then-ok _ (scope-ok (stateOf s b) (first .some))
-                ∙ then-ok _ (scope-ok (record { left = s .left; names = s .names; scopes = s .scopes + 1; binds = b .bindings (s .bindings) }) (omega (arith, second .some, ts)))
+                ∙ then-ok _ (scope-ok (record { left = s .left; names = s .names; scopes = s .scopes + 1; binds = b .bindings (s .bindings); prunable = b .prunable }) (omega (arith, second .some, ts)))
                 ∙ named in
                 since 1 nodeSpare (later-marks l) (omega arith) (omega arith) goes d;
           }

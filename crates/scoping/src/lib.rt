@@ -24,7 +24,7 @@ ghost use Rattle.things.specs.Measuring.{Seen};
 ghost use Rattle.scoping.specs.Changing.{ReadyObject, Changes};
 ghost use Rattle.copying.specs.Copying.{Copyable};
 ghost use Rattle.scoping.specs.Fresh.{freshScopeOf, Takes, Puts, PutsBinder, Keys, Added, ReadyBinder, Binds, BindsFresh, Marks, MarksFresh};
-ghost use Rattle.store.specs.Sizes.{storeSize, mostBindings};
+ghost use Rattle.store.specs.Sizes.{heldSize, mostBindings};
 
 // ---- changes of scopes, charged the object's size
 
@@ -124,7 +124,7 @@ fn key(table: &[u32], i: u32, name: Name, phase: u32) -> Binding
 }
 
 fn put(store: &mut [u64], s: State, b: Binding) -> Charged
-    requires { ⌜ (s .bindings ≤ mostBindings) × (storeSize ≤ length (now store)) ⌝ }
+    requires { ⌜ (s .bindings ≤ mostBindings) × (heldSize ≤ length (now store)) ⌝ }
     ensures { λ r. ⌜ Puts (now (store .entry)) (now (store .exit)) s b r ⌝ }
 {
     let n = s.bindings;
@@ -140,7 +140,7 @@ fn put(store: &mut [u64], s: State, b: Binding) -> Charged
 
 // The same with the binder, which lies at the index.
 fn put_binder(store: &mut [u64], s: State, b: Binding, name: Name, scope: Scope, at: u32) -> Bound
-    requires { ⌜ (s .bindings ≤ mostBindings) × (storeSize ≤ length (now store)) ⌝ }
+    requires { ⌜ (s .bindings ≤ mostBindings) × (heldSize ≤ length (now store)) ⌝ }
     ensures { λ r. ⌜ PutsBinder name scope at (now (store .entry)) (now (store .exit)) s b r ⌝ }
 {
     match put(store, s, b) {
