@@ -5,6 +5,7 @@ use Prim.Native.Nat.{ℕ}
 use lib.Dec.{lit≤, lit<}
 use lib.ListN.{replicate}
 use Rattle.model.specs.Objects.{number, tagOf, contentOf}
+use Rattle.model.specs.Scopes.{noScopes}
 use Rattle.model.specs.Refusals.{overBudget}
 use Rattle.model.specs.Competing.{noRivals}
 use Rattle.model.specs.Steps.{ok, no}
@@ -47,7 +48,7 @@ stands =
 pub met : Ready Rep table (start 5) 89
 met = record { thing = sample; shown = stands; room = record { fits = lit≤ tt; small = lit≤ tt; low = lit≤ tt } }
 
-pub nine : evaluate 128 sample (stateOf (start 5) noStore) ≡ ok (datum (number 9)) (record { left = 0; names = 5; scopes = 0; binds = [] })
+pub nine : evaluate 128 sample (stateOf (start 5) noStore) ≡ ok (datum (number 9)) (record { left = 0; names = 5; scopes = 0; binds = []; prunable = noScopes })
 unfolding evaluate
 nine = refl
 
