@@ -46,13 +46,13 @@ use Rattle.expand.proofs.Agreeing.{beyond}
 use Rattle.expand.proofs.Leaves.{owes-none, owes-one}
 use Rattle.expand.proofs.Rules.{expand-entry, entry-atom, entry-symbol, entry-empty, list-means, list-unclear, form-lambda, form-let-syntax, form-quote, form-syntax, form-variable, form-macro, form-unknown}
 use Rattle.table.specs.Sizes.{cellSize, twoCells, nodeSize}
-use Rattle.store.specs.Sizes.{bindingSize}
+use Rattle.store.specs.Sizes.{bindingSize, heldSize}
 use Rattle.expand.proofs.Within.{within-paid}
 
 -- ---- expand
 
 abbrev inEntry : Surroundings → Surroundings
-inEntry at = record { entries = at .entries - 1; phase = at .phase; meanings = at .meanings; prunable = at .prunable }
+inEntry at = record { entries = at .entries - 1; phase = at .phase; meanings = at .meanings }
 
 module _ (at : Surroundings) (s : State) {u : State} {x : Charged} (h : x ≡ enterOf (at .entries) s) (e : x ≡ charged.Paid u) where
   pub enter-one : 1 ≤ at .entries
@@ -161,6 +161,9 @@ module _ {st l : List ℕ} (s : State) {i c : ℕ} {at : Surroundings} where
   unfolding unpaid
   list-held r = omega (arith, r .within .held .few, r .within .held .wide)
 
+  pub list-wide : ReadyChain l st (unpaid s) i c at → heldSize ≤ length st
+  list-wide r = r .within .held .wide
+
   pub list-macro-held : ReadyChain l st (unpaid s) i c at → Held st s
   list-macro-held r = within-paid s (r .within) .held
 
@@ -258,14 +261,14 @@ module _ {st l : List ℕ} (s : State) {i c : ℕ} {at : Surroundings} where
                 (a .means (storeOf st) (list k (cons (q .first) (q .others))) (q .others) (rw (q .is) at u) (q .cell .shown-others));
           }
 
-      pub list-syntax : {l1 : List ℕ} {r : Answer} → w ≡ meant.Syntax → ExpandedSyntax at l l1 s i (x .head) (x .tail) r → ExpandedList at st st l l1 s i c r
+      pub list-syntax : {l1 : List ℕ} {r : Answer} → w ≡ meant.Syntax → ExpandedSyntax (at .phase) st l l1 s i (x .head) (x .tail) r → ExpandedList at st st l l1 s i c r
       list-syntax z a =
           record {
             means = λ k ps g u v y.
                 let q = first-at ps v h e in
                 let m = on-syntax (p .means (s .top) (q .first) g (q .cell .shown) y) z in
                 rw (q .is, list-means (expansion (at .entries)) (at .entries) (around g at) (stateOf s (storeOf st)) k (q .first) (q .others) m, form-syntax (expansion (at .entries)) (at .entries) (around g at) (stateOf s (storeOf st)) k (q .first) (q .others))
-                (a .means (storeOf st) g k (q .first) (q .others) (rw (q .is) at u) (q .cell .shown) (q .cell .shown-others));
+                (a .means k (q .first) (q .others) (rw (q .is) at u) (q .cell .shown) (q .cell .shown-others));
           }
 
       pub list-is-unclear : {r : Answer} {v : Rivals} → w ≡ meant.Unclear v → r ≡ Refused (ambiguousOf v s) → ExpandedList at st st l l s i c r
@@ -292,6 +295,7 @@ pub ruleset laws = (
   list-inside,
   list-known,
   list-held,
+  list-wide,
   list-head-seen,
   list-form-ready,
   list-tail-ready,

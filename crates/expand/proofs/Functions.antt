@@ -171,21 +171,21 @@ abstraction-scoped-ready r =
     }
 
 module _ {at : Surroundings} {l l1 : List ℕ} {b : Binder} {body : ℕ} {x : Onward} (v : Scoped at l l1 (b .state) b 0 (b .at) body x) where
-  inside : (st : List ℕ) (k : m.Binder) (n : ℕ) (y : Stx) (g : Env) → ShownBinder n l b k → Rep l (b .state .top) body (stx y) → RepE l (b .state .top) (at .meanings) g
+  in-scope : (st : List ℕ) (k : m.Binder) (n : ℕ) (y : Stx) (g : Env) → ShownBinder n l b k → Rep l (b .state .top) body (stx y) → RepE l (b .state .top) (at .meanings) g
       → Agrees (nexts at) 1 cellSize l l1 (b .state) (storeOf st) (scopedRule (around g at) k (variable (k .sets) n) y (stateOf (b .state) (storeOf st))) (onwardOf x)
-  inside st k n y g p q t = v .means (storeOf st) k (variable (k .sets) n) y g (by-name p) (meant-variable (p .rep)) q t
+  in-scope st k n y g p q t = v .means (storeOf st) k (variable (k .sets) n) y g (by-name p) (meant-variable (p .rep)) q t
 
   module _ {st : List ℕ} {i head : ℕ} (r : ReadyAbstraction l st b i head body at) where
     pub abstraction-next-ready : length l1 ≡ length l → ReadyOnward l1 st x at
-    abstraction-next-ready len = onward-ready (inside st (r .binder) (r .symb) (r .thing) (r .within .meant) (r .shown-binder) (r .shown-body) (r .within .known)) (r .within .room) (r .within .held) len refl
+    abstraction-next-ready len = onward-ready (in-scope st (r .binder) (r .symb) (r .thing) (r .within .meant) (r .shown-binder) (r .shown-body) (r .within .known)) (r .within .room) (r .within .held) len refl
 
-    pub abstraction-less : {T : ℕ} → b .state .left * 32 + 16 ≡ T → leftOf x * 32 + 1 < T
-    abstraction-less z = omega (arith, onward-less x (inside st (r .binder) (r .symb) (r .thing) (r .within .meant) (r .shown-binder) (r .shown-body) (r .within .known)))
+    pub abstraction-less : {T : ℕ} → b .state .left * 32 + 16 ≡ T → leftOf x * 32 + 2 < T
+    abstraction-less z = omega (arith, onward-less x (in-scope st (r .binder) (r .symb) (r .thing) (r .within .meant) (r .shown-binder) (r .shown-body) (r .within .known)))
 
   module _ {st st1 l2 : List ℕ} {a : Answer} (w : ExpandedOnward at st st1 l1 l2 x a) where
     abstraction-goes : (k : m.Binder) (n : ℕ) (y : Stx) (g : Env) → ShownBinder n l b k → Rep l (b .state .top) body (stx y) → RepE l (b .state .top) (at .meanings) g
         → Agrees objects 2 nodeSpare l l2 (b .state) (storeOf st1) (after (scopedRule (around g at) k (variable (k .sets) n) y (stateOf (b .state) (storeOf st))) (furtherRule (expansion (at .entries)))) (ended a)
-    abstraction-goes k n y g p q t = onward-goes x (inside st k n y g p q t) w
+    abstraction-goes k n y g p q t = onward-goes x (in-scope st k n y g p q t) w
 
     pub abstraction-refused : {i head : ℕ} {f : Stop} → a ≡ Refused f → ExpandedAbstraction at st st1 l l2 b i head body (Refused f)
     unfolding abstractionRule

@@ -8,11 +8,12 @@ use Rattle.model.specs.Objects.{Stx, addScope}
 use Rattle.model.specs.Trees.{Tree, stx}
 use Rattle.model.specs.Limits.{lastPhase}
 use Rattle.model.specs.Steps as ms
-use Rattle.model.specs.Steps.{after, addTo}
+use Rattle.model.specs.Steps.{ok, after, addTo, inside, carrying, useScope}
 use Rattle.model.specs.Expanding as m
-use Rattle.model.specs.Expanding.{macro, ofBody, ofResult}
-use Rattle.model.specs.Scopes.{add}
+use Rattle.model.specs.Expanding.{macro, ofBody}
+use Rattle.model.specs.Scopes.{Scopes, add}
 use Rattle.scopes.specs.Sets.{Declared}
+use Rattle.store.specs.Words.{prunableOf, Prunes}
 use Rattle.table.proofs.Laws.{same-trans}
 use Rattle.things.specs.Rep.{Rep}
 use Rattle.things.specs.Making.{Roomy}
@@ -41,7 +42,7 @@ use Rattle.expand.specs.Cycle.{expansion, ReadyOnward, ExpandedOnward}
 use Rattle.expand.specs.declared.Surroundings.{Surroundings}
 use Rattle.expand.specs.declared.rewriting.Onward.{Onward}
 use Rattle.expand.specs.declared.rewriting.Onward.the-variants as onward
-use Rattle.scopes.specs.Sets.{scopesOf}
+use Rattle.expand.proofs.Carried.{put-state}
 use Rattle.table.specs.Sizes.{cellSize, twoCells, nodeSpare}
 
 pub by-name : {x : ℕ} {l : List ℕ} {b : Binder} {k : m.Binder} → ShownBinder x l b k → Named b k
@@ -80,13 +81,14 @@ module _ (at : Surroundings) (b : Binder) {l l1 : List ℕ} {s : State} {body : 
           means = λ q c w y g n p u d.
               let j = added n q y u in
               gives (record { at = o .at; scope = b .scope; meanings = k .at; state = raisedTo (k .top) (o .state) }) (record {
-                value = record { object = j .value; there = ofBody c w (around g at) };
+                value = record { object = j .value; there = ofBody c w (around g at); scope = c .scope };
                 is = then-ok _ (j .is);
                 shown = record {
                   meant = m.extend (b .name .0) w g;
                   rep = carry (j .shown .rep) (x .kept) (omega (arith, x .grows));
                   known = x .means w g (carryM p (j .later .kept) (j .later .grows)) (carryE d (j .later .kept) (j .later .grows));
-                  there = λ i. record { phase = at .phase; meanings = m.extend ((sym (n .name)) i) w g; prunable = add ((sym (n .scope)) i) (scopesOf (at .prunable)) };
+                  there = λ i. record { phase = at .phase; meanings = m.extend ((sym (n .name)) i) w g };
+                  scope = n .scope;
                   declared = n .declared;
                   few = j .shown .few;
                 };
@@ -150,13 +152,16 @@ pub rewritten-mark-ready : {l : List ℕ} {s : State} {i w : ℕ} {at : Surround
 rewritten-mark-ready r = record { thing = r .thing; shown = r .shown; room = r .room; few = r .few }
 
 module _ (at : Surroundings) {l l1 : List ℕ} {s : State} {i : ℕ} {z : Marking} (v : MarksFresh (at .phase) l l1 s i z) where
-  pub rewritten-unmarked : {w : ℕ} {f : Stop} → z ≡ marking.Refused f → Rewritten at l l1 s i w (onward.Refused f)
+  pub rewritten-unmarked : {st : List ℕ} {w : ℕ} {f : Stop} → z ≡ marking.Refused f → Rewritten at st st l l1 s i w (Refused f)
   unfolding rewrittenRule
-  rewritten-unmarked e = record { means = λ q x t g a b k. stops _ (then-no _ (on-refused (v .means q x a) (ap markingOf e))) }
+  rewritten-unmarked {st} e = record { means = λ x t a b. stops _ (then-no _ (on-refused (v .means (storeOf st) x a) (ap markingOf e))) }
 
   module _ {o : Mark} (e : z ≡ marking.Done o) where
     marked-to : (q : Store) (x : Stx) → Rep l (s .top) i (stx x) → Gave marks 1 nodeSpare l l1 s q (markRule (at .phase) x (stateOf s q)) o
     marked-to q x a = on-done (v .means q x a) (ap markingOf e)
+
+    pub rewritten-use-declared : {w : ℕ} → ReadyMacro l s i w at → Declared (o .uses)
+    rewritten-use-declared r = marked-to noStore (r .thing) (r .shown) .shown .uses-declared
 
     pub rewritten-declared : {w : ℕ} → ReadyMacro l s i w at → Declared (o .intro)
     rewritten-declared r = marked-to noStore (r .thing) (r .shown) .shown .intro-declared
@@ -173,35 +178,24 @@ module _ (at : Surroundings) {l l1 : List ℕ} {s : State} {i : ℕ} {z : Markin
           few = g .shown .few;
         }
 
-    module _ {w : ℕ} {l2 : List ℕ} {a : Answer} (d : Transcribes (at .entries) (at .phase) (o .intro .0) l1 l2 (o .state) w (o .at) a) where
-      transcribed : (q : Store) (x : Stx) (t : Tree) (p : Rep l (s .top) i (stx x)) → Rep l (s .top) w t
-          → Agrees objects 1 nodeSpare l1 l2 (o .state) q (transcribeRule (at .entries) (at .phase) (marked-to q x p .value .intro) t (marked-to q x p .value .object) (stateOf (o .state) q)) (ended a)
-      transcribed q x t p u = let j = marked-to q x p in rw (sym (j .shown .intro)) (d .means q t (j .value .object) (carry u (j .later .kept) (j .later .grows)) (j .shown .rep))
+    module _ {st st1 : List ℕ} {p q : Scopes} (was : p ≡ prunableOf st) (wider : q ≡ add (o .uses .0) p) (put : Prunes q st st1) where
+      -- the use scope is prunable from here on
+      used : (x : Stx) (a : Rep l (s .top) i (stx x)) → useScope (marked-to (storeOf st) x a .value .uses) (stateOf (o .state) (storeOf st)) ≡ ok tt (stateOf (o .state) (storeOf st1))
+      unfolding useScope
+      used x a =
+          let j = marked-to (storeOf st) x a in
+          let more : add (j .value .uses) (prunableOf st) ≡ q = (λ c. add ((sym (j .shown .uses)) c) ((sym was) c)) ∙ sym wider in
+          ap (λ (y : ms.State). ok tt y) (ap (λ (u : Scopes). carrying u (stateOf (o .state) (storeOf st))) more ∙ sym (put-state (o .state) put (j .shown .few)))
 
-      pub rewritten-refused : {f : Stop} → a ≡ Refused f → Rewritten at l l2 s i w (onward.Refused f)
+      pub rewritten-is : {w : ℕ} {l2 : List ℕ} {a : Answer} → Transcribes (at .entries) (at .phase) (o .intro .0) l1 l2 (o .state) w (o .at) a → Rewritten at st st1 l l2 s i w a
       unfolding rewrittenRule
-      rewritten-refused h = record { means = λ q x t g p u k. stops _ (then-ok _ (marked-to q x p .is) ∙ then-no _ (on-refused (transcribed q x t p u) (ap ended h))) }
-
-      pub rewritten-next : {c : Out} → a ≡ Done c → Rewritten at l l2 s i w (onward.Done (record { at = c .at; scope = o .uses; meanings = at .meanings; state = c .state }))
-      unfolding rewrittenRule
-      rewritten-next h =
+      rewritten-is {w} {l2} {a} d =
           record {
-            means = λ q x t g p u k.
-                let j = marked-to q x p in
-                let y = on-done (transcribed q x t p u) (ap ended h) in
-                gives _ (record {
-                  value = record { object = y .value; there = ofResult (j .value .uses) (around g at) };
-                  is = then-ok _ (j .is) ∙ then-ok _ (y .is);
-                  shown = record {
-                    meant = g;
-                    rep = y .shown .rep;
-                    there = λ c. record { phase = at .phase; meanings = g; prunable = add ((sym (j .shown .uses)) c) (scopesOf (at .prunable)) };
-                    declared = j .shown .uses-declared;
-                    known = carryE (carryE k (j .later .kept) (j .later .grows)) (y .later .kept) (y .later .grows);
-                    few = y .shown .few;
-                  };
-                  later = later-trans 1 cellSize (j .later) (y .later) (omega arith) (omega arith);
-                });
+            means = λ x t p u.
+                let j = marked-to (storeOf st) x p in
+                let k : Agrees objects 1 nodeSpare l1 l2 (o .state) (storeOf st1) (transcribeRule (at .entries) (at .phase) (j .value .intro) t (j .value .object) (stateOf (o .state) (storeOf st1))) (ended a) =
+                rw (sym (j .shown .intro)) (d .means (storeOf st1) t (j .value .object) (carry u (j .later .kept) (j .later .grows)) (j .shown .rep)) in
+                since 1 nodeSpare (j .later) (omega arith) (omega arith) (then-ok _ (j .is) ∙ then-ok (λ c. transcribeRule (at .entries) (at .phase) (j .value .intro) t (j .value .object)) (used x p)) k;
           }
 
 -- ---- what is expanded next
@@ -241,8 +235,8 @@ pub ruleset laws = (
   defined-scoped,
   rewritten-mark-ready,
   rewritten-unmarked,
+  rewritten-use-declared,
   rewritten-declared,
   rewritten-ready,
-  rewritten-refused,
-  rewritten-next,
+  rewritten-is,
 )

@@ -7,11 +7,13 @@ use lib.ListN.{length}
 use Rattle.model.specs.Objects.{Stx, Stxs, nil, cons}
 use Rattle.model.specs.Trees.{stx, fromStxs}
 use Rattle.model.specs.Steps as m
-use Rattle.model.specs.Steps.{ok, after}
+use Rattle.model.specs.Steps.{ok, after, inside}
 use Rattle.model.specs.Expanding.{Env, expandAll, expand}
-use Rattle.store.specs.Sizes.{mostBindings}
+use Rattle.model.specs.Scopes.{Scopes}
+use Rattle.store.specs.Sizes.{mostBindings, heldSize}
+use Rattle.store.specs.Words.{prunableOf}
 use Rattle.steps.specs.States.{storeOf, stateOf, raisedTo, end}
-use Rattle.steps.specs.Agreement.{Later, ended, Gave, gives, stops}
+use Rattle.steps.specs.Agreement.{Later, ended, Gave, Agrees, gives, stops}
 use Rattle.steps.specs.declared.State.{State}
 use Rattle.steps.specs.declared.Stop.{Stop}
 use Rattle.steps.specs.declared.Out.{Out}
@@ -35,7 +37,7 @@ use Rattle.environment.proofs.Frame.{carryE}
 use Rattle.scoping.specs.Changing.{objects}
 use Rattle.expand.specs.declared.Surroundings.{Surroundings}
 use Rattle.expand.specs.Leaves.{around, Within}
-use Rattle.expand.specs.Cycle.{expansion, ReadyToExpand, ReadyParts, Expanded, ExpandedParts}
+use Rattle.expand.specs.Cycle.{ReadyToExpand, ReadyParts, ExpandedInside, ExpandedParts}
 use Rattle.expand.proofs.Within.{within-later}
 
 -- ps turned round, and then us
@@ -54,7 +56,7 @@ handedOn done us = λ y. ok (turnObjects done us) y
 
 -- the rule for the parts
 abbrev pub all : Surroundings → Env → Stxs → m.Step Stxs
-all at e ps = expandAll (expansion (at .entries) (around e at)) ps
+all at e ps = expandAll (λ x. inside (λ p. p) (expand (at .entries) (around e at) x)) ps
 
 -- `from` is left of the chain of ps, and `turned` is what the parts before it became, the last first
 pub record Half (at : Surroundings) (st st′ l : List ℕ) (s t : State) (from turned : ℕ) (ps : Stxs) (e : Env) : Type 0 where
@@ -103,8 +105,11 @@ module _ {at : Surroundings} {st l : List ℕ} {s : State} {c : ℕ} (r : ReadyP
   within : Within l1 st1 t at
   within = within-later (r .within) so-far (g .few) (g .long) (g .wide)
 
-  pub part-less : {T : ℕ} → s .left * 32 + 3 ≡ T → t .left * 32 < T
+  pub part-less : {T : ℕ} → s .left * 32 + 3 ≡ T → t .left * 32 + 1 < T
   part-less k = omega (arith, g .spent)
+
+  pub part-wide : heldSize ≤ length st1
+  part-wide = within .held .wide
 
   module _ (n : ¬ (from ≡ 0)) where
     pub part-inside : from + cellSize ≤ length l1
@@ -117,7 +122,13 @@ module _ {at : Surroundings} {st l : List ℕ} {s : State} {c : ℕ} (r : ReadyP
       pub part-falls : x .tail < from
       part-falls = first-at (half .rest) (half .shown) n e .cell .low .1
 
-      module _ {st2 l2 : List ℕ} {a : Answer} (v : Expanded at st1 st2 l1 l2 t (x .head) a) where
+      module _ {st2 l2 : List ℕ} {p : Scopes} {a : Answer} (same : p ≡ prunableOf st1) (v : ExpandedInside at st1 st2 l1 l2 t p (x .head) a) where
+        -- the set put is the one that is there
+        meant-inside : (z : Stx) (d : Env) → Rep l1 (t .top) (x .head) (stx z) → RepE l1 (t .top) (at .meanings) d
+            → Agrees objects 1 twoCells l1 l2 t (storeOf st2) (inside (λ p. p) (expand (at .entries) (around d at) z) (stateOf t (storeOf st1))) (ended a)
+        unfolding inside
+        meant-inside z d w y = rw same at (v .means z d w y)
+
         pub part-refused : {f : Stop} → a ≡ Refused f → ExpandedParts at st st2 l l2 s c (Refused f)
         unfolding expandAll
         part-refused k = record {
@@ -125,13 +136,13 @@ module _ {at : Surroundings} {st l : List ℕ} {s : State} {c : ℕ} (r : ReadyP
               let h = g .means ps d w y in
               let q = first-at (h .rest) (h .shown) n e in
               stops _ (h .whole ∙ ap (λ (z : Stxs). after (all at d z (stateOf t (storeOf st1))) (handedOn (h .done))) (q .is)
-              ∙ then-no _ (then-no _ (on-refused (v .means (q .first) d (q .cell .shown) (carryE y (g .kept) (g .grows))) (ap ended k))));
+              ∙ then-no _ (then-no _ (on-refused (meant-inside (q .first) d (q .cell .shown) (carryE y (g .kept) (g .grows))) (ap ended k))));
         }
 
         module _ {o : Out} (k : a ≡ Done o) where
           gave : (z : Stx) (d : Env) → Rep l1 (t .top) (x .head) (stx z) → RepE l1 (t .top) (at .meanings) d
-              → Gave objects 1 twoCells l1 l2 t (storeOf st2) (expand (at .entries) (around d at) z (stateOf t (storeOf st1))) o
-          gave z d w y = on-done (v .means z d w y) (ap ended k)
+              → Gave objects 1 twoCells l1 l2 t (storeOf st2) (inside (λ p. p) (expand (at .entries) (around d at) z) (stateOf t (storeOf st1))) o
+          gave z d w y = on-done (meant-inside z d w y) (ap ended k)
 
           pub part-linkable : length l2 ≡ length l1 → Linkable l2 (o .state .top) (o .at) turned
           part-linkable len =
@@ -201,4 +212,4 @@ parts-turned {at} {st} {l} {s} {c} {st1} {l1} {t} {from} {turned} g z {l2} {d} {
           }));
     }
 
-pub ruleset parts-laws = (parts-start, part-less, part-inside, part-ready, part-falls, part-refused, part-linkable, part-copy-linkable, part-more, parts-turnable, parts-turned)
+pub ruleset parts-laws = (parts-start, part-less, part-wide, part-inside, part-ready, part-falls, part-refused, part-linkable, part-copy-linkable, part-more, parts-turnable, parts-turned)

@@ -7,14 +7,14 @@ use lib.ListN.{length}
 use Rattle.model.specs.Objects.{Sets, symbol, Stx, atom, list, nil, cons, flipScope, pruneScopes}
 use Rattle.model.specs.Trees.{Tree, app, stx, tnil, tcons, fromStxs, asStx}
 use Rattle.model.specs.Steps as ms
-use Rattle.model.specs.Steps.{ok, after, resolveAt, parts1, flipIn, pruneFrom}
+use Rattle.model.specs.Steps.{ok, after, resolveAt, parts1, flipIn, prunableNow, pruneFrom}
 use Rattle.model.specs.Evaluating.{evaluate}
 use Rattle.model.specs.Parsing.{parse}
 use Rattle.model.specs.Expanding as m
 use Rattle.model.specs.Expanding.{headMeaning, expandName, expandSyntax, orNoSyntax}
 use Rattle.refusals.specs.declared.Refusal.the-variants.{NoMeaning, NoRule, NoSyntax}
-use Rattle.scopes.specs.Sets.{scopesOf}
-use Rattle.store.specs.Words.{bindsOf}
+use Rattle.model.specs.Scopes.{Scopes}
+use Rattle.store.specs.Words.{bindsOf, prunableOf}
 use Rattle.table.specs.Tags.{listTag}
 use Rattle.table.specs.Words.{getNode}
 use Rattle.table.specs.declared.Node.{Node}
@@ -160,9 +160,9 @@ module _ {l : List ℕ} (s : State) {i head tail : ℕ} (r : ReadyTail l (unpaid
               rw (q .is) (gives _ (record { value = x; is = refl; shown = record { rep = u; few = r .few }; later = unmade l s }));
         }
 
-    pub syntax-shape : {at : Surroundings} {r : Answer} → d ≡ one.Not → r ≡ Refused (stopOf NoRule s) → ExpandedSyntax at l l s i head tail r
+    pub syntax-shape : {ph : ℕ} {st : List ℕ} {r : Answer} → d ≡ one.Not → r ≡ Refused (stopOf NoRule s) → ExpandedSyntax ph st l l s i head tail r
     unfolding expandSyntax
-    syntax-shape e same = rw same (record { means = λ b g k x ps u v w. stops _ (not-parts1 ps _ (stateOf s b) (on-not-one (h .means (s .top) ps w) e)) })
+    syntax-shape {st = st} e same = rw same (record { means = λ k x ps u v w. stops _ (not-parts1 ps _ (stateOf s (storeOf st)) (on-not-one (h .means (s .top) ps w) e)) })
 
     module _ {j : ℕ} (e : d ≡ one.Is j) where
       pub pruned-ready : ReadyPruned l (unpaid s) i head j
@@ -170,13 +170,13 @@ module _ {l : List ℕ} (s : State) {i head tail : ℕ} (r : ReadyTail l (unpaid
           let q = on-one (h .means (unpaid s .top) (r .others) (r .chain)) e in
           record { sets = r .sets; first = r .first; thing = q .first; old = cons (r .first) (r .others); shown = r .shown; shown-first = r .shown-first; shown-thing = q .shown; room = r .room; few = r .few }
 
-      pub syntax-pruned : {at : Surroundings} {l1 : List ℕ} {a : Answer} → Pruned at l l1 s i head j a → ExpandedSyntax at l l1 s i head tail a
+      pub syntax-pruned : {ph : ℕ} {st l1 : List ℕ} {a : Answer} → Pruned ph st l l1 s i head j a → ExpandedSyntax ph st l l1 s i head tail a
       unfolding expandSyntax parts1 prunedRule
       syntax-pruned a =
           record {
-            means = λ b g k x ps u v w.
+            means = λ k x ps u v w.
                 let q = on-one (h .means (s .top) ps w) e in
-                rw (q .is) (a .means b g k (cons x (cons (q .first) nil)) x (q .first) (rw (q .is) at u) v (q .shown));
+                rw (q .is) (a .means k (cons x (cons (q .first) nil)) x (q .first) (rw (q .is) at u) v (q .shown));
           }
 
 module _ {l : List ℕ} (s : State) {i head x : ℕ} (r : ReadyPruned l (unpaid s) i head x) where
@@ -184,14 +184,18 @@ module _ {l : List ℕ} (s : State) {i head x : ℕ} (r : ReadyPruned l (unpaid 
   unfolding unpaid
   prune-ready = record { thing = r .thing; shown = r .shown-thing; room = record { fits = omega (arith, r .room .fits); small = r .room .small; low = r .room .low }; few = r .few }
 
-  module _ (at : Surroundings) {l1 : List ℕ} {a : Answer} (v : Changes (pruneScopes (scopesOf (at .prunable)) (at .phase)) l l1 s x a) where
-    pub prune-refused : {f : Stop} → a ≡ Refused f → Pruned at l l1 s i head x (Refused f)
-    unfolding prunedRule pruneFrom changeRule
-    prune-refused e = record { means = λ b g k qs h y u w z. stops _ (then-no _ (on-refused (v .means b y z) (ap ended e))) }
+  -- p is what is prunable
+  module _ (ph : ℕ) (st : List ℕ) {l1 : List ℕ} {p : Scopes} {a : Answer} (same : p ≡ prunableOf st) (v : Changes (pruneScopes p ph) l l1 s x a) where
+    changed : Changes (pruneScopes (prunableOf st) ph) l l1 s x a
+    changed = rw same at v
+
+    pub prune-refused : {f : Stop} → a ≡ Refused f → Pruned ph st l l1 s i head x (Refused f)
+    unfolding prunedRule prunableNow pruneFrom changeRule
+    prune-refused e = record { means = λ k qs h y u w z. stops _ (then-no _ (on-refused (changed .means (storeOf st) y z) (ap ended e))) }
 
     module _ {o : Out} (e : a ≡ Done o) where
-      pruned-to : (b : Store) (y : Stx) → Rep l (s .top) x (stx y) → Gave objects 1 nodeSpare l l1 s b (changeRule (pruneScopes (scopesOf (at .prunable)) (at .phase)) y (stateOf s b)) o
-      pruned-to b y w = on-done (v .means b y w) (ap ended e)
+      pruned-to : (b : Store) (y : Stx) → Rep l (s .top) x (stx y) → Gave objects 1 nodeSpare l l1 s b (changeRule (pruneScopes (prunableOf st) ph) y (stateOf s b)) o
+      pruned-to b y w = on-done (changed .means b y w) (ap ended e)
 
       pub prune-two : length l1 ≡ length l → ReadyTwo l1 (o .state) i head (o .at)
       unfolding unpaid
@@ -210,13 +214,13 @@ module _ {l : List ℕ} (s : State) {i head x : ℕ} (r : ReadyPruned l (unpaid 
             few = g .shown .few;
           }
 
-      pub prune-done : {l2 : List ℕ} {q : Answer} → TwoLists l1 l2 (o .state) i head (o .at) q → Pruned at l l2 s i head x q
-      unfolding prunedRule pruneFrom changeRule unpaid
+      pub prune-done : {l2 : List ℕ} {q : Answer} → TwoLists l1 l2 (o .state) i head (o .at) q → Pruned ph st l l2 s i head x q
+      unfolding prunedRule prunableNow pruneFrom changeRule unpaid
       prune-done {l2} {q} d =
           record {
-            means = λ b g k qs h y u w z.
-                let j = pruned-to b y z in
-                let t = d .means b k qs h (j .value) (carry u (j .later .kept) (j .later .grows)) (carry w (j .later .kept) (j .later .grows)) (j .shown .rep) in
+            means = λ k qs h y u w z.
+                let j = pruned-to (storeOf st) y z in
+                let t = d .means (storeOf st) k qs h (j .value) (carry u (j .later .kept) (j .later .grows)) (carry w (j .later .kept) (j .later .grows)) (j .shown .rep) in
                 beyond 1 twoCells 2 1 (j .later) (owes-two (o .state)) (owes-one s) (omega arith) (omega arith) (then-ok _ (j .is)) t;
           }
 

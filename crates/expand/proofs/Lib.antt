@@ -3,6 +3,7 @@ pub mod Agreeing
 pub mod Making
 pub mod Leaves
 pub mod Rules
+pub mod Carried
 pub mod InPlace
 pub mod Within
 pub mod Entering

@@ -10,12 +10,11 @@ use Rattle.model.specs.Limits.{lastPhase}
 use Rattle.model.specs.Refusals as ref
 use Rattle.model.specs.Objects.{Stx}
 use Rattle.model.specs.Trees.{stx, fromStxs}
-use Rattle.model.specs.Steps.{after, parts3, identifier}
+use Rattle.model.specs.Scopes.{Scopes, noScopes}
+use Rattle.model.specs.Steps.{after, parts3, identifier, inside}
 use Rattle.model.specs.Expanding as m
 use Rattle.model.specs.Expanding.{ofRightHandSide, Env, coreOnly, expandLetSyntax, expand}
 use Rattle.refusals.specs.declared.Refusal.the-variants.{NoRule, NoPhase}
-use Rattle.scopes.specs.Sets.{scopesOf}
-use Rattle.scopes.specs.declared.ScopeSet.{ScopeSet}
 use Rattle.things.specs.Rep.{Rep}
 use Rattle.things.specs.Measuring.{Seen, SeenP}
 use Rattle.things.proofs.Frame.{carry}
@@ -42,7 +41,7 @@ use Rattle.scoping.specs.declared.Bound.{Bound}
 use Rattle.scoping.specs.declared.Bound.the-variants as bounds
 use Rattle.expand.specs.Leaves.{around}
 use Rattle.expand.specs.InPlace.{nexts, onwardOf, ReadyDefined, definedRule, Defined, rhsRule, bindingRule}
-use Rattle.expand.specs.Cycle.{expansion, ReadyToExpand, ReadyLet, ReadyOnward, ReadyBinding, ReadyRhs, Expanded, ExpandedOnward, ExpandedLetSyntax, OnwardBinding, OnwardRhs}
+use Rattle.expand.specs.Cycle.{expansion, ReadyToExpand, ReadyLet, ReadyOnward, ReadyBinding, ReadyRhs, ExpandedInside, ExpandedOnward, ExpandedLetSyntax, OnwardBinding, OnwardRhs}
 use Rattle.expand.specs.declared.Surroundings.{Surroundings}
 use Rattle.expand.specs.declared.rewriting.Onward.{Onward}
 use Rattle.expand.specs.declared.rewriting.Onward.the-variants as onward
@@ -98,7 +97,7 @@ module _ {st l : List ℕ} (s : State) {tail : ℕ} {at : Surroundings} where
             pub let-next-ready : ReadyLet l st (unpaid s) tail at → length l1 ≡ length l → length st1 ≡ length st → ReadyOnward l1 st1 x at
             let-next-ready r len len2 = let q = let-binding-ready r in onward-ready (let-inside q) (q .within .room) (q .within .held) len len2
 
-            pub let-less : {T : ℕ} → ReadyLet l st (unpaid s) tail at → s .left * 32 + 18 ≡ T → leftOf x * 32 + 1 < T
+            pub let-less : {T : ℕ} → ReadyLet l st (unpaid s) tail at → s .left * 32 + 18 ≡ T → leftOf x * 32 + 2 < T
             let-less r z = omega (arith, onward-less x (let-inside (let-binding-ready r)))
 
             pub let-expanded : {st2 l2 : List ℕ} {r : Answer} → ExpandedOnward at st1 st2 l1 l2 x r → ExpandedLetSyntax at st st2 l l2 s tail r
@@ -161,26 +160,26 @@ rhs-phase {st} {b = b} {at = at} h same =
     rw same (record { means = λ n u y g d w z k. stops _ (then-no _ (unless-no ref.noPhase (stateOf (b .state) (storeOf st)) (lt-leb (at .phase + 1) 2 (omega arith)))) })
 
 -- of the right-hand side
-abbrev aboveOf : Surroundings → ScopeSet → Surroundings
-aboveOf at p = record { entries = at .entries; phase = at .phase + 1; meanings = 0; prunable = p }
+abbrev aboveOf : Surroundings → Surroundings
+aboveOf at = record { entries = at .entries; phase = at .phase + 1; meanings = 0 }
 
-module _ {st l : List ℕ} {s : State} {right : ℕ} (at : Surroundings) (h : at .phase < 2) {p : ScopeSet} (f : scopesOf p ≡ 0) {st1 l1 : List ℕ} {a : Answer} (v : Expanded (aboveOf at p) st st1 l l1 s right a) where
-  above : (g : Env) (u : Stx) → Rep l (s .top) right (stx u) → Agrees objects 1 twoCells l l1 s (storeOf st1) (expand (at .entries) (ofRightHandSide (around g at)) u (stateOf s (storeOf st))) (ended a)
+module _ {st l : List ℕ} {s : State} {right : ℕ} (at : Surroundings) (h : at .phase < 2) {p : Scopes} (f : p ≡ noScopes) {st1 l1 : List ℕ} {a : Answer} (v : ExpandedInside (aboveOf at) st st1 l l1 s p right a) where
+  above : (g : Env) (u : Stx) → Rep l (s .top) right (stx u) → Agrees objects 1 twoCells l l1 s (storeOf st1) (inside (λ q. noScopes) (expand (at .entries) (ofRightHandSide (around g at)) u) (stateOf s (storeOf st))) (ended a)
   above g u w = rw f at (v .means u coreOnly w is-core)
 
   starts : (g : Env) (k : m.Binder) (u y : Stx) → rhsRule (expansion (at .entries)) (at .entries) (around g at) k u y (stateOf s (storeOf st))
-      ≡ after (expand (at .entries) (ofRightHandSide (around g at)) u (stateOf s (storeOf st))) (λ t. definedRule (at .entries) (around g at) k t y)
+      ≡ after (inside (λ q. noScopes) (expand (at .entries) (ofRightHandSide (around g at)) u) (stateOf s (storeOf st))) (λ t. definedRule (at .entries) (around g at) k t y)
   unfolding rhsRule lastPhase
   starts g k u y = then-ok _ (unless-ok ref.noPhase (stateOf s (storeOf st)) (le-leb (at .phase + 1) 2 (omega arith)))
 
-  right-to : {o : Out} → a ≡ Done o → (g : Env) (u : Stx) → Rep l (s .top) right (stx u) → Gave objects 1 twoCells l l1 s (storeOf st1) (expand (at .entries) (ofRightHandSide (around g at)) u (stateOf s (storeOf st))) o
+  right-to : {o : Out} → a ≡ Done o → (g : Env) (u : Stx) → Rep l (s .top) right (stx u) → Gave objects 1 twoCells l l1 s (storeOf st1) (inside (λ q. noScopes) (expand (at .entries) (ofRightHandSide (around g at)) u) (stateOf s (storeOf st))) o
   right-to e g u w = on-done (above g u w) (ap ended e)
 
-module _ {st l : List ℕ} {b : Binder} {right body : ℕ} {at : Surroundings} (h : at .phase < 2) {p : ScopeSet} where
-  pub rhs-expand-ready : ReadyRhs l st b right body at → ReadyToExpand l st (b .state) right (aboveOf at p)
+module _ {st l : List ℕ} {b : Binder} {right body : ℕ} {at : Surroundings} (h : at .phase < 2) where
+  pub rhs-expand-ready : ReadyRhs l st b right body at → ReadyToExpand l st (b .state) right (aboveOf at)
   rhs-expand-ready r = record { thing = r .thing; shown = r .shown; within = record { meant = coreOnly; known = is-core; room = r .within .room; held = r .within .held } }
 
-  module _ (f : scopesOf p ≡ 0) {st1 l1 : List ℕ} {a : Answer} (v : Expanded (aboveOf at p) st st1 l l1 (b .state) right a) where
+  module _ {p : Scopes} (f : p ≡ noScopes) {st1 l1 : List ℕ} {a : Answer} (v : ExpandedInside (aboveOf at) st st1 l l1 (b .state) p right a) where
     pub rhs-refused : {q : Stop} → a ≡ Refused q → OnwardRhs at st st1 l l1 b right body (onward.Refused q)
     rhs-refused e = record { means = λ n u y g d w z k. stops _ (starts at h f v g n u y ∙ then-no _ (on-refused (above at h f v g u w) (ap ended e))) }
 

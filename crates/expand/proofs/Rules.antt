@@ -4,14 +4,15 @@ use Prim.Native.Nat.{ℕ, _+_}
 use lib.Dec.{leb}
 use Rattle.model.specs.Limits.{lastPhase}
 use Rattle.model.specs.Refusals.{ambiguous, noRule, noPhase}
+use Rattle.model.specs.Scopes.{noScopes, add}
 use Rattle.model.specs.Objects.{Atom, symbol, number, point, prim, rung, tagOf, Sets, Stx, atom, list, Stxs, nil, cons}
 use Rattle.model.specs.Trees.{Tree, app, stx, tnil, tcons, asStx}
 use Rattle.model.specs.Competing.{Rivals, noRivals}
 use Rattle.model.specs.Evaluating.{evaluate}
-use Rattle.model.specs.Steps.{State, ok, no, after, Step, addTo, flipIn, unless, freshScope}
+use Rattle.model.specs.Steps.{State, ok, no, after, Step, addTo, flipIn, unless, freshScope, useScope, inside}
 use Rattle.model.specs.Parsing as p
 use Rattle.model.specs.Expanding as m
-use Rattle.model.specs.Expanding.{core, variable, macro, unknown, Expander, expandApplication, expandFunction, expandLambda, expandSyntax, expandBinding, expandLetSyntax, expandMacro, expandForm, expandEntry, expand, bindFresh, ofRightHandSide, ofBody, ofResult, orNoSyntax}
+use Rattle.model.specs.Expanding.{core, variable, macro, unknown, Expander, expandApplication, expandFunction, expandLambda, expandSyntax, expandBinding, expandLetSyntax, expandMacro, expandForm, expandEntry, expand, bindFresh, ofRightHandSide, ofBody, orNoSyntax}
 use Rattle.environment.specs.Meanings.{has, unclear, meaningFound}
 use Rattle.environment.proofs.Laws.{head-means, head-unclear}
 use Rattle.forms.specs.Names.{nameFound}
@@ -68,7 +69,7 @@ module _ (self : Expander) (d : ℕ) (here : m.Surroundings) (y : State) where
     unfolding expandForm quoteRule
     form-quote = refl
 
-    pub form-syntax : expandForm self d here c h ps (core p.syntax) y ≡ expandSyntax here c h ps y
+    pub form-syntax : expandForm self d here c h ps (core p.syntax) y ≡ expandSyntax (here .phase) c h ps y
     unfolding expandForm
     form-syntax = refl
 
@@ -89,45 +90,49 @@ module _ (self : Expander) (d : ℕ) (here : m.Surroundings) (y : State) where
   unfolding expandFunction abstractionRule scopedRule
   function-split c h ci x body = sym (simp after-after)
 
-  -- what is expanded in a form's place, and then its expansion
-  scoped-split : (b : m.Binder) (w : m.Meaning) (body : Stx) (s : State) → after (scopedRule here b w body s) (furtherRule self) ≡ after (addTo (b .scope) (here .phase) body s) (λ z. self (ofBody b w here) z)
+  -- the body that is expanded in a form's place, and then its expansion
+  scoped-split : (b : m.Binder) (w : m.Meaning) (body : Stx) (s : State) → after (scopedRule here b w body s) (furtherRule self) ≡ after (addTo (b .scope) (here .phase) body s) (λ z. inside (add (b .scope)) (self (ofBody b w here) z))
   unfolding scopedRule
-  scoped-split b w body s = after-after {B = Further} (addTo (b .scope) (here .phase) body s) (λ z. λ s1. ok (record { object = z; there = ofBody b w here }) s1) (furtherRule self)
+  scoped-split b w body s = after-after {B = Further} (addTo (b .scope) (here .phase) body s) (λ z. λ s1. ok (record { object = z; there = ofBody b w here; scope = b .scope }) s1) (furtherRule self)
 
   defined-split : (b : m.Binder) (r body : Stx) (s : State)
       → after (definedRule d here b r body s) (furtherRule self)
-      ≡ after (p.parse d (here .phase + 1) r s) (λ t. λ s1. after (evaluate d t s1) (λ v. λ s2. after (addTo (b .scope) (here .phase) body s2) (λ z. self (ofBody b (macro v) here) z)))
+      ≡ after (p.parse d (here .phase + 1) r s) (λ t. λ s1. after (evaluate d t s1) (λ v. λ s2. after (addTo (b .scope) (here .phase) body s2) (λ z. inside (add (b .scope)) (self (ofBody b (macro v) here) z))))
   unfolding definedRule valueRule
   defined-split b r body s =
       after-after (valueRule d (here .phase + 1) r s) (λ v. scopedRule here b (macro v) body) (furtherRule self)
       ∙ after-after (p.parse d (here .phase + 1) r s) (λ t. evaluate d t) (λ v. λ s1. after (scopedRule here b (macro v) body s1) (furtherRule self))
       ∙ (λ i. after (p.parse d (here .phase + 1) r s) (λ t. λ s1. after (evaluate d t s1) (λ v. λ s2. (scoped-split b (macro v) body s2) i)))
 
+  -- what the right-hand side expands to
+  abbrev right-side : Stx → Step Stx
+  right-side right = inside (λ q. noScopes) (self (ofRightHandSide here) right)
+
   rhs-split : (b : m.Binder) (right body : Stx) (s : State)
       → after (rhsRule self d here b right body s) (furtherRule self)
-      ≡ after (unless noPhase (leb (here .phase + 1) lastPhase) s) (λ u. λ s1. after (self (ofRightHandSide here) right s1) (λ r. λ s2. after (definedRule d here b r body s2) (furtherRule self)))
+      ≡ after (unless noPhase (leb (here .phase + 1) lastPhase) s) (λ u. λ s1. after (right-side right s1) (λ r. λ s2. after (definedRule d here b r body s2) (furtherRule self)))
   unfolding rhsRule
   rhs-split b right body s =
-      after-after (unless noPhase (leb (here .phase + 1) lastPhase) s) (λ u. λ s1. after (self (ofRightHandSide here) right s1) (λ r. definedRule d here b r body)) (furtherRule self)
-      ∙ (λ i. after (unless noPhase (leb (here .phase + 1) lastPhase) s) (λ u. λ s1. (after-after (self (ofRightHandSide here) right s1) (λ r. definedRule d here b r body) (furtherRule self)) i))
+      after-after (unless noPhase (leb (here .phase + 1) lastPhase) s) (λ u. λ s1. after (right-side right s1) (λ r. definedRule d here b r body)) (furtherRule self)
+      ∙ (λ i. after (unless noPhase (leb (here .phase + 1) lastPhase) s) (λ u. λ s1. (after-after (right-side right s1) (λ r. definedRule d here b r body) (furtherRule self)) i))
 
   pub binding-split : (ci : Sets) (x : ℕ) (rhs body : Stx) → expandBinding self d here ci x rhs body y ≡ after (bindingRule self d here ci x rhs body y) (furtherRule self)
   unfolding expandBinding bindingRule
   binding-split ci x rhs body =
       sym (after-after (bindFresh (here .phase) ci x y) (λ b. rhsRule self d here b rhs body) (furtherRule self)
       ∙ (λ i. after (bindFresh (here .phase) ci x y) (λ b. λ s. (rhs-split b rhs body s) i))
-      ∙ (λ i. after (bindFresh (here .phase) ci x y) (λ b. λ s. after (unless noPhase (leb (here .phase + 1) lastPhase) s) (λ u. λ s1. after (self (ofRightHandSide here) rhs s1) (λ r. λ s2. (defined-split b r body s2) i)))))
+      ∙ (λ i. after (bindFresh (here .phase) ci x y) (λ b. λ s. after (unless noPhase (leb (here .phase + 1) lastPhase) s) (λ u. λ s1. after (right-side rhs s1) (λ r. λ s2. (defined-split b r body s2) i)))))
 
-  -- what a macro makes of the marked form, expanded where the scope of the use is prunable
+  -- what a macro makes of the marked form, and its expansion; the scope of the use is prunable in both
   abbrev transcribed : Tree → ℕ → ℕ → Stx → Step Stx
-  transcribed v u k x = λ s. after (transcribeRule d (here .phase) k v x s) (λ z. self (ofResult u here) z)
+  transcribed v u k x = λ s. after (useScope u s) (λ w. λ s1. after (transcribeRule d (here .phase) k v x s1) (λ z. self here z))
 
   transcribed-split : (v : Tree) (u k : ℕ) (x : Stx) (s : State)
-      → transcribed v u k x s ≡ after (evaluate d (app v (tcons (stx x) tnil)) s) (λ r. λ s1. after (orNoSyntax (asStx r) s1) (λ z. λ s2. after (flipIn k (here .phase) z s2) (λ b. self (ofResult u here) b)))
+      → transcribed v u k x s ≡ after (useScope u s) (λ w. λ s1. after (evaluate d (app v (tcons (stx x) tnil)) s1) (λ r. λ s2. after (orNoSyntax (asStx r) s2) (λ z. λ s3. after (flipIn k (here .phase) z s3) (λ b. self here b))))
   unfolding transcribeRule backRule
   transcribed-split v u k x s =
-      after-after (evaluate d (app v (tcons (stx x) tnil)) s) (λ r. backRule (here .phase) k r) (λ b. self (ofResult u here) b)
-      ∙ (λ i. after (evaluate d (app v (tcons (stx x) tnil)) s) (λ r. λ s1. (after-after (orNoSyntax (asStx r) s1) (λ z. flipIn k (here .phase) z) (λ b. self (ofResult u here) b)) i))
+      (λ i. after (useScope u s) (λ w. λ s1. (after-after (evaluate d (app v (tcons (stx x) tnil)) s1) (λ r. backRule (here .phase) k r) (λ b. self here b)) i))
+      ∙ (λ i. after (useScope u s) (λ w. λ s1. after (evaluate d (app v (tcons (stx x) tnil)) s1) (λ r. λ s2. (after-after (orNoSyntax (asStx r) s2) (λ z. flipIn k (here .phase) z) (λ b. self here b)) i)))
 
   marks-split : (v : Tree) (form : Stx) (u k : ℕ) (s : State)
       → after (marksRule (here .phase) u k form s) (λ w. transcribed v (w .uses) (w .intro) (w .object)) ≡ after (addTo u (here .phase) form s) (λ used. λ s1. after (flipIn k (here .phase) used s1) (λ marked. transcribed v u k marked))
@@ -144,9 +149,9 @@ module _ (self : Expander) (d : ℕ) (here : m.Surroundings) (y : State) where
       ∙ (λ i. after (freshScope y) (λ u. λ s. after (freshScope s) (λ k. λ s1. (marks-split v form u k s1) i)))
       ∙ (λ i. after (freshScope y) (λ u. λ s. after (freshScope s) (λ k. λ s1. after (addTo u (here .phase) form s1) (λ used. λ s2. after (flipIn k (here .phase) used s2) (λ marked. λ s3. (transcribed-split v u k marked s3) i))))))
 
-  pub macro-split : (v : Tree) (form : Stx) → expandMacro self d here v form y ≡ after (rewrittenRule d here v form y) (furtherRule self)
+  pub macro-split : (v : Tree) (form : Stx) → expandMacro self d here v form y ≡ after (rewrittenRule d (here .phase) v form y) (λ z. self here z)
   unfolding rewrittenRule
   macro-split v form =
       macro-marked v form
-      ∙ sym (after-after {B = Further} (markRule (here .phase) form y) (λ k. λ s. after (transcribeRule d (here .phase) (k .intro) v (k .object) s) (λ z. λ s1. ok (record { object = z; there = ofResult (k .uses) here }) s1)) (furtherRule self)
-      ∙ (λ i. after (markRule (here .phase) form y) (λ k. λ s. (after-after {B = Further} (transcribeRule d (here .phase) (k .intro) v (k .object) s) (λ z. λ s1. ok (record { object = z; there = ofResult (k .uses) here }) s1) (furtherRule self)) i)))
+      ∙ sym (after-after (markRule (here .phase) form y) (λ k. λ s. after (useScope (k .uses) s) (λ w. transcribeRule d (here .phase) (k .intro) v (k .object))) (λ z. self here z)
+      ∙ (λ i. after (markRule (here .phase) form y) (λ k. λ s. (after-after (useScope (k .uses) s) (λ w. transcribeRule d (here .phase) (k .intro) v (k .object)) (λ z. self here z)) i)))

@@ -5,7 +5,8 @@ use Prim.Native.Nat.{ℕ, _+_, _≤_}
 use lib.ListN.{length}
 use Rattle.model.specs.Objects.{Sets, symbol, Stx, atom, list, Stxs, nil, cons}
 use Rattle.model.specs.Trees.{Tree, stx, fromStxs}
-use Rattle.model.specs.Steps.{Step, _>>=_, made}
+use Rattle.model.specs.Scopes.{Scopes}
+use Rattle.model.specs.Steps.{Step, _>>=_, made, inside}
 use Rattle.model.specs.Expanding as m
 use Rattle.model.specs.Expanding.{variable, Env, Expander, expandAll, expandApplication, expandFunction, expandLambda, expandLetSyntax, expandMacro, expandEntry, expand}
 use Rattle.store.specs.Sizes.{mostBindings}
@@ -136,7 +137,7 @@ pub record ReadyRhs (l st : List ℕ) (b : Binder) (right body : ℕ) (at : Surr
 -- ---- a function with its new binder
 
 unfoldable pub abstractionRule : Expander → m.Surroundings → Sets → Stx → m.Binder → ℕ → Stx → Step Stx
-unfolding scopedRule made
+unfolding scopedRule inside made
 abstractionRule self here c h b x body = do
   out ← scopedRule here b (variable (b .sets) x) body >>= furtherRule self
   made (list c (cons h (cons (atom (b .sets) (symbol x)) (cons out nil))))
@@ -147,6 +148,11 @@ module _ (at : Surroundings) (st st′ l l′ : List ℕ) (s : State) where
   pub record Expanded (i : ℕ) (r : Answer) : Type 0 where
     pub means : (x : Stx) (e : Env) → Rep l (s .top) i (stx x) → RepE l (s .top) (at .meanings) e
         → Agrees objects 1 twoCells l l′ s (storeOf st′) (expand (at .entries) (around e at) x (stateOf s (storeOf st))) (ended r)
+
+  -- an expansion of its own, with p prunable
+  pub record ExpandedInside (p : Scopes) (i : ℕ) (r : Answer) : Type 0 where
+    pub means : (x : Stx) (e : Env) → Rep l (s .top) i (stx x) → RepE l (s .top) (at .meanings) e
+        → Agrees objects 1 twoCells l l′ s (storeOf st′) (inside (λ q. p) (expand (at .entries) (around e at) x) (stateOf s (storeOf st))) (ended r)
 
   pub record ExpandedEntry (i : ℕ) (r : Answer) : Type 0 where
     pub means : (x : Stx) (e : Env) → Rep l (s .top) i (stx x) → RepE l (s .top) (at .meanings) e
@@ -162,7 +168,7 @@ module _ (at : Surroundings) (st st′ l l′ : List ℕ) (s : State) where
 
   pub record ExpandedParts (c : ℕ) (r : Answer) : Type 0 where
     pub means : (ps : Stxs) (e : Env) → RepP l (s .top) c (fromStxs ps) → RepE l (s .top) (at .meanings) e
-        → Agrees partsOf 0 0 l l′ s (storeOf st′) (expandAll (expansion (at .entries) (around e at)) ps (stateOf s (storeOf st))) (ended r)
+        → Agrees partsOf 0 0 l l′ s (storeOf st′) (expandAll (λ x. inside (λ p. p) (expand (at .entries) (around e at) x)) ps (stateOf s (storeOf st))) (ended r)
 
   pub record ExpandedLambda (i head tail : ℕ) (r : Answer) : Type 0 where
     pub means : (k : Sets) (h : Stx) (ps : Stxs) (e : Env) → Rep l (s .top) i (stx (list k (cons h ps))) → Rep l (s .top) head (stx h) → RepP l (s .top) tail (fromStxs ps) → RepE l (s .top) (at .meanings) e

@@ -1,23 +1,25 @@
--- What a form leaves to be expanded in its place: what is asked and given.
+-- What a form leaves to be expanded in its place, and what a macro makes of its use: what is asked and given.
 use mathlib.Core.Path.{_≡_}
 use mathlib.Core.List.{List}
 use Prim.Native.Nat.{ℕ, _+_, _≤_}
 use lib.Dec.{leb}
 use Rattle.model.specs.Limits.{lastPhase}
 use Rattle.model.specs.Refusals.{noPhase}
-use Rattle.model.specs.Scopes.{add}
+use Rattle.model.specs.Scopes.{noScopes, add}
 use Rattle.model.specs.Objects.{Sets, Stx}
 use Rattle.model.specs.Trees.{Tree, stx}
-use Rattle.model.specs.Steps.{Entries, Step, _>>=_, _>>_, done, unless, addTo}
+use Rattle.model.specs.Steps.{Entries, Step, _>>=_, _>>_, done, unless, addTo, useScope, inside}
 use Rattle.model.specs.Expanding as m
-use Rattle.model.specs.Expanding.{Meaning, macro, Env, bindFresh, ofRightHandSide, ofBody, ofResult, Expander}
-use Rattle.scopes.specs.Sets.{scopesOf, Declared}
+use Rattle.model.specs.Expanding.{Meaning, macro, Env, bindFresh, ofRightHandSide, ofBody, Expander}
+use Rattle.scopes.specs.Sets.{Declared}
 use Rattle.store.specs.Sizes.{mostBindings}
 use Rattle.steps.specs.States.{Store, storeOf, stateOf, Room}
-use Rattle.steps.specs.Agreement.{Shape, Ended, done as ends, refused, Agrees}
+use Rattle.steps.specs.Agreement.{Shape, Ended, done as ends, refused, ended, Agrees}
 use Rattle.steps.specs.declared.State.{State}
+use Rattle.steps.specs.declared.Answer.{Answer}
 use Rattle.things.specs.Rep.{Rep}
 use Rattle.environment.specs.Meanings.{Meant, RepE}
+use Rattle.scoping.specs.Changing.{objects}
 use Rattle.scoping.specs.Fresh.{markRule}
 use Rattle.scoping.specs.declared.Binder.{Binder}
 use Rattle.expand.specs.Leaves.{around, Within, valueRule, transcribeRule}
@@ -25,22 +27,24 @@ use Rattle.expand.specs.declared.Surroundings.{Surroundings}
 use Rattle.expand.specs.declared.rewriting.Next.{Next}
 use Rattle.expand.specs.declared.rewriting.Onward.{Onward}
 use Rattle.expand.specs.declared.rewriting.Onward.the-variants as onward
-use Rattle.table.specs.Sizes.{cellSize}
+use Rattle.table.specs.Sizes.{cellSize, nodeSpare}
 
--- an object, and where it is expanded
+-- a body, where it is expanded, and the scope that is prunable in it
 pub record Further : Type 0 where
   pub object : Stx
   pub there : m.Surroundings
+  pub scope : ℕ
 
 abbrev pub furtherRule : Expander → Further → Step Stx
-furtherRule self k = self (k .there) (k .object)
+furtherRule self k = inside (add (k .scope)) (self (k .there) (k .object))
 
--- from where the form is expanded: with a scope more that is prunable, and with other meanings
+-- from where the form is expanded: with other meanings
 pub record ShownNext (at : Surroundings) (l : List ℕ) (o : Next) (k : Further) : Type 0 where
   pub meant : Env
   pub rep : Rep l (o .state .top) (o .at) (stx (k .object))
   pub known : RepE l (o .state .top) (o .meanings) meant
-  pub there : k .there ≡ record { phase = at .phase; meanings = meant; prunable = add (o .scope .0) (scopesOf (at .prunable)) }
+  pub there : k .there ≡ record { phase = at .phase; meanings = meant }
+  pub scope : o .scope .0 ≡ k .scope
   pub declared : Declared (o .scope)
   pub few : o .state .bindings ≤ mostBindings
 
@@ -75,7 +79,7 @@ unfoldable pub scopedRule : m.Surroundings → m.Binder → Meaning → Stx → 
 unfolding addTo
 scopedRule here b w body = do
   in-scope ← addTo (b .scope) (here .phase) body
-  done (record { object = in-scope; there = ofBody b w here })
+  done (record { object = in-scope; there = ofBody b w here; scope = b .scope })
 
 pub record Scoped (at : Surroundings) (l l′ : List ℕ) (s : State) (b : Binder) (kind thing body : ℕ) (r : Onward) : Type 0 where
   pub means : (q : Store) (k : m.Binder) (w : Meaning) (y : Stx) (e : Env) → Named b k → Meant l (s .top) kind thing w → Rep l (s .top) body (stx y) → RepE l (s .top) (at .meanings) e
@@ -106,10 +110,10 @@ pub record Defined (at : Surroundings) (st l l′ : List ℕ) (s : State) (b : B
 -- ---- the right-hand side, expanded one phase up, and the binder before it
 
 unfoldable pub rhsRule : Expander → Entries → m.Surroundings → m.Binder → Stx → Stx → Step Further
-unfolding definedRule lastPhase
+unfolding definedRule inside lastPhase
 rhsRule self d here b right body = do
   unless noPhase (leb (here .phase + 1) lastPhase)
-  r ← self (ofRightHandSide here) right
+  r ← inside (λ p. noScopes) (self (ofRightHandSide here) right)
   definedRule d here b r body
 
 unfoldable pub bindingRule : Expander → Entries → m.Surroundings → Sets → ℕ → Stx → Stx → Step Further
@@ -130,13 +134,13 @@ pub record ReadyMacro (l : List ℕ) (s : State) (i v : ℕ) (at : Surroundings)
   pub room : Room l s
   pub few : s .bindings ≤ mostBindings
 
-unfoldable pub rewrittenRule : Entries → m.Surroundings → Tree → Stx → Step Further
-unfolding markRule transcribeRule
-rewrittenRule d here v x = do
-  k ← markRule (here .phase) x
-  y ← transcribeRule d (here .phase) (k .intro) v (k .object)
-  done (record { object = y; there = ofResult (k .uses) here })
+unfoldable pub rewrittenRule : Entries → ℕ → Tree → Stx → Step Stx
+unfolding markRule useScope transcribeRule
+rewrittenRule d ph v x = do
+  k ← markRule ph x
+  useScope (k .uses)
+  transcribeRule d ph (k .intro) v (k .object)
 
-pub record Rewritten (at : Surroundings) (l l′ : List ℕ) (s : State) (i v : ℕ) (r : Onward) : Type 0 where
-  pub means : (q : Store) (x : Stx) (t : Tree) (e : Env) → Rep l (s .top) i (stx x) → Rep l (s .top) v t → RepE l (s .top) (at .meanings) e
-      → Agrees (nexts at) 1 cellSize l l′ s q (rewrittenRule (at .entries) (around e at) t x (stateOf s q)) (onwardOf r)
+pub record Rewritten (at : Surroundings) (st st′ l l′ : List ℕ) (s : State) (i v : ℕ) (r : Answer) : Type 0 where
+  pub means : (x : Stx) (t : Tree) → Rep l (s .top) i (stx x) → Rep l (s .top) v t
+      → Agrees objects 1 nodeSpare l l′ s (storeOf st′) (rewrittenRule (at .entries) (at .phase) t x (stateOf s (storeOf st))) (ended r)

@@ -3,12 +3,11 @@ use mathlib.Core.List.{List}
 use Prim.Native.Nat.{ℕ, _≤_}
 use Rattle.model.specs.Objects.{Sets, symbol, Stx, atom, list, Stxs, nil, cons}
 use Rattle.model.specs.Trees.{Tree, stx, app, tnil, tcons, fromStxs, asStx}
-use Rattle.model.specs.Steps.{Step, _>>=_, _>>_, done, resolveAt, parts1, flipIn, pruneFrom}
+use Rattle.model.specs.Steps.{Step, _>>=_, _>>_, done, resolveAt, parts1, flipIn, prunableNow, pruneFrom}
 use Rattle.model.specs.Evaluating.{evaluate}
 use Rattle.model.specs.Parsing.{parse}
 use Rattle.model.specs.Expanding as m
 use Rattle.model.specs.Expanding.{Env, meaning, expandName, expandSyntax, orNoSyntax}
-use Rattle.scopes.specs.Sets.{scopesOf}
 use Rattle.store.specs.Sizes.{mostBindings}
 use Rattle.steps.specs.States.{Store, storeOf, Held, stateOf, Room}
 use Rattle.steps.specs.Agreement.{ended, Agrees}
@@ -26,7 +25,7 @@ use Rattle.table.specs.Sizes.{twoCells, nodeSpare}
 
 -- with these meanings
 abbrev pub around : Env → Surroundings → m.Surroundings
-around e at = record { phase = at .phase; meanings = e; prunable = scopesOf (at .prunable) }
+around e at = record { phase = at .phase; meanings = e }
 
 -- meanings, room and the store where an object is expanded
 pub record Within (l st : List ℕ) (s : State) (at : Surroundings) : Type 0 where
@@ -73,9 +72,9 @@ pub record ExpandedQuote (l : List ℕ) (s : State) (i tail : ℕ) (r : Answer) 
   pub means : (b : Store) (x : Stx) (ps : Stxs) → Rep l (s .top) i (stx x) → RepP l (s .top) tail (fromStxs ps)
       → Agrees objects 1 twoCells l l (unpaid s) b (quoteRule x ps (stateOf s b)) (ended r)
 
-pub record ExpandedSyntax (at : Surroundings) (l l′ : List ℕ) (s : State) (i head tail : ℕ) (r : Answer) : Type 0 where
-  pub means : (b : Store) (e : Env) (k : Sets) (h : Stx) (ps : Stxs) → Rep l (s .top) i (stx (list k (cons h ps))) → Rep l (s .top) head (stx h) → RepP l (s .top) tail (fromStxs ps)
-      → Agrees objects 1 twoCells l l′ (unpaid s) b (expandSyntax (around e at) k h ps (stateOf s b)) (ended r)
+pub record ExpandedSyntax (ph : ℕ) (st l l′ : List ℕ) (s : State) (i head tail : ℕ) (r : Answer) : Type 0 where
+  pub means : (k : Sets) (h : Stx) (ps : Stxs) → Rep l (s .top) i (stx (list k (cons h ps))) → Rep l (s .top) head (stx h) → RepP l (s .top) tail (fromStxs ps)
+      → Agrees objects 1 twoCells l l′ (unpaid s) (storeOf st) (expandSyntax ph k h ps (stateOf s (storeOf st))) (ended r)
 
 pub record ReadyPruned (l : List ℕ) (s : State) (i head x : ℕ) : Type 0 where
   pub sets : Sets
@@ -88,15 +87,16 @@ pub record ReadyPruned (l : List ℕ) (s : State) (i head x : ℕ) : Type 0 wher
   pub room : Room l s
   pub few : s .bindings ≤ mostBindings
 
-unfoldable pub prunedRule : m.Surroundings → Sets → Stx → Stx → Step Stx
-unfolding pruneFrom
-prunedRule here c h s = do
-  t ← pruneFrom (here .prunable) (here .phase) s
+unfoldable pub prunedRule : ℕ → Sets → Stx → Stx → Step Stx
+unfolding prunableNow pruneFrom
+prunedRule ph c h s = do
+  p ← prunableNow
+  t ← pruneFrom p ph s
   done (list c (cons h (cons t nil)))
 
-pub record Pruned (at : Surroundings) (l l′ : List ℕ) (s : State) (i head x : ℕ) (r : Answer) : Type 0 where
-  pub means : (b : Store) (e : Env) (k : Sets) (qs : Stxs) (h y : Stx) → Rep l (s .top) i (stx (list k qs)) → Rep l (s .top) head (stx h) → Rep l (s .top) x (stx y)
-      → Agrees objects 1 twoCells l l′ (unpaid s) b (prunedRule (around e at) k h y (stateOf s b)) (ended r)
+pub record Pruned (ph : ℕ) (st l l′ : List ℕ) (s : State) (i head x : ℕ) (r : Answer) : Type 0 where
+  pub means : (k : Sets) (qs : Stxs) (h y : Stx) → Rep l (s .top) i (stx (list k qs)) → Rep l (s .top) head (stx h) → Rep l (s .top) x (stx y)
+      → Agrees objects 1 twoCells l l′ (unpaid s) (storeOf st) (prunedRule ph k h y (stateOf s (storeOf st))) (ended r)
 
 -- ---- values
 

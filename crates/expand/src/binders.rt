@@ -150,9 +150,8 @@ pub fn rhs(
         entries: at.entries,
         phase: phase + 1,
         meanings: 0,
-        prunable: none,
     };
-    match crate::expand(table, store, s, right, above) {
+    match crate::inside(table, store, s, right, above, none) {
         Answer::Refused(f) => Onward::Refused(f),
         Answer::Done(o) => {
             let s1 = o.state;

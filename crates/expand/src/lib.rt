@@ -13,11 +13,13 @@ use steps::Answer;
 use steps::Charged;
 use steps::Out;
 use steps::State;
+use store::prunable;
 use table::Node;
+ghost use Rattle.scopes.specs.Sets.{scopesOf};
 ghost use Rattle.steps.specs.States.{Held};
 ghost use Rattle.parse.specs.Parsing.{unpaid};
 ghost use Rattle.expand.specs.InPlace.{ReadyMacro};
-ghost use Rattle.expand.specs.Cycle.{ReadyToExpand, ReadyParts, ReadyChain, ReadyOnward, Expanded, ExpandedOnward, ExpandedEntry, ExpandedList, ExpandedApplication, ExpandedParts, ExpandedMacro};
+ghost use Rattle.expand.specs.Cycle.{ReadyToExpand, ReadyParts, ReadyChain, ReadyOnward, Expanded, ExpandedInside, ExpandedOnward, ExpandedEntry, ExpandedList, ExpandedApplication, ExpandedParts, ExpandedMacro};
 
 // Where an object is expanded.
 pub struct Surroundings {
@@ -26,7 +28,6 @@ pub struct Surroundings {
     pub phase: u32,
     // The index of the meanings that names have.
     pub meanings: u32,
-    pub prunable: ScopeSet,
 }
 
 // ---- entries
@@ -38,19 +39,36 @@ pub fn expand(table: &mut [u32], store: &mut [u64], s: State, i: u32, at: Surrou
     match s.enter(at.entries) {
         Charged::Refused(f) => Answer::Refused(f),
         Charged::Paid(t) => {
-            let prunable = at.prunable;
             let to = Surroundings {
                 entries: at.entries - 1,
                 phase: at.phase,
                 meanings: at.meanings,
-                prunable,
             };
             entry(table, store, t, i, to)
         }
     }
 }
 
-// What is expanded next, its scope being prunable there.
+// An expansion of its own: with that set prunable, and afterwards the one of before.
+fn inside(
+    table: &mut [u32],
+    store: &mut [u64],
+    s: State,
+    i: u32,
+    at: Surroundings,
+    set: ScopeSet,
+) -> Answer
+    requires { ⌜ ReadyToExpand (now table) (now store) s i at ⌝ }
+    ensures { λ r. ⌜ ExpandedInside at (now (store .entry)) (now (store .exit)) (now (table .entry)) (now (table .exit)) s (scopesOf set) i r ⌝ }
+{
+    let before = prunable::get(store);
+    prunable::put(store, set);
+    let r = expand(table, store, s, i, at);
+    prunable::put(store, before);
+    r
+}
+
+// A body, its scope being prunable there.
 fn in_place(table: &mut [u32], store: &mut [u64], n: Onward, at: Surroundings) -> Answer
     requires { ⌜ ReadyOnward (now table) (now store) n at ⌝ }
     ensures { λ r. ⌜ ExpandedOnward at (now (store .entry)) (now (store .exit)) (now (table .entry)) (now (table .exit)) n r ⌝ }
@@ -59,16 +77,15 @@ fn in_place(table: &mut [u32], store: &mut [u64], n: Onward, at: Surroundings) -
         Onward::Refused(f) => Answer::Refused(f),
         Onward::Done(x) => {
             let scope = x.scope;
-            let prunable = at.prunable;
-            let more = prunable.add(scope);
+            let before = prunable::get(store);
+            let more = before.add(scope);
             let to = Surroundings {
                 entries: at.entries,
                 phase: at.phase,
                 meanings: x.meanings,
-                prunable: more,
             };
             let s = x.state;
-            expand(table, store, s, x.at, to)
+            inside(table, store, s, x.at, to, more)
         }
     }
 }
@@ -102,7 +119,7 @@ fn list(table: &mut [u32], store: &mut [u64], s: State, i: u32, c: u32, at: Surr
         Meaning::Lambda => binders::lambda(table, store, s, i, x.head, x.tail, at),
         Meaning::LetSyntax => binders::let_syntax(table, store, s, x.tail, at),
         Meaning::Quote => plain::quote(table, s, i, x.head, x.tail),
-        Meaning::Syntax => plain::syntax_form(table, s, i, x.head, x.tail, at),
+        Meaning::Syntax => plain::syntax_form(table, store, s, i, x.head, x.tail, at),
         Meaning::Variable(_) => application(table, store, s, i, c, at),
         Meaning::Macro(v) => macro_use(table, store, s, i, v, at),
         Meaning::Unknown => application(table, store, s, i, c, at),
@@ -142,7 +159,8 @@ fn parts(table: &mut [u32], store: &mut [u64], s: State, c: u32, at: Surrounding
     let mut turned: u32 = 0;
     while from != 0 {
         let x = table::get_cell(table, from);
-        match expand(table, store, t, x.head, at) {
+        let set = prunable::get(store);
+        match inside(table, store, t, x.head, at, set) {
             Answer::Refused(f) => return Answer::Refused(f),
             Answer::Done(o) => {
                 let s1 = o.state;
@@ -174,6 +192,11 @@ fn macro_use(
     requires { ⌜ ReadyMacro (now table) s i v at × Held (now store) s ⌝ }
     ensures { λ r. ⌜ ExpandedMacro at (now (store .entry)) (now (store .exit)) (now (table .entry)) (now (table .exit)) s i v r ⌝ }
 {
-    let n = rewriting::rewritten(table, s, i, v, at);
-    in_place(table, store, n, at)
+    match rewriting::rewritten(table, store, s, i, v, at) {
+        Answer::Refused(f) => Answer::Refused(f),
+        Answer::Done(o) => {
+            let s1 = o.state;
+            expand(table, store, s1, o.at, at)
+        }
+    }
 }

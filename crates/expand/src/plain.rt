@@ -7,6 +7,10 @@ use refusals::Refusal;
 use steps::Answer;
 use steps::Out;
 use steps::State;
+use store::prunable;
+ghost use Prim.Native.Nat.{_≤_};
+ghost use lib.ListN.{length};
+ghost use Rattle.store.specs.Sizes.{heldSize};
 ghost use Rattle.parse.specs.Parsing.{unpaid};
 ghost use Rattle.expand.specs.Leaves.{ReadyName, ExpandedName, ReadyTail, ExpandedQuote, ExpandedSyntax, ReadyPruned, Pruned};
 
@@ -41,27 +45,36 @@ pub fn quote(table: &[u32], s: State, i: u32, head: u32, tail: u32) -> Answer
 // (syntax s), i, by its head and its parts after the head.
 pub fn syntax_form(
     table: &mut [u32],
+    store: &[u64],
     s: State,
     i: u32,
     head: u32,
     tail: u32,
     at: Surroundings,
 ) -> Answer
-    requires { ⌜ ReadyTail (now table) (unpaid s) i head tail ⌝ }
-    ensures { λ r. ⌜ ExpandedSyntax at (now (table .entry)) (now (table .exit)) s i head tail r ⌝ }
+    requires { ⌜ ReadyTail (now table) (unpaid s) i head tail × (heldSize ≤ length (now store)) ⌝ }
+    ensures { λ r. ⌜ ExpandedSyntax (at .phase) (now (store .entry)) (now (table .entry)) (now (table .exit)) s i head tail r ⌝ }
 {
     match forms::one_part(table, tail) {
         One::Not => s.refuse(Refusal::NoRule),
-        One::Is(x) => pruned(table, s, i, head, x, at),
+        One::Is(x) => pruned(table, store, s, i, head, x, at.phase),
     }
 }
 
-pub fn pruned(table: &mut [u32], s: State, i: u32, head: u32, x: u32, at: Surroundings) -> Answer
-    requires { ⌜ ReadyPruned (now table) (unpaid s) i head x ⌝ }
-    ensures { λ r. ⌜ Pruned at (now (table .entry)) (now (table .exit)) s i head x r ⌝ }
+pub fn pruned(
+    table: &mut [u32],
+    store: &[u64],
+    s: State,
+    i: u32,
+    head: u32,
+    x: u32,
+    phase: u32,
+) -> Answer
+    requires { ⌜ ReadyPruned (now table) (unpaid s) i head x × (heldSize ≤ length (now store)) ⌝ }
+    ensures { λ r. ⌜ Pruned phase (now (store .entry)) (now (table .entry)) (now (table .exit)) s i head x r ⌝ }
 {
-    let prunable = at.prunable;
-    match scoping::prune_from(table, s, x, at.phase, prunable) {
+    let set = prunable::get(store);
+    match scoping::prune_from(table, s, x, phase, set) {
         Answer::Refused(f) => Answer::Refused(f),
         Answer::Done(o) => {
             let s1 = o.state;

@@ -8,8 +8,10 @@ use scoping::Marking;
 use steps::Answer;
 use steps::State;
 use steps::Stop;
+use store::prunable;
 use table::Node;
 ghost use Rattle.scopes.specs.Sets.{Declared};
+ghost use Rattle.steps.specs.States.{Held};
 ghost use Rattle.expand.specs.Leaves.{ReadyValue, Values, ReadyBack, Backs, ReadyTranscribed, Transcribes};
 ghost use Rattle.expand.specs.InPlace.{ReadyScoped, Scoped, ReadyDefined, Defined, ReadyMacro, Rewritten};
 
@@ -72,7 +74,7 @@ pub fn transcribe(
 
 // ---- what is expanded next
 
-// What a form leaves to be expanded in its place: where it lies, the scope that is prunable in it, and the meanings there.
+// The body that a form leaves to be expanded in its place: where it lies, the scope that is prunable in it, and the meanings there.
 pub struct Next {
     pub at: u32,
     pub scope: Scope,
@@ -138,29 +140,27 @@ pub fn defined(
     }
 }
 
-// What the macro v makes of its use, i. The use scope is prunable there.
-pub fn rewritten(table: &mut [u32], s: State, i: u32, v: u32, at: Surroundings) -> Onward
-    requires { ⌜ ReadyMacro (now table) s i v at ⌝ }
-    ensures { λ r. ⌜ Rewritten at (now (table .entry)) (now (table .exit)) s i v r ⌝ }
+// What the macro v makes of its use, i. From here on the use scope is prunable in the expansion in progress.
+pub fn rewritten(
+    table: &mut [u32],
+    store: &mut [u64],
+    s: State,
+    i: u32,
+    v: u32,
+    at: Surroundings,
+) -> Answer
+    requires { ⌜ ReadyMacro (now table) s i v at × Held (now store) s ⌝ }
+    ensures { λ r. ⌜ Rewritten at (now (store .entry)) (now (store .exit)) (now (table .entry)) (now (table .exit)) s i v r ⌝ }
 {
     match scoping::mark_form(table, s, i, at.phase) {
-        Marking::Refused(f) => Onward::Refused(f),
+        Marking::Refused(f) => Answer::Refused(f),
         Marking::Done(m) => {
+            let uses = m.uses;
+            let before = prunable::get(store);
+            prunable::put(store, before.add(uses));
             let s1 = m.state;
             let intro = m.intro;
-            match transcribe(table, s1, v, m.at, at.phase, intro, at.entries) {
-                Answer::Refused(f) => Onward::Refused(f),
-                Answer::Done(o) => {
-                    let scope = m.uses;
-                    let state = o.state;
-                    Onward::Done(Next {
-                        at: o.at,
-                        scope,
-                        meanings: at.meanings,
-                        state,
-                    })
-                }
-            }
+            transcribe(table, s1, v, m.at, at.phase, intro, at.entries)
         }
     }
 }

@@ -3,6 +3,9 @@ use borrow.Author.Needs.{needs}
 use Rattle.expand.proofs.plain.pruned.Statement.{statement}
 use Rattle.expand.proofs.plain.pruned.Tie as tie
 
+get-requires : tie.Need-get-requires
+get-requires c κs = search (laws, needs)
+
 prune-from-requires : tie.Need-prune-from-requires
 prune-from-requires c κs = search (laws, needs)
 
@@ -31,6 +34,7 @@ pub pruned-spec : {M : Type 1} → statement M
 pruned-spec =
     tie.close
     (tie.spec
+    get-requires
     prune-from-requires
     enum-known-f
     enum-known-o

@@ -5,8 +5,8 @@ use Rattle.expand.proofs.entry.Reads as entry
 use Rattle.table.proofs.get_node.Reads as get-node-reads
 use Rattle.expand.proofs.list.Reads as list
 use Rattle.expand.proofs.plain.reference.Reads as reference-reads
-use Rattle.expand.proofs.+application+binders-abstraction+binders-binding+binders-function+binders-lambda+binders-let_syntax+binders-rhs+entry+expand+in_place+list+macro_use+parts.Lts-entry as lts
-use Rattle.expand.proofs.+application+binders-abstraction+binders-binding+binders-function+binders-lambda+binders-let_syntax+binders-rhs+entry+expand+in_place+list+macro_use+parts.Proof.Measures.{entry-at, list-below}
+use Rattle.expand.proofs.+application+binders-abstraction+binders-binding+binders-function+binders-lambda+binders-let_syntax+binders-rhs+entry+expand+in_place+inside+list+macro_use+parts.Lts-entry as lts
+use Rattle.expand.proofs.+application+binders-abstraction+binders-binding+binders-function+binders-lambda+binders-let_syntax+binders-rhs+entry+expand+in_place+inside+list+macro_use+parts.Proof.Measures.{entry-at, list-below}
 
 module _ (t : ℕ) where
   abbrev env : lts.Claims

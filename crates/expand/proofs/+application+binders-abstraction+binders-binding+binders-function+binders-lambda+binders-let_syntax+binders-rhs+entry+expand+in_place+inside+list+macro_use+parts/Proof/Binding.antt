@@ -4,8 +4,8 @@ use Rattle.expand.proofs.Macros.{laws}
 use Rattle.scoping.proofs.bind_fresh.Reads as bind-fresh-reads
 use Rattle.expand.proofs.binders.binding.Reads as binding
 use Rattle.expand.proofs.binders.rhs.Reads as rhs
-use Rattle.expand.proofs.+application+binders-abstraction+binders-binding+binders-function+binders-lambda+binders-let_syntax+binders-rhs+entry+expand+in_place+list+macro_use+parts.Lts-binders-binding as lts
-use Rattle.expand.proofs.+application+binders-abstraction+binders-binding+binders-function+binders-lambda+binders-let_syntax+binders-rhs+entry+expand+in_place+list+macro_use+parts.Proof.Measures.{binding-at, rhs-below}
+use Rattle.expand.proofs.+application+binders-abstraction+binders-binding+binders-function+binders-lambda+binders-let_syntax+binders-rhs+entry+expand+in_place+inside+list+macro_use+parts.Lts-binders-binding as lts
+use Rattle.expand.proofs.+application+binders-abstraction+binders-binding+binders-function+binders-lambda+binders-let_syntax+binders-rhs+entry+expand+in_place+inside+list+macro_use+parts.Proof.Measures.{binding-at, rhs-below}
 
 module _ (t : ℕ) where
   abbrev env : lts.Claims

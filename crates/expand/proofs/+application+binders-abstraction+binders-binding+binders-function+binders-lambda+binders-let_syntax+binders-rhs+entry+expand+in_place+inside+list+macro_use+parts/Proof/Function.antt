@@ -4,8 +4,8 @@ use Rattle.expand.proofs.Functions.{laws}
 use Rattle.expand.proofs.binders.abstraction.Reads as abstraction
 use Rattle.scoping.proofs.bind_fresh.Reads as bind-fresh-reads
 use Rattle.expand.proofs.binders.function.Reads as function
-use Rattle.expand.proofs.+application+binders-abstraction+binders-binding+binders-function+binders-lambda+binders-let_syntax+binders-rhs+entry+expand+in_place+list+macro_use+parts.Lts-binders-function as lts
-use Rattle.expand.proofs.+application+binders-abstraction+binders-binding+binders-function+binders-lambda+binders-let_syntax+binders-rhs+entry+expand+in_place+list+macro_use+parts.Proof.Measures.{function-at, abstraction-below}
+use Rattle.expand.proofs.+application+binders-abstraction+binders-binding+binders-function+binders-lambda+binders-let_syntax+binders-rhs+entry+expand+in_place+inside+list+macro_use+parts.Lts-binders-function as lts
+use Rattle.expand.proofs.+application+binders-abstraction+binders-binding+binders-function+binders-lambda+binders-let_syntax+binders-rhs+entry+expand+in_place+inside+list+macro_use+parts.Proof.Measures.{function-at, abstraction-below}
 
 module _ (t : ℕ) where
   abbrev env : lts.Claims

@@ -1,15 +1,16 @@
 use borrow.Author.Needs.{needs}
 use Prim.Native.Nat.{ℕ}
 use Rattle.expand.proofs.Applying.{laws}
+use Rattle.store.proofs.prunable.get.Reads as get-reads
 use Rattle.scopes.proofs.ScopeSet.add.Reads as add-reads
-use Rattle.expand.proofs.expand.Reads as expand
+use Rattle.expand.proofs.inside.Reads as inside
 use Rattle.expand.proofs.in_place.Reads as in-place
-use Rattle.expand.proofs.+application+binders-abstraction+binders-binding+binders-function+binders-lambda+binders-let_syntax+binders-rhs+entry+expand+in_place+list+macro_use+parts.Lts-in_place as lts
-use Rattle.expand.proofs.+application+binders-abstraction+binders-binding+binders-function+binders-lambda+binders-let_syntax+binders-rhs+entry+expand+in_place+list+macro_use+parts.Proof.Measures.{in-place-at, expand-below}
+use Rattle.expand.proofs.+application+binders-abstraction+binders-binding+binders-function+binders-lambda+binders-let_syntax+binders-rhs+entry+expand+in_place+inside+list+macro_use+parts.Lts-in_place as lts
+use Rattle.expand.proofs.+application+binders-abstraction+binders-binding+binders-function+binders-lambda+binders-let_syntax+binders-rhs+entry+expand+in_place+inside+list+macro_use+parts.Proof.Measures.{in-place-at, inside-below}
 
 module _ (t : ℕ) where
   abbrev env : lts.Claims
-  env = (add-reads.Asked, add-reads.Learnt, expand-below t, expand.Post)
+  env = (get-reads.Asked, get-reads.Learnt, add-reads.Asked, add-reads.Learnt, inside-below t, inside.Post)
 
   enum-known-n : lts.Need-enum-known-n env (in-place-at t) in-place.Post
   enum-known-n c = search (laws, needs)
@@ -17,11 +18,14 @@ module _ (t : ℕ) where
   enum-known-n-2 : lts.Need-enum-known-n-2 env (in-place-at t) in-place.Post
   enum-known-n-2 c = search (laws, needs)
 
+  get-requires : lts.Need-get-requires env (in-place-at t) in-place.Post
+  get-requires c κs = search (laws, needs)
+
   add-requires : lts.Need-add-requires env (in-place-at t) in-place.Post
   add-requires c κs = search (laws, needs)
 
-  expand-requires : lts.Need-expand-requires env (in-place-at t) in-place.Post
-  expand-requires c κs = search (laws, needs)
+  inside-requires : lts.Need-inside-requires env (in-place-at t) in-place.Post
+  inside-requires c κs = search (laws, needs)
 
   returns : lts.Need-returns env (in-place-at t) in-place.Post
   returns c = search (laws, needs)
@@ -39,8 +43,9 @@ module _ (t : ℕ) where
   closed = lts.spec env (in-place-at t) in-place.Post
       enum-known-n
       enum-known-n-2
+      get-requires
       add-requires
-      expand-requires
+      inside-requires
       returns
       same-length
       same-length-2

@@ -12,6 +12,8 @@ use Rattle.expand.proofs.binders.function.Reads as function
 use Rattle.expand.proofs.binders.function.Kinds as function-kinds
 use Rattle.expand.proofs.in_place.Reads as in-place
 use Rattle.expand.proofs.in_place.Kinds as in-place-kinds
+use Rattle.expand.proofs.inside.Reads as inside
+use Rattle.expand.proofs.inside.Kinds as inside-kinds
 use Rattle.expand.proofs.binders.lambda.Reads as lambda
 use Rattle.expand.proofs.binders.lambda.Kinds as lambda-kinds
 use Rattle.expand.proofs.binders.let_syntax.Reads as let-syntax
@@ -84,13 +86,22 @@ abbrev pub function-below : ℕ → In 2 function-kinds.ps
 function-below t = and 2 function-kinds.ps (falls 2 function-kinds.ps _<_ μ-function t) function.Pre
 
 abbrev pub μ-in-place : Measures 2 in-place-kinds.ps ℕ
-μ-in-place κs a = leftOf (a .1 .1 .0) * 32 + 1
+μ-in-place κs a = leftOf (a .1 .1 .0) * 32 + 2
 
 abbrev pub in-place-at : ℕ → In 2 in-place-kinds.ps
 in-place-at t = and 2 in-place-kinds.ps (is 2 in-place-kinds.ps μ-in-place t) in-place.Pre
 
 abbrev pub in-place-below : ℕ → In 2 in-place-kinds.ps
 in-place-below t = and 2 in-place-kinds.ps (falls 2 in-place-kinds.ps _<_ μ-in-place t) in-place.Pre
+
+abbrev pub μ-inside : Measures 2 inside-kinds.ps ℕ
+μ-inside κs a = a .1 .1 .0 .left * 32 + 1
+
+abbrev pub inside-at : ℕ → In 2 inside-kinds.ps
+inside-at t = and 2 inside-kinds.ps (is 2 inside-kinds.ps μ-inside t) inside.Pre
+
+abbrev pub inside-below : ℕ → In 2 inside-kinds.ps
+inside-below t = and 2 inside-kinds.ps (falls 2 inside-kinds.ps _<_ μ-inside t) inside.Pre
 
 abbrev pub μ-lambda : Measures 2 lambda-kinds.ps ℕ
 μ-lambda κs a = a .1 .1 .0 .left * 32 + 18

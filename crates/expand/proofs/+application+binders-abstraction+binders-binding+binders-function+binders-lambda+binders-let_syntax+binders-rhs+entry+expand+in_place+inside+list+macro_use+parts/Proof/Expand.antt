@@ -4,8 +4,8 @@ use Rattle.expand.proofs.Entering.{laws}
 use Rattle.steps.proofs.State.enter.Reads as enter-reads
 use Rattle.expand.proofs.entry.Reads as entry
 use Rattle.expand.proofs.expand.Reads as expand
-use Rattle.expand.proofs.+application+binders-abstraction+binders-binding+binders-function+binders-lambda+binders-let_syntax+binders-rhs+entry+expand+in_place+list+macro_use+parts.Lts-expand as lts
-use Rattle.expand.proofs.+application+binders-abstraction+binders-binding+binders-function+binders-lambda+binders-let_syntax+binders-rhs+entry+expand+in_place+list+macro_use+parts.Proof.Measures.{expand-at, entry-below}
+use Rattle.expand.proofs.+application+binders-abstraction+binders-binding+binders-function+binders-lambda+binders-let_syntax+binders-rhs+entry+expand+in_place+inside+list+macro_use+parts.Lts-expand as lts
+use Rattle.expand.proofs.+application+binders-abstraction+binders-binding+binders-function+binders-lambda+binders-let_syntax+binders-rhs+entry+expand+in_place+inside+list+macro_use+parts.Proof.Measures.{expand-at, entry-below}
 
 module _ (t : ℕ) where
   abbrev env : lts.Claims
@@ -20,8 +20,8 @@ module _ (t : ℕ) where
   enum-known-t : lts.Need-enum-known-t env (expand-at t) expand.Post
   enum-known-t c = search (laws, needs)
 
-  sub-t12 : lts.Need-sub-t12 env (expand-at t) expand.Post
-  sub-t12 c = search (laws, needs)
+  sub-t11 : lts.Need-sub-t11 env (expand-at t) expand.Post
+  sub-t11 c = search (laws, needs)
 
   entry-requires : lts.Need-entry-requires env (expand-at t) expand.Post
   entry-requires c κs = search (laws, needs)
@@ -43,7 +43,7 @@ module _ (t : ℕ) where
       enter-requires
       enum-known-f
       enum-known-t
-      sub-t12
+      sub-t11
       entry-requires
       returns
       same-length

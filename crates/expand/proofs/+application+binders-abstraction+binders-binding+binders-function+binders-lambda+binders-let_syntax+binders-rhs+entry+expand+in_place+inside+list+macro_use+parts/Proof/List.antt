@@ -12,8 +12,8 @@ use Rattle.expand.proofs.macro_use.Reads as macro-use
 use Rattle.environment.proofs.meaning_of.Reads as meaning-of-reads
 use Rattle.expand.proofs.plain.quote.Reads as quote-reads
 use Rattle.expand.proofs.plain.syntax_form.Reads as syntax-form-reads
-use Rattle.expand.proofs.+application+binders-abstraction+binders-binding+binders-function+binders-lambda+binders-let_syntax+binders-rhs+entry+expand+in_place+list+macro_use+parts.Lts-list as lts
-use Rattle.expand.proofs.+application+binders-abstraction+binders-binding+binders-function+binders-lambda+binders-let_syntax+binders-rhs+entry+expand+in_place+list+macro_use+parts.Proof.Measures.{list-at, application-below, lambda-below, let-syntax-below, macro-use-below}
+use Rattle.expand.proofs.+application+binders-abstraction+binders-binding+binders-function+binders-lambda+binders-let_syntax+binders-rhs+entry+expand+in_place+inside+list+macro_use+parts.Lts-list as lts
+use Rattle.expand.proofs.+application+binders-abstraction+binders-binding+binders-function+binders-lambda+binders-let_syntax+binders-rhs+entry+expand+in_place+inside+list+macro_use+parts.Proof.Measures.{list-at, application-below, lambda-below, let-syntax-below, macro-use-below}
 
 module _ (t : ℕ) where
   abbrev env : lts.Claims

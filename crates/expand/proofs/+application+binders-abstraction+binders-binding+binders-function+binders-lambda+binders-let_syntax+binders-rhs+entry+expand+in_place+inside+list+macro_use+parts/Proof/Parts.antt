@@ -2,14 +2,15 @@ use borrow.Author.Needs.{needs}
 use Prim.Native.Nat.{ℕ}
 use Rattle.expand.proofs.InTurn.{parts-laws, part-linkable, part-copy-linkable, part-falls, part-more}
 use Rattle.expand.proofs.InTurn.{Going}
-use Rattle.expand.proofs.expand.Reads as expand
+use Rattle.store.proofs.prunable.get.Reads as get-reads
+use Rattle.expand.proofs.inside.Reads as inside
 use Rattle.expand.proofs.parts.Reads as parts
 use Rattle.steps.proofs.State.raised.Reads as raised-reads
 use Rattle.table.proofs.get_cell.Reads as get-cell-reads
 use Rattle.things.proofs.link.Reads as link-reads
 use Rattle.things.proofs.turn.Reads as turn-reads
-use Rattle.expand.proofs.+application+binders-abstraction+binders-binding+binders-function+binders-lambda+binders-let_syntax+binders-rhs+entry+expand+in_place+list+macro_use+parts.Lts-parts as lts
-use Rattle.expand.proofs.+application+binders-abstraction+binders-binding+binders-function+binders-lambda+binders-let_syntax+binders-rhs+entry+expand+in_place+list+macro_use+parts.Proof.Measures.{parts-at, expand-below}
+use Rattle.expand.proofs.+application+binders-abstraction+binders-binding+binders-function+binders-lambda+binders-let_syntax+binders-rhs+entry+expand+in_place+inside+list+macro_use+parts.Lts-parts as lts
+use Rattle.expand.proofs.+application+binders-abstraction+binders-binding+binders-function+binders-lambda+binders-let_syntax+binders-rhs+entry+expand+in_place+inside+list+macro_use+parts.Proof.Measures.{parts-at, inside-below}
 
 abbrev Inv-loop : lts.InvT-loop
 Inv-loop table₀ store₀ c at t₀ from₀ turned₀ table store t from turned = Going at store₀ table₀ t₀ c store table t from turned
@@ -19,7 +20,7 @@ abbrev μ-loop : lts.MeasureT-loop
 
 module _ (t : ℕ) where
   abbrev env : lts.Claims
-  env = (get-cell-reads.Asked, get-cell-reads.Learnt, expand-below t, expand.Post, link-reads.Asked, link-reads.Learnt, raised-reads.Asked, raised-reads.Learnt, turn-reads.Asked, turn-reads.Learnt)
+  env = (get-cell-reads.Asked, get-cell-reads.Learnt, get-reads.Asked, get-reads.Learnt, inside-below t, inside.Post, link-reads.Asked, link-reads.Learnt, raised-reads.Asked, raised-reads.Learnt, turn-reads.Asked, turn-reads.Learnt)
 
   loop-holds : lts.Need-loop-holds env (parts-at t) parts.Post Inv-loop μ-loop
   loop-holds c = search (parts-laws, needs)
@@ -27,8 +28,11 @@ module _ (t : ℕ) where
   get-cell-requires : lts.Need-get-cell-requires env (parts-at t) parts.Post Inv-loop μ-loop
   get-cell-requires c κs = search (parts-laws, needs)
 
-  expand-requires : lts.Need-expand-requires env (parts-at t) parts.Post Inv-loop μ-loop
-  expand-requires c κs = search (parts-laws, needs)
+  get-requires : lts.Need-get-requires env (parts-at t) parts.Post Inv-loop μ-loop
+  get-requires c κs = search (parts-laws, needs)
+
+  inside-requires : lts.Need-inside-requires env (parts-at t) parts.Post Inv-loop μ-loop
+  inside-requires c κs = search (parts-laws, needs)
 
   enum-known-f : lts.Need-enum-known-f env (parts-at t) parts.Post Inv-loop μ-loop
   enum-known-f c = search (parts-laws, needs)
@@ -46,14 +50,14 @@ module _ (t : ℕ) where
   enum-known-o c = search (parts-laws, needs)
 
   link-requires : lts.Need-link-requires env (parts-at t) parts.Post Inv-loop μ-loop
-  link-requires c κs = search (part-linkable, part-copy-linkable, needs, c .before .before .before .before .before .before .before .before .before .before .before .before .before .before .before .before .before .before .pre .1, c .before .before .before .before .before .before .before .before .before .before .before .before .before .before .before .loop .inv, c .before .before .before .before .before .before .before .before .before .before .before .before .before .before .loop-test .taken, c .before .before .before .before .before .before .before .before .before .before .before .before .get-cell .ensures, c .before .before .before .before .before .before .before .before .before .expand .ensures, c .before .before .known-told2 .given, c .before .before .before .before .before .before .before .before .table)
+  link-requires c κs = search (part-linkable, part-copy-linkable, needs, c .before .before .before .before .before .before .before .before .before .before .before .before .before .before .before .before .before .before .before .before .pre .1, c .before .before .before .before .before .before .before .before .before .before .before .before .before .before .before .before .before .loop .inv, c .before .before .before .before .before .before .before .before .before .before .before .before .before .before .before .before .loop-test .taken, c .before .before .before .before .before .before .before .before .before .before .before .before .before .before .get-cell .ensures, c .before .before .before .before .before .before .before .before .before .before .before .before .get .ensures, c .before .before .before .before .before .before .before .before .before .inside .ensures, c .before .before .known-told2 .given, c .before .before .before .before .before .before .before .before .table)
 
   raised-requires : lts.Need-raised-requires env (parts-at t) parts.Post Inv-loop μ-loop
   raised-requires c κs = search (parts-laws, needs)
 
   loop-less : lts.Need-loop-less env (parts-at t) parts.Post Inv-loop μ-loop
   loop-less c =
-      let read = c .before .before .before .before .before .before .before .before .before .before .before .before .before .before .before .before in
+      let read = c .before .before .before .before .before .before .before .before .before .before .before .before .before .before .before .before .before .before in
       let tested = read .before .before in
       let going = tested .before in
       let start = going .before .before .before in
@@ -65,11 +69,12 @@ module _ (t : ℕ) where
       let told = linked .before .before .before in
       let stored = told .before .before .before .before in
       let expanded = stored .before .before .before in
-      let read = expanded .before .before .before in
+      let got = expanded .before .before .before in
+      let read = got .before .before in
       let tested = read .before .before in
       let going = tested .before in
       let start = going .before .before .before in
-      part-more (start .pre .1) (going .loop .inv) (tested .loop-test .taken) (read .get-cell .ensures) (expanded .expand .ensures)
+      part-more (start .pre .1) (going .loop .inv) (tested .loop-test .taken) (read .get-cell .ensures) (got .get .ensures) (expanded .inside .ensures)
       (search needs) (search (needs, stored .before .before .table)) (search (needs, stored .store)) (linked .link .ensures) (search (needs, c .before .before .table2)) (c .raised .ensures)
 
   turn-requires : lts.Need-turn-requires env (parts-at t) parts.Post Inv-loop μ-loop
@@ -93,7 +98,8 @@ module _ (t : ℕ) where
       μ-loop
       loop-holds
       get-cell-requires
-      expand-requires
+      get-requires
+      inside-requires
       enum-known-f
       same-length
       same-length-2

@@ -6,8 +6,8 @@ use Rattle.steps.proofs.State.refuse.Reads as refuse-reads
 use Rattle.forms.proofs.is_identifier.Reads as is-identifier-reads
 use Rattle.expand.proofs.binders.lambda.Reads as lambda
 use Rattle.forms.proofs.two_parts.Reads as two-parts-reads
-use Rattle.expand.proofs.+application+binders-abstraction+binders-binding+binders-function+binders-lambda+binders-let_syntax+binders-rhs+entry+expand+in_place+list+macro_use+parts.Lts-binders-lambda as lts
-use Rattle.expand.proofs.+application+binders-abstraction+binders-binding+binders-function+binders-lambda+binders-let_syntax+binders-rhs+entry+expand+in_place+list+macro_use+parts.Proof.Measures.{lambda-at, function-below}
+use Rattle.expand.proofs.+application+binders-abstraction+binders-binding+binders-function+binders-lambda+binders-let_syntax+binders-rhs+entry+expand+in_place+inside+list+macro_use+parts.Lts-binders-lambda as lts
+use Rattle.expand.proofs.+application+binders-abstraction+binders-binding+binders-function+binders-lambda+binders-let_syntax+binders-rhs+entry+expand+in_place+inside+list+macro_use+parts.Proof.Measures.{lambda-at, function-below}
 use Rattle.expand.proofs.Functions.{lambda-function-ready}
 
 module _ (t : ℕ) where

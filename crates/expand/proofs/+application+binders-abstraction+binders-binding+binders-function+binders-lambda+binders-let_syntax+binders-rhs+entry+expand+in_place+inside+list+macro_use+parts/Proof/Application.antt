@@ -4,8 +4,8 @@ use Rattle.expand.proofs.Applying.{laws}
 use Rattle.expand.proofs.application.Reads as application
 use Rattle.expand.proofs.lists.listed.Reads as listed-reads
 use Rattle.expand.proofs.parts.Reads as parts
-use Rattle.expand.proofs.+application+binders-abstraction+binders-binding+binders-function+binders-lambda+binders-let_syntax+binders-rhs+entry+expand+in_place+list+macro_use+parts.Lts-application as lts
-use Rattle.expand.proofs.+application+binders-abstraction+binders-binding+binders-function+binders-lambda+binders-let_syntax+binders-rhs+entry+expand+in_place+list+macro_use+parts.Proof.Measures.{application-at, parts-below}
+use Rattle.expand.proofs.+application+binders-abstraction+binders-binding+binders-function+binders-lambda+binders-let_syntax+binders-rhs+entry+expand+in_place+inside+list+macro_use+parts.Lts-application as lts
+use Rattle.expand.proofs.+application+binders-abstraction+binders-binding+binders-function+binders-lambda+binders-let_syntax+binders-rhs+entry+expand+in_place+inside+list+macro_use+parts.Proof.Measures.{application-at, parts-below}
 
 module _ (t : ℕ) where
   abbrev env : lts.Claims

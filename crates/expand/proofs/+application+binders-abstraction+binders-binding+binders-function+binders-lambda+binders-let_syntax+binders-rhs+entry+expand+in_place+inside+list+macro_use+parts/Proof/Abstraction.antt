@@ -5,8 +5,8 @@ use Rattle.expand.proofs.binders.abstraction.Reads as abstraction
 use Rattle.expand.proofs.in_place.Reads as in-place
 use Rattle.expand.proofs.rewriting.scoped.Reads as scoped-reads
 use Rattle.expand.proofs.lists.three_list.Reads as three-list-reads
-use Rattle.expand.proofs.+application+binders-abstraction+binders-binding+binders-function+binders-lambda+binders-let_syntax+binders-rhs+entry+expand+in_place+list+macro_use+parts.Lts-binders-abstraction as lts
-use Rattle.expand.proofs.+application+binders-abstraction+binders-binding+binders-function+binders-lambda+binders-let_syntax+binders-rhs+entry+expand+in_place+list+macro_use+parts.Proof.Measures.{abstraction-at, in-place-below}
+use Rattle.expand.proofs.+application+binders-abstraction+binders-binding+binders-function+binders-lambda+binders-let_syntax+binders-rhs+entry+expand+in_place+inside+list+macro_use+parts.Lts-binders-abstraction as lts
+use Rattle.expand.proofs.+application+binders-abstraction+binders-binding+binders-function+binders-lambda+binders-let_syntax+binders-rhs+entry+expand+in_place+inside+list+macro_use+parts.Proof.Measures.{abstraction-at, in-place-below}
 
 module _ (t : ℕ) where
   abbrev env : lts.Claims

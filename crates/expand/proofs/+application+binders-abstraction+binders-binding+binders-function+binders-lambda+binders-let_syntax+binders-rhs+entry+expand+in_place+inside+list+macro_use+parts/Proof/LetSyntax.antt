@@ -7,8 +7,8 @@ use Rattle.expand.proofs.in_place.Reads as in-place
 use Rattle.forms.proofs.is_identifier.Reads as is-identifier-reads
 use Rattle.expand.proofs.binders.let_syntax.Reads as let-syntax
 use Rattle.forms.proofs.three_parts.Reads as three-parts-reads
-use Rattle.expand.proofs.+application+binders-abstraction+binders-binding+binders-function+binders-lambda+binders-let_syntax+binders-rhs+entry+expand+in_place+list+macro_use+parts.Lts-binders-let_syntax as lts
-use Rattle.expand.proofs.+application+binders-abstraction+binders-binding+binders-function+binders-lambda+binders-let_syntax+binders-rhs+entry+expand+in_place+list+macro_use+parts.Proof.Measures.{let-syntax-at, binding-below, in-place-below}
+use Rattle.expand.proofs.+application+binders-abstraction+binders-binding+binders-function+binders-lambda+binders-let_syntax+binders-rhs+entry+expand+in_place+inside+list+macro_use+parts.Lts-binders-let_syntax as lts
+use Rattle.expand.proofs.+application+binders-abstraction+binders-binding+binders-function+binders-lambda+binders-let_syntax+binders-rhs+entry+expand+in_place+inside+list+macro_use+parts.Proof.Measures.{let-syntax-at, binding-below, in-place-below}
 
 module _ (t : ℕ) where
   abbrev env : lts.Claims

@@ -3,15 +3,15 @@ use Prim.Native.Nat.{ℕ}
 use Rattle.expand.proofs.Macros.{laws, rhs-defined-ready}
 use Rattle.expand.proofs.rewriting.defined.Reads as defined-reads
 use Rattle.scopes.proofs.ScopeSet.empty.Reads as empty-reads
-use Rattle.expand.proofs.expand.Reads as expand
+use Rattle.expand.proofs.inside.Reads as inside
 use Rattle.expand.proofs.binders.rhs.Reads as rhs
 use Rattle.steps.proofs.State.stop.Reads as stop-reads
-use Rattle.expand.proofs.+application+binders-abstraction+binders-binding+binders-function+binders-lambda+binders-let_syntax+binders-rhs+entry+expand+in_place+list+macro_use+parts.Lts-binders-rhs as lts
-use Rattle.expand.proofs.+application+binders-abstraction+binders-binding+binders-function+binders-lambda+binders-let_syntax+binders-rhs+entry+expand+in_place+list+macro_use+parts.Proof.Measures.{rhs-at, expand-below}
+use Rattle.expand.proofs.+application+binders-abstraction+binders-binding+binders-function+binders-lambda+binders-let_syntax+binders-rhs+entry+expand+in_place+inside+list+macro_use+parts.Lts-binders-rhs as lts
+use Rattle.expand.proofs.+application+binders-abstraction+binders-binding+binders-function+binders-lambda+binders-let_syntax+binders-rhs+entry+expand+in_place+inside+list+macro_use+parts.Proof.Measures.{rhs-at, inside-below}
 
 module _ (t : ℕ) where
   abbrev env : lts.Claims
-  env = (stop-reads.Asked, stop-reads.Learnt, empty-reads.Asked, empty-reads.Learnt, expand-below t, expand.Post, defined-reads.Asked, defined-reads.Learnt)
+  env = (stop-reads.Asked, stop-reads.Learnt, empty-reads.Asked, empty-reads.Learnt, inside-below t, inside.Post, defined-reads.Asked, defined-reads.Learnt)
 
   stop-requires : lts.Need-stop-requires env (rhs-at t) rhs.Post
   stop-requires c κs = search (laws, needs)
@@ -25,8 +25,8 @@ module _ (t : ℕ) where
   add-t17 : lts.Need-add-t17 env (rhs-at t) rhs.Post
   add-t17 c = search (laws, needs)
 
-  expand-requires : lts.Need-expand-requires env (rhs-at t) rhs.Post
-  expand-requires c κs = search (laws, needs)
+  inside-requires : lts.Need-inside-requires env (rhs-at t) rhs.Post
+  inside-requires c κs = search (laws, needs)
 
   enum-known-f : lts.Need-enum-known-f env (rhs-at t) rhs.Post
   enum-known-f c = search (laws, needs)
@@ -35,7 +35,7 @@ module _ (t : ℕ) where
   enum-known-o c = search (laws, needs)
 
   defined-requires : lts.Need-defined-requires env (rhs-at t) rhs.Post
-  defined-requires c κs = search (rhs-defined-ready, needs, c .before .before .before .before .before .before .before .before .before .before .before .before .before .before .before .before .before .before .pre .1, c .before .before .before .before .before .before .before .before .before .before .before .before .before .empty .ensures, c .before .before .before .before .before .before .before .before .before .before .before .before .before .before .if1 .left, c .before .before .before .before .before .before .before .before .before .before .expand .ensures, c .before .before .before .known-told2 .given, c .before .before .before .before .before .before .before .before .before .table, c .before .before .before .before .before .before .before .store)
+  defined-requires c κs = search (rhs-defined-ready, needs, c .before .before .before .before .before .before .before .before .before .before .before .before .before .before .before .before .before .before .pre .1, c .before .before .before .before .before .before .before .before .before .before .before .before .before .empty .ensures, c .before .before .before .before .before .before .before .before .before .before .before .before .before .before .if1 .left, c .before .before .before .before .before .before .before .before .before .before .inside .ensures, c .before .before .before .known-told2 .given, c .before .before .before .before .before .before .before .before .before .table, c .before .before .before .before .before .before .before .store)
 
   same-length : lts.Need-same-length env (rhs-at t) rhs.Post
   same-length c = search (laws, needs)
@@ -61,7 +61,7 @@ module _ (t : ℕ) where
       returns
       empty-requires
       add-t17
-      expand-requires
+      inside-requires
       enum-known-f
       enum-known-o
       defined-requires
