@@ -4,6 +4,7 @@ use mathlib.Core.Path.{_≡_, sym, ap, _∙_, subst}
 use mathlib.Core.List.{List}
 use native.Mathlib.Omega.{arith}
 use lib.ListN.{length}
+use Rattle.model.specs.Scopes.{noScopes}
 use Rattle.model.specs.Resolving.{Bind}
 use Rattle.model.specs.Reading.{Read, Image, readImage}
 use Rattle.model.specs.Steps as m
@@ -19,7 +20,7 @@ use Rattle.steps.specs.declared.State.{State}
 use Rattle.steps.specs.declared.Stop.{Stop}
 use Rattle.steps.specs.declared.Charged.{Charged}
 use Rattle.steps.specs.declared.Charged.the-variants.{Paid, Refused}
-use Rattle.steps.specs.States.{storeOf, stateOf, paid, chargeOf}
+use Rattle.steps.specs.States.{stateOf, paid, chargeOf}
 use Rattle.steps.proofs.Laws.{charge-went, charge-failed, charge-ok, charge-no, then-ok, then-no}
 use Rattle.head.specs.declared.Head.{Head}
 use Rattle.image.specs.declared.Judgement.{Judgement}
@@ -30,7 +31,7 @@ use Rattle.finish.specs.declared.Ending.{Ending}
 use Rattle.finish.specs.declared.Ending.the-variants as ending
 use Rattle.finish.specs.Ends.{EndsAs}
 use Rattle.finish.proofs.Ends.{ends-refused, ends-stopped}
-use Rattle.jobs.specs.Working.{Job, jobEnding, begun, Loaded}
+use Rattle.jobs.specs.Working.{Job, jobEnding, begun, opening, Loaded}
 
 module _ {A B : Type 0} (J : Job A B) (image : List ℕ) (budget room : ℕ) where
   -- the rules' work on an image that was read
@@ -43,27 +44,27 @@ module _ {A B : Type 0} (J : Job A B) (image : List ℕ) (budget room : ℕ) whe
 
   module _ {st : List ℕ} {j : Judgement} (g : Good (J .kind) image st j) where
     -- the rules' state at the start
-    start-is : start budget (g .image) ≡ stateOf (begun j budget) (storeOf st)
+    start-is : start budget (g .image) ≡ stateOf (begun j budget) (opening st)
     unfolding start
     start-is =
-        ap (λ (x : List Bind). record { left = budget; names = g .image .head .names; scopes = g .image .head .scopes; binds = x }) (sym (g .binds-are))
-        ∙ ap (λ (x : Head). record { left = budget; names = x .names; scopes = x .scopes; binds = bindsOf st (j .bindings) }) (sym (g .head-is))
+        ap (λ (x : List Bind). record { left = budget; names = g .image .head .names; scopes = g .image .head .scopes; binds = x; prunable = noScopes }) (sym (g .binds-are))
+        ∙ ap (λ (x : Head). record { left = budget; names = x .names; scopes = x .scopes; binds = bindsOf st (j .bindings); prunable = noScopes }) (sym (g .head-is))
 
     -- with the code's charge
     charged : jobEnding J budget room image
-        ≡ worked budget (after (charge (j .size) (stateOf (begun j budget) (storeOf st))) (λ u. J .work (g .image .root))) (J .ends budget room (g .image .head))
+        ≡ worked budget (after (charge (j .size) (stateOf (begun j budget) (opening st))) (λ u. J .work (g .image .root))) (J .ends budget room (g .image .head))
     unfolding withImage
     charged =
         reading (g .reads)
         ∙ ap (λ (s : m.State). worked budget (after (charge (J .kind .size (g .image .root)) s) (λ u. J .work (g .image .root))) (J .ends budget room (g .image .head))) start-is
-        ∙ ap (λ (n : ℕ). worked budget (after (charge n (stateOf (begun j budget) (storeOf st))) (λ u. J .work (g .image .root))) (J .ends budget room (g .image .head))) (sym (g .size-is))
+        ∙ ap (λ (n : ℕ). worked budget (after (charge n (stateOf (begun j budget) (opening st))) (λ u. J .work (g .image .root))) (J .ends budget room (g .image .head))) (sym (g .size-is))
 
     pub loaded-is : {s : State} → j .size ≤ budget → s ≡ paid (j .size) (begun j budget)
-        → jobEnding J budget room image ≡ worked budget (J .work (g .image .root) (stateOf s (storeOf st))) (J .ends budget room (g .image .head))
+        → jobEnding J budget room image ≡ worked budget (J .work (g .image .root) (stateOf s (opening st))) (J .ends budget room (g .image .head))
     loaded-is {s} h i =
         charged ∙ ap (λ (o : m.Out B). worked budget o (J .ends budget room (g .image .head)))
-        (then-ok (λ u. J .work (g .image .root)) (charge-ok (j .size) (begun j budget) (storeOf st) h)
-        ∙ ap (λ (t : State). J .work (g .image .root) (stateOf t (storeOf st))) (sym i))
+        (then-ok (λ u. J .work (g .image .root)) (charge-ok (j .size) (begun j budget) (opening st) h)
+        ∙ ap (λ (t : State). J .work (g .image .root) (stateOf t (opening st))) (sym i))
 
 -- ---- the image
 
@@ -84,8 +85,8 @@ module _ (j : Judgement) (budget : ℕ) {q : Charged} (c : q ≡ chargeOf (j .si
     unpaid-ends {f} {x} out i y =
         let p = charge-failed (j .size) _ c i in
         let g = w .good j e in
-        let s : after (charge (j .size) (stateOf (begun j budget) (storeOf st))) (λ u. J .work (g .image .root)) ≡ no (refusalOf (f .refusal)) (rivalsOf (f .rivals)) (f .left) =
-        rw (p .is) (then-no (λ u. J .work (g .image .root)) (charge-no (j .size) (begun j budget) (storeOf st) (p .short))) in
+        let s : after (charge (j .size) (stateOf (begun j budget) (opening st))) (λ u. J .work (g .image .root)) ≡ no (refusalOf (f .refusal)) (rivalsOf (f .rivals)) (f .left) =
+        rw (p .is) (then-no (λ u. J .work (g .image .root)) (charge-no (j .size) (begun j budget) (opening st) (p .short))) in
         subst (λ (z : Ending). EndsAs (jobEnding J budget (length out) image) out out z) (sym y)
         (ends-stopped out (charged J image budget (length out) g ∙ ap (λ (o : m.Out B). worked budget o (J .ends budget (length out) (g .image .head))) s))
 

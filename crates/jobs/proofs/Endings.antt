@@ -11,13 +11,13 @@ use Rattle.model.specs.Steps.{Step}
 use Rattle.model.specs.Jobs as jobs
 use Rattle.model.specs.Jobs.{worked, reached, fitted}
 use Rattle.store.specs.Words.{bindsOf}
-use Rattle.store.specs.Sizes.{storeSize}
+use Rattle.store.specs.Sizes.{heldSize}
 use Rattle.steps.specs.declared.State.{State}
 use Rattle.steps.specs.declared.Stop.{Stop}
 use Rattle.steps.specs.declared.Out.{Out}
 use Rattle.steps.specs.declared.Answer.{Answer}
 use Rattle.steps.specs.declared.Answer.the-variants.{Done, Refused}
-use Rattle.steps.specs.States.{storeOf, Held, stateOf, paid}
+use Rattle.steps.specs.States.{Held, stateOf, paid}
 use Rattle.image.specs.declared.Judgement.{Judgement}
 use Rattle.image.specs.Judging.{Kind, Good}
 use Rattle.finish.specs.declared.Ending.{Ending}
@@ -26,11 +26,11 @@ use Rattle.finish.specs.Ends.{EndsAs}
 use Rattle.finish.specs.Headings.{headAfter}
 use Rattle.finish.specs.Finishing.{Images, imageBytes, Came, Finishes}
 use Rattle.finish.proofs.Ends.{ends-stopped}
-use Rattle.jobs.specs.Working.{Job, writes, jobEnding, begun, Loaded, Result, Stopped, cameTo, Worked, FewBindings}
+use Rattle.jobs.specs.Working.{Job, writes, jobEnding, begun, opening, Loaded, Result, Stopped, cameTo, Worked, FewBindings}
 use Rattle.things.specs.Rep.{Rep}
 use Rattle.jobs.proofs.Charging.{loaded-is}
 
-pub few-held : (a : Answer) {o : Out} (st : List ℕ) {st′ : List ℕ} → FewBindings a → a ≡ Done o → storeSize ≤ length st → length st′ ≡ length st → Held st′ (o .state)
+pub few-held : (a : Answer) {o : Out} (st : List ℕ) {st′ : List ℕ} → FewBindings a → a ≡ Done o → heldSize ≤ length st → length st′ ≡ length st → Held st′ (o .state)
 few-held a {o} st b e w same =
     let few : o .state .bindings ≤ 512 = subst FewBindings e b in
     record { few = few; wide = omega arith }
@@ -38,7 +38,7 @@ few-held a {o} st b e w same =
 module _ {A B : Type 0} {J : Job A B} {thing : B → Tree} {image st : List ℕ} {j : Judgement} {s : State} {st′ l : List ℕ} {a : Answer} (v : Worked J thing image st j s st′ l a)
     {l₀ : List ℕ} (d : Loaded (J .kind) image st j l₀ s) {budget : ℕ} (u : s .left + j .size ≡ budget) where
   abbrev result : m.Out B
-  result = J .work (d .good .image .root) (stateOf s (storeOf st))
+  result = J .work (d .good .image .root) (stateOf s (opening st))
 
   -- the rules' ending by what the work came to
   is-worked : (room : ℕ) → jobEnding J budget room image ≡ worked budget result (J .ends budget room (d .good .image .head))
@@ -70,7 +70,7 @@ module _ {A B : Type 0} {K : Kind A} {work : A → Step B} (I : List Bind → Im
   abbrev G : Good K image st j
   G = d .good
 
-  R : Result thing s st′ l (work (G .image .root) (stateOf s (storeOf st))) o
+  R : Result thing s st′ l (work (G .image .root) (stateOf s (opening st))) o
   R = came v d u e
 
   shown : (f : B → Tree) → f ≡ thing → Rep l (o .state .top) (o .at) (f (R .value))

@@ -30,7 +30,7 @@ use Rattle.steps.specs.declared.Charged.{Charged}
 use Rattle.steps.specs.declared.Charged.the-variants as charged
 use Rattle.steps.specs.declared.Charged.the-variants.{Paid}
 use Rattle.steps.specs.declared.Stop.{Stop}
-use Rattle.steps.specs.States.{Store, storeOf, stateOf, chargeOf}
+use Rattle.steps.specs.States.{Store, stateOf, chargeOf}
 use Rattle.steps.proofs.Laws.{charge-went}
 use Rattle.head.specs.declared.Head.{Head}
 use Rattle.head.specs.declared.Counts.{Counts}
@@ -43,7 +43,7 @@ use Rattle.image.specs.declared.Judgement.{Judgement}
 use Rattle.image.specs.declared.Judged.{Judged}
 use Rattle.image.specs.declared.Judged.the-variants as judged
 use Rattle.image.specs.Judging.{Kind, syntaxKind, Good, Judges}
-use Rattle.jobs.specs.Working.{resolving, jobEnding, begun}
+use Rattle.jobs.specs.Working.{resolving, jobEnding, begun, opening}
 use Rattle.jobs.specs.Naming.{foundEnding, phased, rootEnding, Agree, RootEnds, Resolved}
 use Rattle.jobs.proofs.Charging.{loaded-is, image-refused, unpaid-left, unpaid-ends}
 
@@ -164,7 +164,7 @@ resolved-ends j ph budget {t = t} {image = image} st {x = x} c i w e v =
     let k = ap (λ (z : State). z .left) (p .is) in
     let spent : budget - t .left ≡ j .size = omega (arith, p .enough) in
     let binds : t .bindings ≡ j .bindings = ap (λ (z : State). z .bindings) (p .is) in
-    let is = loaded-is (resolving ph) image budget 0 g (p .enough) (p .is) ∙ work-is ph (g .image .root) t (storeOf st) budget (j .size) spent
+    let is = loaded-is (resolving ph) image budget 0 g (p .enough) (p .is) ∙ work-is ph (g .image .root) t (opening st) budget (j .size) spent
     ∙ ap (λ (n : ℕ). rootEnding ph (g .image .root) (bindsOf st n) (j .size)) binds in
     subst (λ (z : m.Ending). EndsAs z [] [] x) (sym is) (root-quiet ph (g .image .root) (bindsOf st (j .bindings)) (j .size) x (v .means g))
 

@@ -7,19 +7,20 @@ use lib.ListN.{length, drop}
 use Rattle.model.specs.Scopes.{Scopes}
 use Rattle.model.specs.Objects.{Stx}
 use Rattle.model.specs.Trees.{Tree, stx, loadSize}
-use Rattle.model.specs.Steps.{Step}
+use Rattle.model.specs.Steps as m
+use Rattle.model.specs.Steps.{Step, carrying}
 use Rattle.model.specs.Evaluating.{evaluate}
 use Rattle.model.specs.Parsing.{parse}
 use Rattle.model.specs.Expanding.{ofRoot, expand, coreOnly}
 use Rattle.laws.proofs.Units.{NoRise, evaluate-no-rise, parse-no-rise, expand-no-rise, names-after, left-after-refusal}
-use Rattle.scopes.specs.declared.ScopeSet.{ScopeSet}
-use Rattle.scopes.specs.Sets.{scopesOf}
-use Rattle.store.specs.Sizes.{storeSize}
+use Rattle.scopes.specs.Sets.{wordsFrom}
+use Rattle.store.specs.Sizes.{heldSize}
+use Rattle.store.specs.Words.{prunableOf, Prunes}
 use Rattle.steps.specs.declared.State.{State}
 use Rattle.steps.specs.declared.Out.{Out}
 use Rattle.steps.specs.declared.Answer.{Answer}
 use Rattle.steps.specs.declared.Answer.the-variants.{Done, Refused}
-use Rattle.steps.specs.States.{storeOf, stateOf, raisedTo, Room}
+use Rattle.steps.specs.States.{Store, storeOf, stateOf, raisedTo, Room}
 use Rattle.steps.specs.Agreement as agreement
 use Rattle.steps.specs.Agreement.{ended, Agrees}
 use Rattle.steps.proofs.Laws.{room-later, on-done, on-refused}
@@ -40,10 +41,11 @@ use Rattle.parse.specs.Parsing.{Parsed}
 use Rattle.expand.specs.declared.Surroundings.{Surroundings}
 use Rattle.expand.specs.Cycle as expanding
 use Rattle.expand.specs.Cycle.{Expanded}
+use Rattle.expand.proofs.Carried.{put-state}
 use Rattle.image.specs.declared.Judgement.{Judgement}
 use Rattle.image.specs.Judging.{Kind, syntaxKind, treeKind, Good}
 use Rattle.jobs.specs.Working as w
-use Rattle.jobs.specs.Working.{Loaded, itself, cameTo, Worked, FewBindings}
+use Rattle.jobs.specs.Working.{opening, Loaded, itself, cameTo, Worked, FewBindings}
 
 -- ---- any root: building it, and what the work on it came to
 
@@ -83,9 +85,9 @@ with-good d g = record { budget = d .budget; good = g; lent = d .lent; enough = 
 
 -- over any result that lies in the table
 module _ {B : Type 0} (thing : B → Tree) (Shows : List ℕ → Out → B → Type 0) (rep : (l : List ℕ) (o : Out) (x : B) → Shows l o x → Rep l (o .state .top) (o .at) (thing x)) (work : Step B) (calm : NoRise work) where
-  agreed : {n v top : ℕ} {l l′ : List ℕ} (s : State) (st st′ : List ℕ) (a : Answer) → Room l (raisedTo top s) → length l′ ≡ length l
-      → Agrees (record { shows = Shows; state = λ o. o .state }) n v l l′ (raisedTo top s) (storeOf st′) (work (stateOf s (storeOf st))) (ended a) → cameTo thing s st′ l′ (work (stateOf s (storeOf st))) a
-  agreed s st st′ (Done o) fits same g =
+  agreed : {n v top : ℕ} {l l′ : List ℕ} (s : State) (b : Store) (st′ : List ℕ) (a : Answer) → Room l (raisedTo top s) → length l′ ≡ length l
+      → Agrees (record { shows = Shows; state = λ o. o .state }) n v l l′ (raisedTo top s) (storeOf st′) (work (stateOf s b)) (ended a) → cameTo thing s st′ l′ (work (stateOf s b)) a
+  agreed s b st′ (Done o) fits same g =
       let y = on-done g refl in
       record {
         value = y .value;
@@ -95,7 +97,7 @@ module _ {B : Type 0} (thing : B → Tree) (Shows : List ℕ → Out → B → T
         names-from = names-after work calm (y .value) _ _ (y .is);
         within = omega (arith, y .later .spent);
       }
-  agreed s st st′ (Refused f) fits same g = let y = on-refused g refl in record { is = y; within = left-after-refusal work calm _ _ _ y }
+  agreed s b st′ (Refused f) fits same g = let y = on-refused g refl in record { is = y; within = left-after-refusal work calm _ _ _ y }
 
 -- ---- a tree, evaluated
 
@@ -116,11 +118,12 @@ module _ {image : List ℕ} {j : Judgement} {l : List ℕ} {s : State} (d : Load
     pub tree-ready : agreement.Ready Rep l′ t (b .at)
     tree-ready = subst (λ (z : State). agreement.Ready Rep l′ z (b .at)) (sym te) (record { thing = d .good .image .root; shown = tree-shown; room = tree-room })
 
-    tree-came : {l″ : List ℕ} (a : Answer) → Evaluates 128 l′ l″ t (b .at) a → length l″ ≡ length l′ → cameTo itself s [] l″ (evaluate 128 (d .good .image .root) (stateOf s (storeOf []))) a
+    tree-came : {l″ : List ℕ} (a : Answer) → Evaluates 128 l′ l″ t (b .at) a → length l″ ≡ length l′ → cameTo itself s [] l″ (evaluate 128 (d .good .image .root) (stateOf s (opening []))) a
+    unfolding prunableOf wordsFrom
     tree-came {l″} a e more =
         let e′ = subst (λ (z : State). Evaluates 128 l′ l″ z (b .at) a) te e in
-        agreed itself (λ k o x. Rep k (o .state .top) (o .at) x) (λ k o x r. r) (evaluate 128 (d .good .image .root)) (evaluate-no-rise 128 (d .good .image .root)) s [] [] a tree-room more
-        (e′ .means (storeOf []) (d .good .image .root) tree-shown)
+        agreed itself (λ k o x. Rep k (o .state .top) (o .at) x) (λ k o x r. r) (evaluate 128 (d .good .image .root)) (evaluate-no-rise 128 (d .good .image .root)) s (opening []) [] a tree-room more
+        (e′ .means (opening []) (d .good .image .root) tree-shown)
 
 pub tree-worked : {image : List ℕ} {j : Judgement} {l l′ l″ : List ℕ} {s t : State} {b : Built} {a : Answer} → Loaded treeKind image [] j l s
     → Builds (TreeRead (j .front .head .scopes)) l l′ (s .top) image (j .root) (j .root + 1) b → length l′ ≡ length l → t ≡ raisedTo (b .top) s → Evaluates 128 l′ l″ t (b .at) a → length l″ ≡ length l′
@@ -132,6 +135,10 @@ tree-worked {a = a} d v same te e more = record {
 pub ruleset tree-laws = (tree-judged, tree-ready, tree-worked)
 
 -- ---- an object
+
+few-in : {l l′ : List ℕ} {s : State} {b : Store} {q : m.Out Stx} (a : Answer) → Agrees objects 1 twoCells l l′ s b q (ended a) → FewBindings a
+few-in (Done o) g = on-done g refl .shown .few
+few-in (Refused f) g = tt
 
 module _ {image st : List ℕ} {j : Judgement} {l : List ℕ} {s : State} (d : Loaded syntaxKind image st j l s) where
   abbrev object : Stx
@@ -156,52 +163,55 @@ module _ {image st : List ℕ} {j : Judgement} {l : List ℕ} {s : State} (d : L
     object-room : Room l′ (raisedTo (b .top) s)
     object-room = room d (stx object) object-reads object-sized v same
 
-    -- ---- parsed
+    -- ---- in the store st1, with nothing prunable
 
-    pub parse-ready : storeSize ≤ length st → parsing.ReadyToParse l′ st t (b .at)
-    parse-ready wide =
-        subst (λ (z : State). parsing.ReadyToParse l′ st z (b .at)) (sym te) (record { thing = object; shown = object-shown; room = object-room; held = record { few = few; wide = wide } })
+    module _ {st1 : List ℕ} where
+      pub parse-ready : heldSize ≤ length st → length st1 ≡ length st → parsing.ReadyToParse l′ st1 t (b .at)
+      parse-ready wide long =
+          subst (λ (z : State). parsing.ReadyToParse l′ st1 z (b .at)) (sym te)
+          (record { thing = object; shown = object-shown; room = object-room; held = record { few = few; wide = omega arith } })
 
-    parse-came : {l″ : List ℕ} (a : Answer) → Parsed 128 0 st l′ l″ t (b .at) a → length l″ ≡ length l′ → cameTo itself s st l″ (parse 128 0 object (stateOf s (storeOf st))) a
-    parse-came {l″} a e more =
-        let e′ = subst (λ (z : State). Parsed 128 0 st l′ l″ z (b .at) a) te e in
-        agreed itself ShownTree (λ k o x r. r .rep) (parse 128 0 object) (parse-no-rise 128 0 object) s st st a object-room more (e′ .means object object-shown)
+      pub expand-ready : {at : Surroundings} → at .meanings ≡ 0 → heldSize ≤ length st → length st1 ≡ length st → expanding.ReadyToExpand l′ st1 t (b .at) at
+      expand-ready {at} core wide long =
+          subst (λ (z : State). expanding.ReadyToExpand l′ st1 z (b .at) at) (sym te)
+          (record { thing = object; shown = object-shown; within = record { meant = coreOnly; known = rw core is-core; room = object-room; held = record { few = few; wide = omega arith } } })
 
-    -- ---- expanded, with the core meanings and nothing prunable
+      module _ {p : Scopes} (put : Prunes p st st1) (none : p ≡ 0) where
+        opened : stateOf s (storeOf st1) ≡ stateOf s (opening st)
+        unfolding carrying
+        opened = put-state s put few ∙ ap (λ (x : Scopes). carrying x (stateOf s (storeOf st))) none
 
-    module _ {at : Surroundings} (core : at .meanings ≡ 0) where
-      pub expand-ready : storeSize ≤ length st → expanding.ReadyToExpand l′ st t (b .at) at
-      expand-ready wide =
-          subst (λ (z : State). expanding.ReadyToExpand l′ st z (b .at) at) (sym te)
-          (record { thing = object; shown = object-shown; within = record { meant = coreOnly; known = rw core is-core; room = object-room; held = record { few = few; wide = wide } } })
+        parse-came : {l″ : List ℕ} (a : Answer) → Parsed 128 0 st1 l′ l″ t (b .at) a → length l″ ≡ length l′ → cameTo itself s st1 l″ (parse 128 0 object (stateOf s (opening st))) a
+        parse-came {l″} a e more =
+            let e′ = subst (λ (z : State). Parsed 128 0 st1 l′ l″ z (b .at) a) te e in
+            subst (λ (z : m.State). cameTo itself s st1 l″ (parse 128 0 object z) a) opened
+            (agreed itself ShownTree (λ k o x r. r .rep) (parse 128 0 object) (parse-no-rise 128 0 object) s (storeOf st1) st1 a object-room more (e′ .means object object-shown))
 
-      expand-agrees : {st′ l″ : List ℕ} {a : Answer} → scopesOf (at .prunable) ≡ 0 → Expanded at st st′ l′ l″ t (b .at) a
-          → Agrees objects 1 twoCells l′ l″ (raisedTo (b .top) s) (storeOf st′) (expand (at .entries) (ofRoot (at .phase)) object (stateOf s (storeOf st))) (ended a)
-      expand-agrees {st′} {l″} {a} none e =
-          let e′ = subst (λ (z : State). Expanded at st st′ l′ l″ z (b .at) a) te e in
-          subst (λ (p : Scopes). Agrees objects 1 twoCells l′ l″ (raisedTo (b .top) s) (storeOf st′) (expand (at .entries) (record { phase = at .phase; meanings = coreOnly; prunable = p }) object (stateOf s (storeOf st))) (ended a)) none
-          (e′ .means object coreOnly object-shown (rw core is-core))
+        module _ {ph : ℕ} {st′ l″ : List ℕ} (a : Answer) (e : Expanded (record { entries = 128; phase = ph; meanings = 0 }) st1 st′ l′ l″ t (b .at) a) where
+          expand-agrees : Agrees objects 1 twoCells l′ l″ (raisedTo (b .top) s) (storeOf st′) (expand 128 (ofRoot ph) object (stateOf s (storeOf st1))) (ended a)
+          expand-agrees =
+              let e′ = subst (λ (z : State). Expanded (record { entries = 128; phase = ph; meanings = 0 }) st1 st′ l′ l″ z (b .at) a) te e in
+              e′ .means object coreOnly object-shown is-core
 
-      expand-came : {st′ l″ : List ℕ} (a : Answer) → scopesOf (at .prunable) ≡ 0 → Expanded at st st′ l′ l″ t (b .at) a → length l″ ≡ length l′
-          → cameTo stx s st′ l″ (expand (at .entries) (ofRoot (at .phase)) object (stateOf s (storeOf st))) a
-      expand-came {st′} a none e more =
-          agreed stx ShownObject (λ k o x r. r .rep) (expand (at .entries) (ofRoot (at .phase)) object) (expand-no-rise (at .entries) (ofRoot (at .phase)) object) s st st′ a object-room more (expand-agrees none e)
+          expand-came : length l″ ≡ length l′ → cameTo stx s st′ l″ (expand 128 (ofRoot ph) object (stateOf s (opening st))) a
+          expand-came more =
+              subst (λ (z : m.State). cameTo stx s st′ l″ (expand 128 (ofRoot ph) object z) a) opened
+              (agreed stx ShownObject (λ k o x r. r .rep) (expand 128 (ofRoot ph) object) (expand-no-rise 128 (ofRoot ph) object) s (storeOf st1) st′ a object-room more expand-agrees)
 
-      expand-few : {st′ l″ : List ℕ} (a : Answer) → scopesOf (at .prunable) ≡ 0 → Expanded at st st′ l′ l″ t (b .at) a → FewBindings a
-      expand-few (Done o) none e = on-done (expand-agrees none e) refl .shown .few
-      expand-few (Refused f) none e = tt
+          expand-few : FewBindings a
+          expand-few = few-in a expand-agrees
 
-module _ {image st : List ℕ} {j : Judgement} {l l′ : List ℕ} {s t : State} {b : Built} (d : Loaded syntaxKind image st j l s)
+module _ {image st st1 : List ℕ} {j : Judgement} {l l′ : List ℕ} {s t : State} {b : Built} {p : Scopes} (d : Loaded syntaxKind image st j l s) (put : Prunes p st st1) (none : p ≡ 0)
     (v : Builds (ObjectRead (j .front .head .scopes)) l l′ (s .top) image (j .root) (j .root + 1) b) (same : length l′ ≡ length l) (te : t ≡ raisedTo (b .top) s) where
-  pub parse-worked : {l″ : List ℕ} {a : Answer} → Parsed 128 0 st l′ l″ t (b .at) a → length l″ ≡ length l′ → Worked w.parsing itself image st j s st l″ a
-  parse-worked {a = a} e more = record { means = λ g. parse-came (with-good d g) v same te a e more }
+  pub parse-worked : {l″ : List ℕ} {a : Answer} → Parsed 128 0 st1 l′ l″ t (b .at) a → length l″ ≡ length l′ → Worked w.parsing itself image st j s st1 l″ a
+  parse-worked {a = a} e more = record { means = λ g. parse-came (with-good d g) v same te put none a e more }
 
-  module _ {ph : ℕ} {none : ScopeSet} (ne : scopesOf none ≡ 0) {st′ l″ : List ℕ} {a : Answer} (e : Expanded (record { entries = 128; phase = ph; meanings = 0; prunable = none }) st st′ l′ l″ t (b .at) a) where
+  module _ {ph : ℕ} {st′ l″ : List ℕ} {a : Answer} (e : Expanded (record { entries = 128; phase = ph; meanings = 0 }) st1 st′ l′ l″ t (b .at) a) where
     pub expand-worked : length l″ ≡ length l′ → Worked (w.expanding ph) stx image st j s st′ l″ a
-    expand-worked more = record { means = λ g. expand-came (with-good d g) v same te refl a ne e more }
+    expand-worked more = record { means = λ g. expand-came (with-good d g) v same te put none a e more }
 
     pub expand-held : FewBindings a
-    expand-held = expand-few d v same te refl a ne e
+    expand-held = expand-few d v same te put none a e
 
 pub ruleset parse-laws = (object-judged, parse-ready, parse-worked)
 

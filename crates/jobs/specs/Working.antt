@@ -2,6 +2,7 @@
 use Prim.Native.Nat.{ℕ, _-_, _≤_}
 use mathlib.Core.Path.{_≡_}
 use mathlib.Core.List.{List}
+use Rattle.model.specs.Scopes.{noScopes}
 use Rattle.model.specs.Objects.{Stx}
 use Rattle.model.specs.Trees.{Tree}
 use Rattle.model.specs.Resolving.{Bind}
@@ -17,6 +18,7 @@ use Rattle.model.specs.Jobs.{withImage, worked, start, reached, fitted}
 use Rattle.refusals.specs.Refusing.{refusalOf}
 use Rattle.table.specs.Lending.{Lent}
 use Rattle.store.specs.Sizes.{mostBindings}
+use Rattle.store.specs.Words.{bindsOf}
 use Rattle.store.specs.Rivalry.{rivalsOf}
 use Rattle.things.specs.Rep.{Rep}
 use Rattle.steps.specs.declared.State.{State}
@@ -24,7 +26,7 @@ use Rattle.steps.specs.declared.Stop.{Stop}
 use Rattle.steps.specs.declared.Out.{Out}
 use Rattle.steps.specs.declared.Answer.{Answer}
 use Rattle.steps.specs.declared.Answer.the-variants.{Done, Refused}
-use Rattle.steps.specs.States.{mostEntries, storeOf, stateOf, paid, Room}
+use Rattle.steps.specs.States.{mostEntries, Store, storeOf, stateOf, paid, Room}
 use Rattle.image.specs.declared.Judgement.{Judgement}
 use Rattle.image.specs.Judging.{Kind, syntaxKind, treeKind, Good}
 use Rattle.finish.specs.Finishing.{Images, imageBytes, treeImages, syntaxImages}
@@ -65,6 +67,10 @@ jobEnding J budget room image =
 abbrev pub begun : Judgement → ℕ → State
 begun j budget = record { top = 1; left = budget; names = j .front .head .names; scopes = j .front .head .scopes; bindings = j .bindings }
 
+-- and what the store stands for there: the bindings read, and nothing prunable
+abbrev pub opening : List ℕ → Store
+opening l = record { bindings = bindsOf l; prunable = noScopes }
+
 -- s is the state past the charge for the root, and the table l has the words for it
 pub record Loaded {A : Type 0} (K : Kind A) (image store : List ℕ) (j : Judgement) (l : List ℕ) (s : State) : Type 0 where
   pub budget : ℕ
@@ -96,7 +102,7 @@ cameTo thing s store l q (Done o) = Result thing s store l q o
 cameTo thing s store l q (Refused f) = Stopped s q f
 
 pub record Worked {A B : Type 0} (J : Job A B) (thing : B → Tree) (image store : List ℕ) (j : Judgement) (s : State) (store′ l : List ℕ) (r : Answer) : Type 0 where
-  pub means : (g : Good (J .kind) image store j) → cameTo thing s store′ l (J .work (g .image .root) (stateOf s (storeOf store))) r
+  pub means : (g : Good (J .kind) image store j) → cameTo thing s store′ l (J .work (g .image .root) (stateOf s (opening store))) r
 
 abbrev pub FewBindings : Answer → Type 0
 FewBindings (Done o) = o .state .bindings ≤ mostBindings

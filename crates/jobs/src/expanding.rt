@@ -9,19 +9,19 @@ use scopes::ScopeSet;
 use steps::Answer;
 use steps::Charged;
 use steps::State;
-use store::resolving::Resolving;
+use store::prunable;
 ghost use mathlib.Core.Path.{_≡_};
 ghost use Prim.Native.Nat.{_+_, _≤_};
 ghost use lib.ListN.{length};
 ghost use Rattle.model.specs.Trees.{stx};
 ghost use Rattle.model.specs.Jobs.{expandEnding};
-ghost use Rattle.store.specs.Sizes.{storeSize};
+ghost use Rattle.store.specs.Sizes.{heldSize};
 ghost use Rattle.table.specs.Lending.{Lent};
 ghost use Rattle.finish.specs.Ends.{EndsAs};
 ghost use Rattle.image.specs.Judging.{syntaxKind};
 ghost use Rattle.jobs.specs.Working.{Loaded, Worked, FewBindings, expanding, jobEnding};
 
-// The root, charged for, is built in the table and expanded with the core meanings.
+// The root, charged for, is built in the table and expanded, with the core meanings and nothing prunable.
 fn expand_root(
     image: &[u8],
     j: Judgement,
@@ -31,19 +31,18 @@ fn expand_root(
     phase: u32,
 ) -> Answer
     requires loaded { ⌜ Loaded syntaxKind (now image) (now store) j (now table) s ⌝ }
-    requires wide { ⌜ storeSize ≤ length (now store) ⌝ }
+    requires wide { ⌜ heldSize ≤ length (now store) ⌝ }
     ensures { λ r. ⌜ Worked (expanding phase) stx (now (image .entry)) (now (store .entry)) j s (now (store .exit)) (now (table .exit)) r ⌝ }
     ensures { λ r. ⌜ FewBindings r ⌝ }
 {
+    prunable::put(store, ScopeSet::empty());
     let f = j.front;
     let h = f.head;
     let b = builder::object(table, s.top, image, j.root, h.scopes);
-    let none = ScopeSet::empty();
     let at = Surroundings {
         entries: State::MOST_ENTRIES,
         phase,
         meanings: 0,
-        prunable: none,
     };
     expand::expand(table, store, s.raised(b.top), b.at, at)
 }
@@ -60,7 +59,7 @@ fn expand_loaded(
     budget: u32,
 ) -> Ending
     requires loaded { ⌜ Loaded syntaxKind (now image) (now store) j (now table) s ⌝ }
-    requires wide { ⌜ storeSize ≤ length (now store) ⌝ }
+    requires wide { ⌜ heldSize ≤ length (now store) ⌝ }
     requires paid { ⌜ s .left + j .size ≡ budget ⌝ }
     ensures { λ r. ⌜ EndsAs (jobEnding (expanding phase) budget (length (now (out .entry))) (now (image .entry))) (now (out .entry)) (now (out .exit)) r ⌝ }
 {
@@ -73,7 +72,8 @@ fn expand_loaded(
     }
 }
 
-// The image past the test of the phase, with words for its bindings. Where the job stops at code 6, the two that compete are still in them.
+// The image past the test of the phase, with words for its bindings and the prunable set. Where the job stops at code 6, the two that compete
+// are still in them.
 pub fn expand_image(
     out: &mut [u8],
     image: &[u8],
@@ -83,7 +83,7 @@ pub fn expand_image(
     budget: u32,
 ) -> Ending
     requires lent { ⌜ Lent (now table) budget ⌝ }
-    requires wide { ⌜ storeSize ≤ length (now store) ⌝ }
+    requires wide { ⌜ heldSize ≤ length (now store) ⌝ }
     ensures { λ r. ⌜ EndsAs (jobEnding (expanding phase) budget (length (now (out .entry))) (now (image .entry))) (now (out .entry)) (now (out .exit)) r ⌝ }
 {
     match image::judge_syntax(image, store) {
@@ -109,6 +109,6 @@ pub fn expand_work(
     if table::Sets::LAST_PHASE < phase {
         return Ending::Refused(Refusal::NoPhase, 0);
     }
-    let mut store = [0u64; Resolving::STORE];
+    let mut store = [0u64; prunable::HELD];
     expand_image(out, image, &mut store, table, phase, budget)
 }

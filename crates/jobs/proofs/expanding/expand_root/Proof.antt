@@ -3,11 +3,14 @@ use borrow.Author.Needs.{needs}
 use Rattle.jobs.proofs.expanding.expand_root.Statement.{statement}
 use Rattle.jobs.proofs.expanding.expand_root.Tie as tie
 
-object-requires : tie.Need-object-requires
-object-requires c κs = search (expand-laws, needs)
-
 empty-requires : tie.Need-empty-requires
 empty-requires c κs = search (expand-laws, needs)
+
+put-requires : tie.Need-put-requires
+put-requires c κs = search (expand-laws, needs)
+
+object-requires : tie.Need-object-requires
+object-requires c κs = search (expand-laws, needs)
 
 raised-requires : tie.Need-raised-requires
 raised-requires c κs = search (expand-laws, needs)
@@ -28,8 +31,9 @@ pub expand-root-spec : {M : Type 1} → statement M
 expand-root-spec =
     tie.close
     (tie.spec
-    object-requires
     empty-requires
+    put-requires
+    object-requires
     raised-requires
     expand-requires
     same-length

@@ -21,14 +21,20 @@ finish-tree-requires c κs = search (ending-laws, needs)
 same-length : tie.Need-same-length
 same-length c = search (ending-laws, needs)
 
-returns : tie.Need-returns
-returns c = search (ending-laws, needs)
-
 same-length-2 : tie.Need-same-length-2
 same-length-2 c = search (ending-laws, needs)
 
+returns : tie.Need-returns
+returns c = search (ending-laws, needs)
+
 same-length-3 : tie.Need-same-length-3
 same-length-3 c = search (ending-laws, needs)
+
+same-length-4 : tie.Need-same-length-4
+same-length-4 c = search (ending-laws, needs)
+
+same-length-5 : tie.Need-same-length-5
+same-length-5 c = search (ending-laws, needs)
 
 returns-2 : tie.Need-returns-2
 returns-2 c = search (ending-laws, needs)
@@ -43,7 +49,9 @@ parse-loaded-spec =
     enum-known-o
     finish-tree-requires
     same-length
-    returns
     same-length-2
+    returns
     same-length-3
+    same-length-4
+    same-length-5
     returns-2)
