@@ -6,11 +6,11 @@ use crate::showing;
 use finish::Ending;
 use jobs::expanding;
 use meirhuppa::limits;
-use store::resolving::Resolving;
+use store::prunable;
 use store::rivals::Rivals;
 ghost use Prim.Native.Nat.{_≤_};
 ghost use lib.ListN.{length};
-ghost use Rattle.store.specs.Sizes.{storeSize};
+ghost use Rattle.store.specs.Sizes.{storeSize, heldSize};
 ghost use Rattle.table.specs.Lending.{Lent};
 ghost use Rattle.expander.specs.Lines.{jobBudget};
 
@@ -26,7 +26,7 @@ fn print_rivals(image: &[u8], store: &[u64], rivals: Rivals)
 
 fn print_with(image: &[u8], store: &mut [u64], table: &mut [u32], out: &mut [u8])
     requires lent { ⌜ Lent (now table) jobBudget ⌝ }
-    requires wide { ⌜ storeSize ≤ length (now store) ⌝ }
+    requires wide { ⌜ heldSize ≤ length (now store) ⌝ }
 {
     match expanding::expand_image(out, image, store, table, 0, line::BUDGET) {
         Ending::Stopped(_, rivals, _) => print_rivals(image, store, rivals),
@@ -36,7 +36,7 @@ fn print_with(image: &[u8], store: &mut [u64], table: &mut [u32], out: &mut [u8]
 
 // For an image whose expansion stops at code 6.
 pub fn print(image: &[u8]) {
-    let mut store = [0u64; Resolving::STORE];
+    let mut store = [0u64; prunable::HELD];
     let mut table = [0u32; line::WORDS];
     let mut out = [0u8; limits::MOST_IMAGE];
     print_with(image, &mut store, &mut table, &mut out);
