@@ -12,7 +12,7 @@ use Rattle.model.specs.Reading.{sameBytes, among}
 use borrow.Author.Tests.{eqb-true, eq-eqb}
 use Rattle.requests.specs.Tokens.{Leaf, word, number, point, prim, rung, Token, opening, closing, bad, one, place}
 use Rattle.requests.specs.FromText.{met}
-use Rattle.laws.proofs.Tests.{and-both}
+use Rattle.laws.proofs.Tests.{and-both, or-left, or-right}
 
 pub same-eq : (w v : List ℕ) → sameBytes w v ≡ true → w ≡ v
 unfolding sameBytes
@@ -169,14 +169,6 @@ unfolding among
 into-cons w seen l all h k =
     (λ v e. first v (sameBytes v w) refl e, λ v e. k v (or-right (sameBytes v w) (among v l) e), k w (or-left (sameBytes w w) (among w l) (same-refl w)))
   where
-    or-left : (x y : Bool) → x ≡ true → (x || y) ≡ true
-    or-left true y e = refl
-    or-left false y e = absurd (false≢true e)
-
-    or-right : (x y : Bool) → y ≡ true → (x || y) ≡ true
-    or-right true y e = refl
-    or-right false y e = e
-
     first : (v : List ℕ) (t : Bool) → sameBytes v w ≡ t → (t || among v seen) ≡ true → among v all ≡ true
     first v true p e = k v (or-left (sameBytes v w) (among v l) p)
     first v false p e = h v e
