@@ -28,7 +28,7 @@ use Rattle.codec_laws.proofs.BindTrip.{binds-w, binds-back}
 
 -- ---- the ends of an image
 
-end-w : (s rest : List ℕ) (v : Unit {0}) → atEnd s ≡ got v rest → s ≡ []
+pub end-w : (s rest : List ℕ) (v : Unit {0}) → atEnd s ≡ got v rest → s ≡ []
 unfolding atEnd
 end-w [] rest v e = refl
 end-w (b ∷ s) rest v e = absurd (fault≢got layout v rest e)

@@ -1,8 +1,8 @@
 -- Whether an image is a program: one law for each way out, and why it is refused where it is none.
 use Prim.Native.Nat.{ℕ, _-_, _≤_, _<_}
-use mathlib.Core.Path.{_≡_, refl, sym, ap, _∙_, subst}
+use mathlib.Core.Path.{_≡_, sym, ap, _∙_, subst}
 use mathlib.Core.Bool.{Bool, true, false}
-use mathlib.Core.List.{List, [], _∷_}
+use mathlib.Core.List.{List, []}
 use native.Mathlib.Omega.{arith}
 use lib.ListN.{length, getD, drop}
 use mir.Syntax.{w8}
@@ -14,6 +14,7 @@ use Rattle.model.specs.Reading as m
 use Rattle.model.specs.Reading.{Read, Image, got, fault, next, atEnd, readHead, readTree, readTreeImage, readImage}
 use Rattle.codec_laws.proofs.NumberTrip.{fault≢got, got-value}
 use Rattle.codec_laws.proofs.Sequence.{next-got}
+use Rattle.codec_laws.proofs.ImageLaws.{end-w}
 use Rattle.refusals.specs.declared.Refusal.{Refusal}
 use Rattle.refusals.specs.declared.Refusal.the-variants.{Layout, OverLimit}
 use Rattle.refusals.specs.Refusing.{refusalOf}
@@ -48,17 +49,12 @@ faulty image {c} e i q o = absurd (fault≢got c i [] (sym e ∙ q))
 abbrev behind : m.Head → List ℕ → Read (Image Tree)
 behind h t = next (readTree mostNesting h 0 t) (λ x u. next (atEnd u) (λ y w. got (record { head = h; binds = []; root = x }) w))
 
-ends : (u w : List ℕ) (y : Unit {0}) → atEnd u ≡ got y w → u ≡ []
-unfolding atEnd
-ends [] w y e = refl
-ends (b ∷ u) w y e = absurd (fault≢got r.layout y w e)
-
 root-behind : (h : m.Head) (t : List ℕ) (i : Image Tree) → behind h t ≡ got i [] → readTree mostNesting h 0 t ≡ got (i .root) []
 root-behind h t i e =
     let g = next-got (readTree mostNesting h 0 t) _ i [] e in
     let k = next-got (atEnd (g .1)) _ i [] (g .3) in
     let v = got-value _ i (k .1) [] (k .3) in
-    g .2 ∙ ap (got (g .0)) (ends (g .1) (k .1) (k .0) (k .2)) ∙ ap (λ (x : Image Tree). got (x .root) []) v
+    g .2 ∙ ap (got (g .0)) (end-w (g .1) (k .1) (k .0) (k .2)) ∙ ap (λ (x : Image Tree). got (x .root) []) v
 
 module _ (s : List ℕ) where
   pub too-long : 65536 < length s → Finds s (place.Fault OverLimit)

@@ -18,8 +18,9 @@ use Rattle.numbers.specs.declared.Cursor.{Cursor}
 use Rattle.numbers.specs.Answers.{kept}
 use Rattle.numbers.specs.Limits.{mostImage}
 use Rattle.numbers.proofs.Tails.{Behind, Tail, tail-got, num-tail}
-use Rattle.codec_laws.proofs.NumberTrip.{got-value, got-rest, fault≢got}
+use Rattle.codec_laws.proofs.NumberTrip.{got-value, got-rest}
 use Rattle.codec_laws.proofs.Sequence.{next-got}
+use Rattle.codec_laws.proofs.ImageLaws.{end-w}
 use Rattle.bits.specs.Meeting.{points}
 use Rattle.requests.specs.Panel.{driven}
 use Rattle.requests.specs.Recording.{Change, readChange, readChanges, readScan, readScans, readToEnd, readRecording}
@@ -80,18 +81,13 @@ scans-many (suc n) s rest r e =
     let b = next-got (readScans n (a .1)) _ r rest (a .3) in
     sym (ap length (got-value (a .0 ∷ b .0) r (b .1) rest (b .3))) ∙ ap suc (scans-many n (a .1) (b .1) (b .0) (b .2))
 
-end-reached : (s rest : List ℕ) (u : Unit {0}) → atEnd s ≡ got u rest → s ≡ []
-unfolding atEnd
-end-reached [] rest u e = refl
-end-reached (b ∷ s) rest u e = absurd (fault≢got _ u rest e)
-
 to-end : (n : ℕ) (s rest : List ℕ) (r : List (List Change)) → readToEnd n s ≡ got r rest → ToEnd n s r
 unfolding readToEnd
 to-end n s rest r e =
     let a = next-got (readScans n s) _ r rest e in
     let b = next-got (atEnd (a .1)) _ r rest (a .3) in
     let v : a .0 ≡ r = got-value (a .0) r (b .1) rest (b .3) in
-    let z : a .1 ≡ [] = end-reached (a .1) (b .1) (b .0) (b .2) in
+    let z : a .1 ≡ [] = end-w (a .1) (b .1) (b .0) (b .2) in
     let q : readScans n s ≡ got r [] = a .2 ∙ ap (λ (l : List (List Change)). got l (a .1)) v ∙ ap (got r) z in
     record { is = q; count = scans-many n s [] r q }
 
