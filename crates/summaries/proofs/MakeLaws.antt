@@ -34,7 +34,7 @@ use Rattle.summaries.specs.declared.refusal.UsesRefusal.{UsesRefusal}
 use Rattle.summaries.specs.declared.refusal.UsesRefusal.the-variants.{Base, OtherTree, NoName}
 use Rattle.summaries.specs.Refusing.{usesRefusalOf}
 use Rattle.summaries.specs.Opening.{OpenedAt, Opens}
-use Rattle.summaries.specs.Making.{Clears, Ends, Makes, MakesFrom}
+use Rattle.summaries.specs.Making.{Clears, Ends, Makes}
 
 -- ---- codes
 
@@ -189,7 +189,7 @@ unfolding summaryOf
 same-summary g = rw (← g .names-are, ← g .size-is) refl
 
 module _ {image words : List ℕ} {o : Opened} (g : OpenedAt image o) {i : ℕ} (at : i ≡ 2 + 2 * o .counts .names) where
-  pub make-short : length words < i → MakesFrom image words words (making.Refused (Base base.TooLong))
+  pub make-short : length words < i → Makes image words words (making.Refused (Base base.TooLong))
   unfolding summaryIn summaryAnswer summaryAfter
   make-short h =
       let z : leb (2 + 2 * g .read .head .names) (length words) ≡ false = rw (← g .names-are) (lt-leb (2 + 2 * o .counts .names) (length words) (omega arith)) in
@@ -257,7 +257,7 @@ module _ {image words : List ℕ} {o : Opened} (g : OpenedAt image o) {i : ℕ} 
         pub made-long : length words′ ≡ length words
         made-long = t .kept .long ∙ headed-long
 
-        pub make-made : MakesFrom image words words′ (making.Made (o .counts .names))
+        pub make-made : Makes image words words′ (making.Made (o .counts .names))
         unfolding ending summaryAnswer summaryAfter
         make-made =
             let l = summary-length (o .size) (o .counts .names) (entryOf (things (g .read .root))) in

@@ -39,9 +39,6 @@ pub record Ends (e : SummaryEnding) (words words′ : List ℕ) (r : Making) : T
 abbrev pub Makes : List ℕ → List ℕ → List ℕ → Making → Type 0
 Makes image words words′ r = Ends (summaryIn (length words) (readImage readTreeImage image)) words words′ r
 
-abbrev pub MakesFrom : List ℕ → List ℕ → List ℕ → Making → Type 0
-MakesFrom = Makes
-
 -- ---- a question
 
 unfoldable pub belongsTo : List ℕ → Opened → Bool

@@ -13,7 +13,7 @@ ghost use Prim.Native.Nat.{_≤_};
 ghost use lib.ListN.{length};
 ghost use Rattle.places.specs.Counting.{Room};
 ghost use Rattle.summaries.specs.Opening.{OpenedAt};
-ghost use Rattle.summaries.specs.Making.{Clears, Belongs, Makes, MakesFrom, Asks, AsksFrom};
+ghost use Rattle.summaries.specs.Making.{Clears, Belongs, Makes, Asks, AsksFrom};
 
 // How many names have an entry.
 pub enum Making {
@@ -43,7 +43,7 @@ pub fn clear(words: &mut [u32], names: u32)
 // The summary of a tree image that was opened; code 20 where there is no room.
 fn make_from(image: &[u8], o: Opened, words: &mut [u32]) -> Making
     requires { ⌜ OpenedAt (now image) o ⌝ }
-    ensures { λ r. ⌜ MakesFrom (now (image .entry)) (now (words .entry)) (now (words .exit)) r ⌝ }
+    ensures { λ r. ⌜ Makes (now (image .entry)) (now (words .entry)) (now (words .exit)) r ⌝ }
 {
     let names = o.counts.names;
     if words.len() < counting::entry_at(names) {
