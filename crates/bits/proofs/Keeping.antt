@@ -1,7 +1,7 @@
 -- What the code keeps of the tokens met, by the tests that it makes; and what it keeps of one token more.
 use Prim.Native.Nat.{ℕ, _+_, _≤_, _<_}
 use mathlib.Core.Path.{_≡_, refl, sym, _∙_}
-use mathlib.Core.Bool.{Bool, true, false, not, _&&_, _||_}
+use mathlib.Core.Bool.{Bool, true, false, not, _&&_, _||_, or-false}
 use mathlib.Core.List.{List, [], _∷_, _++_}
 use native.Mathlib.Omega.{arith}
 use native.Mathlib.Numerals.{add-one}
@@ -98,11 +98,7 @@ eqb-turned x y = go (eqb x y) refl
 
 among-more : (y x : ℕ) (l : List ℕ) → isAmong y (l ++ x ∷ []) ≡ (isAmong y l || eqb y x)
 unfolding isAmong
-among-more y x [] = go (eqb y x)
-  where
-    go : (b : Bool) → (b || false) ≡ b
-    go true = refl
-    go false = refl
+among-more y x [] = or-false (eqb y x)
 among-more y x (n ∷ l) = go (eqb y n) (among-more y x l)
   where
     go : (b : Bool) → isAmong y (l ++ x ∷ []) ≡ (isAmong y l || eqb y x) → (b || isAmong y (l ++ x ∷ [])) ≡ ((b || isAmong y l) || eqb y x)
@@ -130,11 +126,7 @@ module _ (marks seen : List ℕ) (long : points ≤ length marks) (have : (y : �
   twice-more : (b : Bool) → (b ≡ true → x < points) → {w : Bool} → w ≡ not (allDiffer seen)
       → (w || (b && not (eqb (getD marks x 0) 0))) ≡ not (allDiffer (if b then seen ++ x ∷ [] else seen))
   twice-more true h e = rw (e, have x (h refl), mark-told (isAmong x seen)) (sym (differ-more seen x))
-  twice-more false h {w} e = go w ∙ e
-    where
-      go : (w : Bool) → (w || false) ≡ w
-      go true = refl
-      go false = refl
+  twice-more false h {w} e = or-false w ∙ e
 
   marked-more : (b : Bool) → (b ≡ true → x < points) → (y : ℕ) → y < points
       → getD (if b then set marks x 1 else marks) y 0 ≡ (if isAmong y (if b then seen ++ x ∷ [] else seen) then 1 else 0)

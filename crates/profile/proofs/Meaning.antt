@@ -1,7 +1,7 @@
 -- Where the definition reads a tree, the code takes it exactly where it is what is wanted and is closed, and then comes to the same place.
 use Prim.Native.Nat.{ℕ, zero, suc, _-_, _<_}
 use mathlib.Core.Path.{_≡_, refl, sym, ap, _∙_}
-use mathlib.Core.Bool.{Bool, true, false, _&&_}
+use mathlib.Core.Bool.{Bool, true, false, _&&_, and-true}
 use mathlib.Core.List.{List, _∷_}
 use native.Mathlib.Omega.{arith}
 use lib.Dec.{eqb, ltb, leb, eqb·suc-zero}
@@ -243,10 +243,6 @@ variable-is : (names : ℕ) (table a : List ℕ) → Around names table a → (w
 unfolding takeVariable closed
 variable-is names table a A w n s rest e =
     rw (e, A .has n (below names s n rest e)) (two-needs (isAmong n a) (takesVariable w) rest ∙ ap (λ (z : Bool). verdict (z && isAmong n a) rest) (variable-suits w n))
-
-and-true : (x : Bool) → (x && true) ≡ x
-and-true true = refl
-and-true false = refl
 
 atom-is : (a : List ℕ) (w : Wanted) (k : ℕ) (c : Atom) (s u rest : List ℕ) → num s ≡ got k u → tagOf c ≡ k → num u ≡ got (contentOf c) rest → Limited c → takeAtom w s ≡ verdict (good a w (datum c)) rest
 unfolding takeAtom closed

@@ -1,7 +1,7 @@
 -- What a place of a program asks for, of a tree, and that the rules are those of the definition.
 use Prim.Native.Nat.{ℕ, suc}
 use mathlib.Core.Path.{_≡_, refl, sym, ap, _∙_}
-use mathlib.Core.Bool.{Bool, true, false, _&&_}
+use mathlib.Core.Bool.{Bool, true, false, _&&_, and-false}
 use mathlib.Core.List.{List, _∷_}
 use lib.Dec.{eqb, leb, eqb·suc-zero, eqb·suc-suc}
 use Rattle.model.specs.Objects.{Atom, symbol, number, point, prim, rung, tagOf, contentOf, Stx}
@@ -31,10 +31,6 @@ argumentsSuit r tnil = false
 argumentsSuit r (tcons t l) = takesCount r (suc (tcount l)) && (suits (r .first) t && allSuit (r .others) l)
 
 -- ---- the rules are those of the definition
-
-and-false : (a : Bool) → (a && false) ≡ false
-and-false true = refl
-and-false false = refl
 
 expressions-are : (l : Trees) → allSuit Expression l ≡ areExpressions l
 unfolding allSuit areExpressions

@@ -1,7 +1,7 @@
 -- Changes and scans checked one after another: one law for each way on and out.
 use Prim.Native.Nat.{ℕ, zero, suc, _+_, _-_, _≤_, _<_}
 use mathlib.Core.Path.{_≡_, refl, ap, _∙_}
-use mathlib.Core.Bool.{Bool, true, false, not, _||_}
+use mathlib.Core.Bool.{Bool, true, false, not, _||_, or-false}
 use mathlib.Core.List.{List, [], _∷_}
 use native.Mathlib.Omega.{arith}
 use native.Mathlib.Numerals.{add-one}
@@ -42,10 +42,6 @@ checked-shape = record {
 pub marked-now : {before : Bool} (marks : List ℕ) (x : ℕ) → before ≡ false → not (eqb (getD marks x 0) 0) ≡ (before || isMarked marks x)
 unfolding isMarked
 marked-now marks x e = rw e
-
-or-none : (a : Bool) → (a || false) ≡ a
-or-none true = refl
-or-none false = refl
 
 or-more : (a b c : Bool) → (a || (b || c)) ≡ ((a || b) || c)
 or-more true b c = refl
@@ -98,7 +94,7 @@ or-change marks d q l = or-more d (isMarked marks (q .place)) (changesMarked mar
 
 or-no-change : (marks : List ℕ) (d : Bool) → orMarked marks d [] ≡ d
 unfolding changesMarked
-or-no-change marks d = or-none d
+or-no-change marks d = or-false d
 
 module _ (marks : List ℕ) where
   change-none : (d : Bool) (n least : ℕ) (s : List ℕ) → n ≤ 0 → kept (orMarked marks d) (readChanges n least s) ≡ got d s
@@ -175,7 +171,7 @@ or-scan marks d q l = or-more d (changesMarked marks q) (anyMarked marks l)
 
 or-no-scan : (marks : List ℕ) (d : Bool) → orScans marks d [] ≡ d
 unfolding anyMarked
-or-no-scan marks d = or-none d
+or-no-scan marks d = or-false d
 
 module _ (marks : List ℕ) where
   scan-none : (d : Bool) (n : ℕ) (s : List ℕ) → n ≤ 0 → kept (orScans marks d) (readScans n s) ≡ got d s

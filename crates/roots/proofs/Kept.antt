@@ -1,7 +1,7 @@
 -- What is measured is the charge for loading what the definition reads, and its test for code 3.
 use Prim.Native.Nat.{ℕ, zero, suc, _+_, _≤_, _<_}
 use mathlib.Core.Path.{_≡_, refl, sym, ap, ap₂, _∙_}
-use mathlib.Core.Bool.{Bool, true, false, not, _&&_}
+use mathlib.Core.Bool.{Bool, true, false, not, _&&_, and-true}
 use mathlib.Core.List.{List, [], _∷_}
 use native.Mathlib.Omega.{arith}
 use lib.Dec.{eqb, ltb, leb}
@@ -69,11 +69,7 @@ around-none {n} h =
 -- ---- extents
 
 joined-none : (a : Extent) → joined a nothing ≡ a
-joined-none a = let e : a .size + 0 ≡ a .size = omega arith in ap₂ (λ (n : ℕ) (b : Bool). record { size = n; owned = b }) e (go (a .owned))
-  where
-    go : (b : Bool) → (b && true) ≡ b
-    go true = refl
-    go false = refl
+joined-none a = let e : a .size + 0 ≡ a .size = omega arith in ap₂ (λ (n : ℕ) (b : Bool). record { size = n; owned = b }) e (and-true (a .owned))
 
 joined-assoc : (a b c : Extent) → joined a (joined b c) ≡ joined (joined a b) c
 joined-assoc a b c =

@@ -1,7 +1,7 @@
 -- The limits, by the tests that the code makes.
 use Prim.Native.Nat.{ℕ, _+_, _-_, _*_, _≤_, _<_}
 use mathlib.Core.Path.{_≡_, refl, sym, ap, _∙_, subst}
-use mathlib.Core.Bool.{Bool, true, false, _&&_}
+use mathlib.Core.Bool.{Bool, true, false, _&&_, and-false}
 use mathlib.Core.List.{List, [], _∷_, _++_, append-nil}
 use mathlib.Core.Logic.{_⊎_, inl, inr}
 use native.Mathlib.Omega.{arith}
@@ -203,14 +203,10 @@ met-end : (seen : List (List ℕ)) → met seen [] ≡ []
 unfolding met
 met-end seen = refl
 
-and-none : (a : Bool) → (a && false) ≡ false
-and-none true = refl
-and-none false = refl
-
 -- too deep for what stands here
 open-deep : (level : ℕ) (ts : List Token) → 64 ≤ level → sound level (opening ∷ ts) ≡ false
 unfolding allFit levelsTo
-open-deep level ts h = rw (le-ltb level 64 h, and-none (allFit ts))
+open-deep level ts h = rw (le-ltb level 64 h, and-false (allFit ts))
 
 open-level : (level : ℕ) (ts : List Token) → level < 64 → sound level (opening ∷ ts) ≡ sound (level + 1) ts
 unfolding allFit levelsTo
@@ -306,7 +302,7 @@ module _ {text spans : List ℕ} {at level n : ℕ} (j : Limiting text spans at 
 
     pub limit-piece-deep : 64 ≤ level → Limited text spans Over
     limit-piece-deep l =
-        stops (next-piece h e .goes) (levels-are false (le-ltb level 64 l) ∙ and-none (allFit (next-piece h e .token ∷ tokens (drop to text))))
+        stops (next-piece h e .goes) (levels-are false (le-ltb level 64 l) ∙ and-false (allFit (next-piece h e .token ∷ tokens (drop to text))))
 
     module _ (l : level < 64) {spans′ : List ℕ} {m : ℕ} (w : NotesPiece text spans n p from to spans′ m) where
       noted : Noted text spans n (next-piece h e .token) spans′ m
