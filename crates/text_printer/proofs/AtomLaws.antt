@@ -1,6 +1,6 @@
 -- The text of an atom, by the tests that the code makes.
 use Prim.Native.Nat.{ℕ, zero, suc, _+_, _-_, _/_, _%_, _^_, _≤_, _<_}
-use mathlib.Core.Path.{_≡_, refl, sym, ap, _∙_, subst}
+use mathlib.Core.Path.{_≡_, refl, sym, ap, _∙_}
 use mathlib.Core.List.{List, [], _∷_}
 use native.Mathlib.Omega.{arith}
 use native.Mathlib.Numerals.{add-one}
@@ -17,6 +17,7 @@ use Rattle.text.proofs.Placing.{placed-length}
 use Rattle.text.proofs.Decimal.{one-digit, more-digits, few-digits}
 use Rattle.text_printer.specs.Spelling.{spelling, Spellable, RoomFor}
 use Rattle.text_printer.specs.Atoms.{atomText, Printable, AtomRoom}
+use Rattle.text_printer.proofs.SpellLaws.{placed-as}
 
 -- ---- digits of a number
 
@@ -201,9 +202,6 @@ pub ruleset marked-laws = (mark-there, mark-fits, digits-room, marked-placed, ma
 
 room-as : (out : List ℕ) (at : ℕ) (w v : List ℕ) → w ≡ v → at + length v ≤ length out → at + length w ≤ length out
 room-as out at w v e h = let l = ap length e in omega arith
-
-placed-as : {out out′ : List ℕ} {at p : ℕ} (w v : List ℕ) → w ≡ v → Placed out at w out′ p → Placed out at v out′ p
-placed-as {out} {out′} {at} {p} w v e q = subst (λ (b : List ℕ). Placed out at b out′ p) e q
 
 module _ (out : List ℕ) (at n : ℕ) (h : at + length (rungText n) ≤ length out) where
   pub and-room : n ≡ 0 → at + 3 ≤ length out

@@ -38,6 +38,7 @@ use Rattle.text_endings.proofs.EndLaws.{len-fits, ends-refused, there-is-room, 
 use Rattle.text_printer.specs.Spelling.{wordAt, wordsAt, WordAt, placeOf, WordsHere, FindsWords}
 use Rattle.text_printer.specs.Printing.{printOf, Ready, TextReady, TextRoom}
 use Rattle.text_printer.specs.Job.{GoodRoom, Writes, Prints}
+use Rattle.text_printer.proofs.SpellLaws.{place-first}
 use Rattle.text_printer.proofs.AheadLaws.{read-print}
 
 -- ---- code 20, or the text
@@ -109,10 +110,6 @@ word-lies image p w rest h e =
       behind = ap (λ (m : ℕ). drop (p + 1 + m) image) (f .1) ∙ sym (drop-drop (length w) (p + 1) image) ∙ ap (drop (length w)) d ∙ drop-at w rest (length w) refl;
     }
 
-place-zero : (image : List ℕ) (p : ℕ) → placeOf image p 0 ≡ p
-unfolding placeOf
-place-zero image p = refl
-
 place-suc : (image : List ℕ) (p i : ℕ) → placeOf image p (suc i) ≡ placeOf image (p + 1 + getD image p 0) i
 unfolding placeOf
 place-suc image p i = refl
@@ -125,7 +122,7 @@ words-lie image [] p rest h e i l = absurd (none i l)
     none i l = omega arith
 words-lie image (w ∷ ws) p rest h e zero l =
     let y = word-lies image p w (wordsBytes ws ++ rest) (h .0) (e ∙ ap (λ (b : List ℕ). b ++ rest) (words-more w ws) ∙ regroup) in
-    let z = place-zero image p in
+    let z = place-first image p in
     (subst (WordAt image) (sym z) (y .there), ap (wordAt image) z ∙ y .is)
   where
     regroup : (numBytes (length w) ++ w ++ wordsBytes ws) ++ rest ≡ numBytes (length w) ++ (w ++ (wordsBytes ws ++ rest))

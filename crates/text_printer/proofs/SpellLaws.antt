@@ -179,27 +179,27 @@ module _ {out : List ℕ} {at : ℕ} {image starts : List ℕ} {n x : ℕ} (r : 
   pub own-from : (x ≡ 0 → ⊥) → (x ≡ 1 → ⊥) → (x ≡ 2 → ⊥) → (x ≡ 3 → ⊥) → 4 ≤ x
   own-from a b c d = four-more x a b c d
 
-word-placed : {out out′ : List ℕ} {at p : ℕ} (w v : List ℕ) → w ≡ v → Placed out at w out′ p → Placed out at v out′ p
-word-placed {out} {out′} {at} {p} w v e q = subst (λ (b : List ℕ). Placed out at b out′ p) e q
+pub placed-as : {out out′ : List ℕ} {at p : ℕ} (w v : List ℕ) → w ≡ v → Placed out at w out′ p → Placed out at v out′ p
+placed-as {out} {out′} {at} {p} w v e q = subst (λ (b : List ℕ). Placed out at b out′ p) e q
 
 module _ {out : List ℕ} {at : ℕ} (image starts : List ℕ) (n x : ℕ) {out′ : List ℕ} {p : ℕ} where
   pub lambda-placed : x ≡ 0 → Placed out at (108 ∷ 97 ∷ 109 ∷ 98 ∷ 100 ∷ 97 ∷ []) out′ p → Placed out at (getD (spelling image starts n) x []) out′ p
-  lambda-placed z q = word-placed _ _ (word-lambda image starts n z) q
+  lambda-placed z q = placed-as _ _ (word-lambda image starts n z) q
 
   pub let-placed : x ≡ 1 → Placed out at (108 ∷ 101 ∷ 116 ∷ 45 ∷ 115 ∷ 121 ∷ 110 ∷ 116 ∷ 97 ∷ 120 ∷ []) out′ p → Placed out at (getD (spelling image starts n) x []) out′ p
-  let-placed z q = word-placed _ _ (word-let image starts n z) q
+  let-placed z q = placed-as _ _ (word-let image starts n z) q
 
   pub quote-placed : x ≡ 2 → Placed out at (113 ∷ 117 ∷ 111 ∷ 116 ∷ 101 ∷ []) out′ p → Placed out at (getD (spelling image starts n) x []) out′ p
-  quote-placed z q = word-placed _ _ (word-quote image starts n z) q
+  quote-placed z q = placed-as _ _ (word-quote image starts n z) q
 
   pub syntax-placed : x ≡ 3 → Placed out at (115 ∷ 121 ∷ 110 ∷ 116 ∷ 97 ∷ 120 ∷ []) out′ p → Placed out at (getD (spelling image starts n) x []) out′ p
-  syntax-placed z q = word-placed _ _ (word-syntax image starts n z) q
+  syntax-placed z q = placed-as _ _ (word-syntax image starts n z) q
 
 pub ruleset symbol-laws = (lambda-room, let-room, quote-room, syntax-room, own-from, lambda-placed, let-placed, quote-placed, syntax-placed, placed-length)
 
 -- ---- finding the words
 
-place-first : (image : List ℕ) (p : ℕ) → placeOf image p 0 ≡ p
+pub place-first : (image : List ℕ) (p : ℕ) → placeOf image p 0 ≡ p
 unfolding placeOf
 place-first image p = refl
 
