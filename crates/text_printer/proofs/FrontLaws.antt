@@ -4,10 +4,8 @@ use mathlib.Core.Path.{_≡_, refl, sym, ap, _∙_}
 use mathlib.Core.Bool.{Bool, true, false, not, _&&_}
 use mathlib.Core.List.{List, [], _∷_, _++_, append-assoc}
 use native.Mathlib.Omega.{arith}
-use native.Mathlib.Numerals.{add-one}
 use lib.Dec.{ltb, leb, eqb}
 use lib.ListN.{length, take, drop, getD, length-drop, drop-of-length-le}
-use lib.Seq.{drop-cons}
 use borrow.Author.Tests.{lt-ltb, le-ltb, ltb-true, ltb-false, leb-true}
 use Rattle.model.specs.Choice.{if_then_else_}
 use Rattle.model.specs.Refusals.{layout, overLimit}
@@ -25,6 +23,7 @@ use Rattle.numbers.specs.declared.Cursor.{Cursor}
 use Rattle.numbers.specs.declared.Number.{Number}
 use Rattle.numbers.specs.declared.Number.the-variants as number
 use Rattle.numbers.proofs.Reading.{part-from}
+use Rattle.words.proofs.Bytes.{at-cons}
 use Rattle.text_printer.specs.declared.fronts.Front.{Front}
 use Rattle.text_printer.specs.Fronts.{valueOf, afterNumber, afterNumbers, afterSet, afterSets, Inside, After, FrontIs}
 
@@ -59,9 +58,6 @@ module _ (image : List ℕ) (at : ℕ) {r : Number} (h : r ≡ numberAt (at + le
 pub ruleset value-laws = (inside-short, inside-within, value-read, value-none)
 
 -- ---- past a number
-
-at-cons : (s : List ℕ) (i : ℕ) → i < length s → drop i s ≡ getD s i 0 ∷ drop (i + 1) s
-at-cons s i h = rw (add-one, drop-cons s i 0)
 
 after-last : (b : ℕ) (s : List ℕ) → b < 128 → afterNumber (b ∷ s) ≡ s
 unfolding afterNumber

@@ -4,20 +4,16 @@ use mathlib.Core.Path.{_≡_, refl, sym, ap, _∙_, subst}
 use mathlib.Core.List.{List, [], _∷_}
 use mathlib.Core.Bool.{Bool, true, false, _&&_}
 use native.Mathlib.Omega.{arith}
-use native.Mathlib.Numerals.{add-one}
 use native.Mathlib.Nat.{le-trans}
 use lib.ListN.{length, getD, drop, drop-of-length-le}
-use lib.Seq.{drop-cons}
 use borrow.Author.Tests.{ne-eqb}
 use Rattle.requests.specs.Tokens.{digit, allDigits, numeral, value}
 use Rattle.text_laws.proofs.Decimals.{value-grows}
+use Rattle.words.proofs.Bytes.{at-cons}
 use Rattle.tokens.specs.Decimals.{over, Valued, DecimalIs}
 use Rattle.tokens.specs.declared.decimals.Decimal.the-variants.{No, Is, Over}
 
 -- ---- all are digits
-
-at-cons : (s : List ℕ) (i : ℕ) → i < length s → drop i s ≡ getD s i 0 ∷ drop (i + 1) s
-at-cons s i h = rw (add-one, drop-cons s i 0)
 
 all-step : (s : List ℕ) (i : ℕ) → i < length s → allDigits (drop i s) ≡ (digit (getD s i 0) && allDigits (drop (i + 1) s))
 unfolding allDigits

@@ -66,7 +66,7 @@ pub ruleset byte-laws = (byte-low, byte-high, byte-40, byte-41, byte-59, byte-39
 
 -- ---- from a place of a word on
 
-at-cons : (s : List ℕ) (i : ℕ) → i < length s → drop i s ≡ getD s i 0 ∷ drop (i + 1) s
+pub at-cons : (s : List ℕ) (i : ℕ) → i < length s → drop i s ≡ getD s i 0 ∷ drop (i + 1) s
 at-cons s i h = rw (add-one, drop-cons s i 0)
 
 pub all-step : (w : List ℕ) (i : ℕ) → i < length w → allWordBytes (drop i w) ≡ (wordByte (getD w i 0) && allWordBytes (drop (i + 1) w))
