@@ -1,9 +1,10 @@
 -- What a reader that succeeds says of its parts, and that a number read is written again, and a written one read back.
 use mathlib.Core.Path.{_≡_, refl, sym, ap, _∙_, subst}
-use Prim.Native.Nat.{ℕ, _≤_, _<_}
+use Prim.Native.Nat.{ℕ, zero, suc, _≤_, _<_}
 use mathlib.Core.Bool.{Bool, true, false, _&&_}
 use mathlib.Core.List.{List, [], _∷_, _++_, append-assoc}
 use lib.Dec.{ltb, leb}
+use lib.ListN.{drop}
 use Rattle.model.specs.Refusals.{Refusal, layout}
 use Rattle.model.specs.Reading.{Read, got, fault, Reader, next, need, num, numUpTo, numBelow}
 use Rattle.model.specs.Writing.{numBytes}
@@ -42,6 +43,11 @@ all-bytes (b ∷ l) e = let w = and-both (ltb b 256) (allBytes l) e in (ltb-true
 pub bytes-rest : (s t : List ℕ) → Bytes (s ++ t) → Bytes t
 bytes-rest [] t h = h
 bytes-rest (b ∷ s) t h = bytes-rest s t (h .1)
+
+pub bytes-drop : (n : ℕ) (s : List ℕ) → Bytes s → Bytes (drop n s)
+bytes-drop zero s b = b
+bytes-drop (suc n) [] b = b
+bytes-drop (suc n) (x ∷ s) b = bytes-drop n s (b .1)
 
 abbrev pub Wrote : List ℕ → List ℕ → List ℕ → Type 0
 Wrote w s rest = (s ≡ w ++ rest) × Bytes rest

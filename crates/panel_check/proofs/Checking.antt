@@ -1,8 +1,8 @@
 -- The panel check: one law for each way out.
-use Prim.Native.Nat.{ℕ, zero, suc, _+_, _-_, _≤_, _<_}
+use Prim.Native.Nat.{ℕ, _+_, _-_, _≤_, _<_}
 use mathlib.Core.Path.{_≡_, refl, sym, ap, _∙_, subst}
 use mathlib.Core.Bool.{Bool, true, false, not}
-use mathlib.Core.List.{List, [], _∷_}
+use mathlib.Core.List.{List, []}
 use native.Mathlib.Omega.{arith}
 use lib.Dec.{leb, ltb}
 use lib.ListN.{length, take, drop, length-drop}
@@ -15,6 +15,7 @@ use Rattle.model.specs.Reading.{Read, Image, got, fault, next, need, readTree, 
 use Rattle.model.specs.Jobs.{closed}
 use Rattle.requests.specs.Panel.{isProgram, driven, bitsOf, allDiffer, mostBits, refused, listed, base, outside, drivenTwice, tooManyBits, panelCode, profile, ofImage, panelOf}
 use Rattle.codec_laws.specs.WellFormed.{Bytes}
+use Rattle.codec_laws.proofs.Sequence.{bytes-drop}
 use Rattle.codec_laws.proofs.NumberTrip.{fault≢got, got-value}
 use Rattle.refusals.specs.declared.Refusal as declared
 use Rattle.refusals.specs.Refusing.{refusalOf}
@@ -134,11 +135,6 @@ root-fits m p = good-fits m (p .good)
 
 pub root-short : {image : List ℕ} {root : ℕ} {s : List ℕ} → ProgramAt image root → s ≡ drop (root - 0) image → root + length s ≤ 65536
 root-short p e = good-short (p .good) e
-
-bytes-drop : (n : ℕ) (s : List ℕ) → Bytes s → Bytes (drop n s)
-bytes-drop zero s b = b
-bytes-drop (suc n) [] b = b
-bytes-drop (suc n) (x ∷ s) b = bytes-drop n s (b .1)
 
 module _ {image : List ℕ} {root : ℕ} (g : RootGood image root) (program : isProgram (g .read .root) ≡ true) {s : List ℕ} (i : s ≡ drop (root - 0) image) where
   reads-here : readTree mostNesting (g .read .head) 0 s ≡ got (g .read .root) []

@@ -12,7 +12,8 @@ use Rattle.model.specs.Limits.{mostScopes, mostNesting, coreNames, mostWordLeng
 use Rattle.model.specs.Objects.{Stx, nesting}
 use Rattle.model.specs.Reading.{got, fault, Head, symbols, coreWords, Image}
 use Rattle.model.specs.Writing.{groupsOf, numBytes, wordsBytes, headBytes, stxBytes}
-use Rattle.codec_laws.specs.WellFormed.{Bytes, WordsFit, StxFits}
+use Rattle.codec_laws.specs.WellFormed.{WordsFit, StxFits}
+use Rattle.codec_laws.proofs.Sequence.{bytes-drop}
 use Rattle.codec_laws.proofs.Lengths.{num-one}
 use Rattle.codec_laws.proofs.ObjectTrip.{stx-w}
 use Rattle.numbers.proofs.Writing.{num-short}
@@ -179,11 +180,6 @@ words-section image f g =
     regroup a b c d e = simp append-assoc
 
 -- ---- what a good image has
-
-bytes-drop : (k : ℕ) (s : List ℕ) → Bytes s → Bytes (drop k s)
-bytes-drop zero s b = b
-bytes-drop (suc k) [] b = tt
-bytes-drop (suc k) (x ∷ s) b = bytes-drop k s (b .1)
 
 drop-within : (k : ℕ) (s : List ℕ) (a b : List ℕ) → drop k s ≡ a ++ b → 0 < length a → k ≤ length s
 drop-within k s a b e h = let d = length-drop k s in let l = ap length e in let f = length-append a b in omega arith
