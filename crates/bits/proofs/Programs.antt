@@ -2,7 +2,7 @@
 use Prim.Native.Nat.{ℕ, zero, suc, _≤_}
 use mathlib.Core.Path.{_≡_, refl, sym, ap, ap₂, _∙_}
 use mathlib.Core.Bool.{Bool, true, false, false≢true}
-use mathlib.Core.List.{List, [], _∷_, _++_, append-assoc}
+use mathlib.Core.List.{List, [], _∷_, _++_, append-assoc, append-nil}
 use native.Mathlib.Omega.{arith}
 use lib.Dec.{eqb, leb, eqb·suc-zero}
 use lib.ListN.{length}
@@ -14,7 +14,6 @@ use Rattle.model.specs.Reading.{Head, got, readTree, symbols}
 use Rattle.model.specs.Writing.{treeBytes}
 use Rattle.laws.proofs.Tests.{and-both}
 use Rattle.codec_laws.specs.WellFormed.{Bytes, TreeFits, TreesFit, HeadFits}
-use Rattle.codec_laws.proofs.Sequence.{nil-right}
 use Rattle.codec_laws.proofs.TreeTrip.{Counts, tree-w}
 use Rattle.numbers.specs.Limits.{mostImage}
 use Rattle.addresses.specs.OneNameOneAddress.{functionNames, functionNamesAll}
@@ -156,7 +155,7 @@ record TellsAll (l : Trees) (x : List ℕ) : Type 0 where
 
 tells-none : TellsAll tnil []
 unfolding walkedAll functionNamesAll
-tells-none = record { plain = tt; tells = λ n s. met-same (sym (nil-right n)) (sym (nil-right s)) }
+tells-none = record { plain = tt; tells = λ n s. met-same (sym (append-nil n)) (sym (append-nil s)) }
 
 tells-more : (t : Tree) (l : Trees) (x y : List ℕ) → Tells t x → TellsAll l y → TellsAll (tcons t l) (x ++ y)
 unfolding walkedAll functionNamesAll
@@ -168,7 +167,7 @@ tells-more t l x y p q = record {
 still-tells : (l : Trees) → StillAll l → TellsAll l []
 still-tells l q = record {
   plain = q .plain;
-  tells = λ n s. q .quiet n s ∙ met-same (sym (nil-right n) ∙ ap (λ (z : List ℕ). n ++ z) (sym (q .nameless))) (sym (nil-right s));
+  tells = λ n s. q .quiet n s ∙ met-same (sym (append-nil n) ∙ ap (λ (z : List ℕ). n ++ z) (sym (q .nameless))) (sym (append-nil s));
 }
 
 tells-function : (n : ℕ) (b : Tree) (x : List ℕ) → Tells b x → Tells (fun n b) x
@@ -181,7 +180,7 @@ unfolding walked meet isOut functionNames
 tells-start h l x p q = record {
   plain = (p .plain, q .plain);
   tells = λ n s. ap (walkedAll l) (p .tells n s) ∙ q .quiet (n ++ functionNames h) (s ++ x)
-      ∙ met-same (ap (λ (z : List ℕ). n ++ z) (sym (nil-right (functionNames h)) ∙ ap (λ (z : List ℕ). functionNames h ++ z) (sym (q .nameless)))) refl;
+      ∙ met-same (ap (λ (z : List ℕ). n ++ z) (sym (append-nil (functionNames h)) ∙ ap (λ (z : List ℕ). functionNames h ++ z) (sym (q .nameless)))) refl;
 }
 
 -- a word that drives nothing, and its parts
@@ -197,7 +196,7 @@ tells-out : (x : ℕ) (l : Trees) → x ≤ lastPoint → StillAll l → Tells (
 unfolding walked walkedAll meet isOut functionNames functionNamesAll tagOf contentOf lastPoint
 tells-out x l h q = record {
   plain = (tt, (tt, q .plain));
-  tells = λ n s. rw (lt-ltb x points (omega arith)) (q .quiet n (s ++ x ∷ []) ∙ met-same (sym (nil-right n) ∙ ap (λ (z : List ℕ). n ++ z) (sym (q .nameless))) refl);
+  tells = λ n s. rw (lt-ltb x points (omega arith)) (q .quiet n (s ++ x ∷ []) ∙ met-same (sym (append-nil n) ∙ ap (λ (z : List ℕ). n ++ z) (sym (q .nameless))) refl);
 }
 
 -- ---- programs
@@ -312,7 +311,7 @@ module _ (l : ℕ) (h : Head) (s : List ℕ) (t : Tree) (f : HeadFits h) (b : By
       let k = counts h f in
       let w = tree-w l h (k .scopes-few) 0 t s [] b r in
       let q : s ≡ treeBytes t ++ [] = w .0 .0 in
-      let z : length s ≡ length (treeBytes t) = ap length (q ∙ nil-right (treeBytes t)) in
+      let z : length s ≡ length (treeBytes t) = ap length (q ∙ append-nil (treeBytes t)) in
       ap₂ (λ (n : ℕ) (x : List ℕ). along n none x) z q ∙ program-walked h k t (w .1) (rw (← z) short) e
 
   pub program-held : {marks names : List ℕ} {g : Gathered} → Holds (along (length s) none s) marks names g → Holds (metIn t) marks names g

@@ -5,7 +5,7 @@ use mathlib.Core.Logic.{inl, inr}
 use Prim.Native.Nat.{ℕ, _≤_, _<_}
 use native.Mathlib.Omega.{arith}
 use mathlib.Core.Bool.{Bool, true, false}
-use mathlib.Core.List.{List, [], _∷_, _++_, append-assoc}
+use mathlib.Core.List.{List, [], _∷_, _++_, append-assoc, append-nil}
 use lib.Dec.{leb}
 use lib.ListN.{length}
 use Rattle.model.specs.Choice.{if_then_else_}
@@ -19,7 +19,7 @@ use Rattle.model.specs.Writing.{numBytes, headBytes, bindsBytes, stxBytes, tree
 use borrow.Author.Tests.{le-leb, leb-true}
 use Rattle.codec_laws.specs.WellFormed.{Bytes, HeadFits, SyntaxFits, TreeImageFits}
 use Rattle.codec_laws.proofs.NumberTrip.{got-value, fault≢got}
-use Rattle.codec_laws.proofs.Sequence.{next-got, Wrote, join, nil-right}
+use Rattle.codec_laws.proofs.Sequence.{next-got, Wrote, join}
 use Rattle.codec_laws.proofs.Lengths.{right-le}
 use Rattle.codec_laws.proofs.ObjectTrip.{stx-w, stx-back}
 use Rattle.codec_laws.proofs.TreeTrip.{Counts, tree-w, tree-back, meets-all}
@@ -95,7 +95,7 @@ syntax-read image rest i b e₀ =
         join (headBytes 1 h ++ (numBytes (length l) ++ bindsBytes l)) (stxBytes r) image s₂ s₃
         (join (headBytes 1 h) (numBytes (length l) ++ bindsBytes l) image s₁ s₂ a₁ a₂) a₃ .0
         ∙ ap (λ (z : List ℕ). ((headBytes 1 h ++ (numBytes (length l) ++ bindsBytes l)) ++ stxBytes r) ++ z) n
-        ∙ nil-right ((headBytes 1 h ++ (numBytes (length l) ++ bindsBytes l)) ++ stxBytes r)
+        ∙ append-nil ((headBytes 1 h ++ (numBytes (length l) ++ bindsBytes l)) ++ stxBytes r)
         ∙ ap (λ (z : List ℕ). z ++ stxBytes r) (sym (append-assoc (headBytes 1 h) (numBytes (length l)) (bindsBytes l)))
 
 -- what is read keeps every limit
@@ -136,7 +136,7 @@ syntax-written-then-read h l r f =
 
     root : readStx 64 h (stxBytes r) ≡ got r []
     root =
-        ap (readStx 64 h) (sym (nil-right (stxBytes r)))
+        ap (readStx 64 h) (sym (append-nil (stxBytes r)))
         ∙ stx-back h (counts .scopes-few) (counts .symbols-few) r (f .root-fits) (syntax-short h l r (f .short)) 64 (f .shallow) []
 
 -- ---- kind 2
@@ -196,7 +196,7 @@ tree-read image rest i b e₀ =
     text s₁ s₂ a₁ a₂ n =
         join (headBytes 2 (i .head)) (treeBytes (i .root)) image s₁ s₂ a₁ a₂ .0
         ∙ ap (λ (z : List ℕ). (headBytes 2 (i .head) ++ treeBytes (i .root)) ++ z) n
-        ∙ nil-right (headBytes 2 (i .head) ++ treeBytes (i .root))
+        ∙ append-nil (headBytes 2 (i .head) ++ treeBytes (i .root))
 
 -- what is read keeps every limit
 pub tree-read-keeps-limits : (image rest : List ℕ) (i : Image Tree) → Bytes image → readImage readTreeImage image ≡ got i rest
@@ -227,5 +227,5 @@ tree-written-then-read h r f =
   where
     root : readTree mostNesting h 0 (treeBytes r) ≡ got r []
     root =
-        ap (readTree mostNesting h 0) (sym (nil-right (treeBytes r)))
+        ap (readTree mostNesting h 0) (sym (append-nil (treeBytes r)))
         ∙ tree-back h (head-counts h (f .head-fits)) r (f .root-fits) (tree-short h r (f .short)) 0 (meets-all r) mostNesting (f .shallow) []

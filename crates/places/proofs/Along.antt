@@ -1,7 +1,7 @@
 -- Along a tree's bytes as many things as its size are read, and they are its things.
 use Prim.Native.Nat.{ℕ, zero, suc, _+_, _-_, _≤_}
 use mathlib.Core.Path.{_≡_, refl, sym, ap, _∙_}
-use mathlib.Core.List.{List, [], _∷_, _++_, append-assoc}
+use mathlib.Core.List.{List, [], _∷_, _++_, append-assoc, append-nil}
 use native.Mathlib.Omega.{arith}
 use Rattle.model.specs.Trees as m
 use Rattle.model.specs.Trees.{var, app, fun, datum, lst, stx, Trees, tnil, tcons, tsize, tsizeBy, tsizesBy}
@@ -9,7 +9,6 @@ use Rattle.model.specs.Writing.{treesBytes}
 use Rattle.requests.specs.Uses as u
 use Rattle.requests.specs.Uses.{things, thingsAll}
 use Rattle.requests.proofs.Uses.{tsizes}
-use Rattle.requests.proofs.Replacing.{nothing-behind}
 use Rattle.head.specs.declared.Counts.{Counts}
 use Rattle.places.specs.Reading.{readThing, thingOf, along}
 use Rattle.places.specs.Standing.{At}
@@ -60,4 +59,4 @@ mutual
 -- all of it
 pub along-tree : {k : Counts} {s : List ℕ} {t : m.Tree} {rest : List ℕ} → At k s t rest → along k (tsize t) s ≡ things t
 unfolding along
-along-tree {k} {s} {t} {rest} a = ap (λ (n : ℕ). along k n s) (let e : tsize t ≡ tsize t + 0 = omega arith in e) ∙ tree-along t a .read 0 ∙ nothing-behind (things t)
+along-tree {k} {s} {t} {rest} a = ap (λ (n : ℕ). along k n s) (let e : tsize t ≡ tsize t + 0 = omega arith in e) ∙ tree-along t a .read 0 ∙ append-nil (things t)

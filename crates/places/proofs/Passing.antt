@@ -1,7 +1,7 @@
 -- Passing over a tree: what is still to come is always some trees, and nothing is left at the end.
 use Prim.Native.Nat.{ℕ, zero, suc, _+_, _-_, _≤_, _<_}
 use mathlib.Core.Path.{_≡_, refl, sym, ap, _∙_}
-use mathlib.Core.List.{List, [], _∷_, _++_, append-assoc}
+use mathlib.Core.List.{List, [], _++_, append-assoc, append-nil}
 use native.Mathlib.Omega.{arith}
 use native.Mathlib.Nat.{max-le}
 use lib.ListN.{length, drop, length-drop, length-append}
@@ -86,7 +86,7 @@ one-comes {k} {at} {s} t rest a =
       trees = tcons t tnil;
       are = record {
         declared = a .declared;
-        is = rw e (a .is ∙ ap (λ (z : List ℕ). z ++ rest) (sym (none (treeBytes t))));
+        is = rw e (a .is ∙ ap (λ (z : List ℕ). z ++ rest) (sym (append-nil (treeBytes t))));
         fits = (a .fits, tt);
         shallow = max-le (a .shallow) (omega arith);
         short = omega (arith, a .short, length-append (treeBytes t) []);
@@ -95,10 +95,6 @@ one-comes {k} {at} {s} t rest a =
       sum = omega arith;
       bytes = omega (arith, length-append (treeBytes t) []);
     }
-  where
-    none : (l : List ℕ) → l ++ [] ≡ l
-    none [] = refl
-    none (x ∷ l) = ap (λ (z : List ℕ). x ∷ z) (none l)
 
 pub passing-start : {k : Counts} {at : ℕ} {s : List ℕ} → Midway k at s at 1 0
 passing-start = record { moved = omega arith; within = omega arith; coming = one-comes }

@@ -2,7 +2,7 @@
 -- size are read along its bytes, and they are its things.
 use Prim.Native.Nat.{ℕ, zero, suc, _+_, _-_, _≤_, _<_, max}
 use mathlib.Core.Path.{_≡_, refl, sym, ap, ap₂, _∙_}
-use mathlib.Core.List.{List, [], _∷_, _++_, append-assoc}
+use mathlib.Core.List.{List, _∷_, _++_, append-assoc, append-nil}
 use native.Mathlib.Omega.{arith}
 use native.Mathlib.Nat.{le-max-left, le-max-right, max-le}
 use lib.Dec.{eqb}
@@ -60,18 +60,14 @@ frontBytes (datum a) = numBytes 3 ++ numBytes (tagOf a) ++ numBytes (contentOf a
 frontBytes (lst l) = numBytes 4 ++ numBytes (tcount l)
 frontBytes (stx s) = numBytes 5 ++ stxBytes s
 
-nothing-behind : (l : List ℕ) → l ++ [] ≡ l
-nothing-behind [] = refl
-nothing-behind (x ∷ l) = ap (λ (z : List ℕ). x ∷ z) (nothing-behind l)
-
 pub bytes-parted : (t : m.Tree) → treeBytes t ≡ frontBytes t ++ treesBytes (parts t)
 unfolding treeBytes treesBytes frontBytes parts
-bytes-parted (var n) = sym (nothing-behind (numBytes 0 ++ numBytes n))
+bytes-parted (var n) = sym (append-nil (numBytes 0 ++ numBytes n))
 bytes-parted (app h l) = append-assoc (numBytes 1 ++ numBytes (suc (tcount l))) (treeBytes h) (treesBytes l)
-bytes-parted (fun n b) = ap (λ (z : List ℕ). (numBytes 2 ++ numBytes n) ++ z) (sym (nothing-behind (treeBytes b)))
-bytes-parted (datum a) = sym (nothing-behind (numBytes 3 ++ numBytes (tagOf a) ++ numBytes (contentOf a)))
+bytes-parted (fun n b) = ap (λ (z : List ℕ). (numBytes 2 ++ numBytes n) ++ z) (sym (append-nil (treeBytes b)))
+bytes-parted (datum a) = sym (append-nil (numBytes 3 ++ numBytes (tagOf a) ++ numBytes (contentOf a)))
 bytes-parted (lst l) = refl
-bytes-parted (stx s) = sym (nothing-behind (numBytes 5 ++ stxBytes s))
+bytes-parted (stx s) = sym (append-nil (numBytes 5 ++ stxBytes s))
 
 pub front-some : (t : m.Tree) → 1 ≤ length (frontBytes t)
 unfolding frontBytes
@@ -95,11 +91,7 @@ pub things-parted : (t : m.Tree) → things t ≡ thingOf (front t) ∷ thingsAl
 unfolding things thingsAll thingOf front parts
 things-parted (var n) = refl
 things-parted (app h l) = refl
-things-parted (fun n b) = ap (λ (z : List u.Thing). other ∷ z) (sym (none (things b)))
-  where
-    none : (l : List u.Thing) → l ++ [] ≡ l
-    none [] = refl
-    none (x ∷ l) = ap (λ (z : List u.Thing). x ∷ z) (none l)
+things-parted (fun n b) = ap (λ (z : List u.Thing). other ∷ z) (sym (append-nil (things b)))
 things-parted (datum a) = refl
 things-parted (lst l) = refl
 things-parted (stx s) = refl

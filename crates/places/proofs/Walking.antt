@@ -2,7 +2,7 @@
 use Prim.Native.Nat.{ℕ, zero, suc, _+_, _-_, _*_, _≤_, _<_}
 use mathlib.Core.Path.{_≡_, refl, sym, ap, _∙_}
 use mathlib.Core.Bool.{Bool, true, false, _&&_}
-use mathlib.Core.List.{List, [], _∷_, _++_, append-assoc}
+use mathlib.Core.List.{List, [], _∷_, _++_, append-assoc, append-nil}
 use native.Mathlib.Omega.{arith}
 use lib.Dec.{eqb}
 use lib.ListN.{length, drop, length-drop, length-append}
@@ -12,7 +12,6 @@ use Rattle.model.specs.Choice.{if_then_else_}
 use Rattle.requests.specs.Uses as u
 use Rattle.requests.specs.Uses.{variable, other, isUse, uses, firstUse}
 use Rattle.requests.proofs.Uses.{uses-few, uses-append, first-right}
-use Rattle.requests.proofs.Replacing.{nothing-behind}
 use Rattle.refusals.specs.declared.Refusal.{Refusal}
 use Rattle.numbers.specs.declared.Cursor.{Cursor}
 use Rattle.numbers.specs.Limits.{mostImage}
@@ -54,7 +53,7 @@ module _ {k : Counts} {at : ℕ} {s : List ℕ} {count here place : ℕ} (w : Mi
   midway-ends : count ≤ place → along k count s ≡ w .met
   midway-ends h =
       let e : count - place ≡ 0 = omega arith in
-      w .is ∙ rw (along-none k (count - place) (drop (here - at) s) e) (nothing-behind (w .met))
+      w .is ∙ rw (along-none k (count - place) (drop (here - at) s) e) (append-nil (w .met))
 
   module _ {v : List ℕ} (i : v ≡ drop (here - at) s) where
     ends : here + length v ≡ at + length s
@@ -68,7 +67,7 @@ module _ {k : Counts} {at : ℕ} {s : List ℕ} {count here place : ℕ} (w : Mi
       goes-on = ap (along k (count - place)) (sym i) ∙ along-more k (count - place) v (omega arith)
 
       midway-stops : {f : Refusal} → r ≡ Fault f → along k count s ≡ w .met
-      midway-stops e = w .is ∙ rw (goes-on, refused thing-shape (here + length v) (readThing k v) h e) (nothing-behind (w .met))
+      midway-stops e = w .is ∙ rw (goes-on, refused thing-shape (here + length v) (readThing k v) h e) (append-nil (w .met))
 
       module _ {t : Thing} {past : Cursor} (e : r ≡ Read t past) where
         tookIt : Took here v (readThing k v) t (past .at)

@@ -3,7 +3,7 @@
 use Prim.Native.Nat.{ℕ, zero, suc, _+_, _-_, _*_, _≤_, _<_}
 use mathlib.Core.Path.{_≡_, refl, sym, ap, ap₂, _∙_}
 use mathlib.Core.Bool.{Bool, true, false, not, _&&_}
-use mathlib.Core.List.{List, [], _∷_, _++_, append-assoc}
+use mathlib.Core.List.{List, [], _∷_, _++_, append-assoc, append-nil}
 use native.Mathlib.Omega.{arith}
 use lib.Dec.{eqb, ltb, leb}
 use lib.ListN.{length, drop, getD, length-append}
@@ -25,12 +25,8 @@ pub record Parted (whole part : List Thing) (p : ℕ) (put : Tree → List Thing
   pub puts : (u : Tree) → put u ≡ before ++ (things u ++ behind)
   pub long : length before ≡ p
 
-pub nothing-behind : (a : List Thing) → a ++ [] ≡ a
-nothing-behind [] = refl
-nothing-behind (x ∷ l) = ap (λ (z : List Thing). x ∷ z) (nothing-behind l)
-
 here-parted : (t : Tree) → Parted (things t) (things t) 0 (λ u. things u)
-here-parted t = record { before = []; behind = []; splits = sym (nothing-behind (things t)); puts = λ u. sym (nothing-behind (things u)); long = refl }
+here-parted t = record { before = []; behind = []; splits = sym (append-nil (things t)); puts = λ u. sym (append-nil (things u)); long = refl }
 
 -- things `front` come before, and things `end` behind
 around : {whole part : List Thing} {p : ℕ} {put : Tree → List Thing} (front end : List Thing) → Parted whole part p put
@@ -73,18 +69,18 @@ mutual
       by-test false e x y =
           let k = ltb-false p (tsize g) e in
           same-parted (around (other ∷ things g) [] (y (omega arith)))
-          (ap (λ (z : List Thing). other ∷ (things g ++ z)) (nothing-behind (thingsAll r))) (omega (arith, size-things g))
-          (λ u. ap (λ (z : List Thing). other ∷ (things g ++ z)) (nothing-behind (thingsAll (replacedAmong u r (p - tsize g)))))
+          (ap (λ (z : List Thing). other ∷ (things g ++ z)) (append-nil (thingsAll r))) (omega (arith, size-things g))
+          (λ u. ap (λ (z : List Thing). other ∷ (things g ++ z)) (append-nil (thingsAll (replacedAmong u r (p - tsize g)))))
   parted l low (fun n b) zero h = here-parted (fun n b)
   parted l low (fun n b) (suc p) h =
-      same-parted (around (other ∷ []) [] (parted (l - 1) 0 b p (omega arith))) (ap (λ (z : List Thing). other ∷ z) (nothing-behind (things b))) (omega arith)
-      (λ u. ap (λ (z : List Thing). other ∷ z) (nothing-behind (things (replaced u b p))))
+      same-parted (around (other ∷ []) [] (parted (l - 1) 0 b p (omega arith))) (ap (λ (z : List Thing). other ∷ z) (append-nil (things b))) (omega arith)
+      (λ u. ap (λ (z : List Thing). other ∷ z) (append-nil (things (replaced u b p))))
   parted l low (datum a) zero h = here-parted (datum a)
   parted l low (datum a) (suc p) h = absurd (omega arith)
   parted l low (lst r) zero h = here-parted (lst r)
   parted l low (lst r) (suc p) h =
-      same-parted (around (other ∷ []) [] (among-parted (l - 1) 2 r p (omega arith))) (ap (λ (z : List Thing). other ∷ z) (nothing-behind (thingsAll r))) (omega arith)
-      (λ u. ap (λ (z : List Thing). other ∷ z) (nothing-behind (thingsAll (replacedAmong u r p))))
+      same-parted (around (other ∷ []) [] (among-parted (l - 1) 2 r p (omega arith))) (ap (λ (z : List Thing). other ∷ z) (append-nil (thingsAll r))) (omega arith)
+      (λ u. ap (λ (z : List Thing). other ∷ z) (append-nil (thingsAll (replacedAmong u r p))))
   parted l low (stx s) zero h = here-parted (stx s)
   parted l low (stx s) (suc p) h = absurd (omega arith)
 
@@ -100,8 +96,8 @@ mutual
       by-test true e x y = same-parted (around [] (thingsAll r) (x (ltb-true p (tsize t) e))) refl (omega arith) (λ u. refl)
       by-test false e x y =
           let k = ltb-false p (tsize t) e in
-          same-parted (around (things t) [] (y (omega arith))) (ap (λ (z : List Thing). things t ++ z) (nothing-behind (thingsAll r))) (omega (arith, size-things t))
-          (λ u. ap (λ (z : List Thing). things t ++ z) (nothing-behind (thingsAll (replacedAmong u r (p - tsize t)))))
+          same-parted (around (things t) [] (y (omega arith))) (ap (λ (z : List Thing). things t ++ z) (append-nil (thingsAll r))) (omega (arith, size-things t))
+          (λ u. ap (λ (z : List Thing). things t ++ z) (append-nil (thingsAll (replacedAmong u r (p - tsize t)))))
 
 -- ---- one name: `b` stands before, `o` was replaced by `w`, `a` stands behind
 
@@ -294,10 +290,6 @@ module _ (t u : Tree) (p : ℕ) (inside : p < tsize t) where
         (entries-same names 0 (entryAfter (changeOf p u t) (entryIn (summaryOf names t ++ behind))) (entryOf (things (replaced u t p)))
         (λ i g l. entry-after (entryIn (summaryOf names t ++ behind)) i (question-counts-the-tree names t behind i (omega arith))))
 
-words-behind : (l : List ℕ) → l ++ [] ≡ l
-words-behind [] = refl
-words-behind (x ∷ l) = ap (λ (z : List ℕ). x ∷ z) (words-behind l)
-
 -- ---- any number of replacements: `Follows names t w v x` where v comes of t by replacements, and the words x of w by bringing up to
 -- date each time
 
@@ -309,4 +301,4 @@ pub data Follows (names : ℕ) : Tree → List ℕ → Tree → List ℕ → Typ
 pub summary-follows : (names : ℕ) {t v : Tree} {w x : List ℕ} → Follows names t w v x → w ≡ summaryOf names t → x ≡ summaryOf names v
 summary-follows names none e = e
 summary-follows names (more {t} {v} {w} {x} u p inside small f) e =
-    ap (broughtUp (changeOf p u v) names) (summary-follows names f e ∙ sym (words-behind (summaryOf names v))) ∙ summary-brought-up v u p inside small names []
+    ap (broughtUp (changeOf p u v) names) (summary-follows names f e ∙ sym (append-nil (summaryOf names v))) ∙ summary-brought-up v u p inside small names []

@@ -1,7 +1,7 @@
 -- A tree image opened: one law for each way out.
 use Prim.Native.Nat.{ℕ, _+_, _-_, _≤_, _<_}
 use mathlib.Core.Path.{_≡_, sym, ap, _∙_, subst}
-use mathlib.Core.List.{List, [], _++_}
+use mathlib.Core.List.{List, [], _++_, append-nil}
 use native.Mathlib.Omega.{arith}
 use lib.ListN.{length, drop, getD, length-drop}
 use lib.Seq.{drop-at}
@@ -15,7 +15,6 @@ use Rattle.refusals.specs.declared.Refusal.{Refusal}
 use Rattle.refusals.specs.declared.Refusal.the-variants as refusal
 use Rattle.numbers.specs.declared.Cursor.{Cursor}
 use Rattle.numbers.specs.Limits.{mostImage}
-use Rattle.codec_laws.proofs.Sequence.{nil-right}
 use Rattle.codec_laws.specs.WellFormed.{TreeFits, TreeImageFits}
 use Rattle.codec_laws.proofs.ImageLaws.{tree-read-keeps-limits, tree-read-then-written}
 use Rattle.head.specs.Heads.{headAt, declares}
@@ -104,7 +103,7 @@ module _ (s : List ℕ) (known : (i : ℕ) → Fits w8 (getD s i 0)) (short : le
       behind : drop (c .at) s ≡ treeBytes (read .root) ++ []
       unfolding treeImageBytes
       behind =
-          ap (drop (c .at)) written ∙ drop-at (headBytes 2 (K .head)) (treeBytes (read .root)) (c .at) (sym (K .ends)) ∙ sym (nil-right (treeBytes (read .root)))
+          ap (drop (c .at)) written ∙ drop-at (headBytes 2 (K .head)) (treeBytes (read .root)) (c .at) (sym (K .ends)) ∙ sym (append-nil (treeBytes (read .root)))
 
       counts-are : n ≡ countsOf (K .head)
       counts-are = ne ∙ (λ k. record { symbols = symbol-count K k; names = name-count K k; scopes = scope-count K k })
@@ -116,7 +115,7 @@ module _ (s : List ℕ) (known : (i : ℕ) → Fits w8 (getD s i 0)) (short : le
       root-at = record { declared = declared; is = behind; fits = fits; shallow = limits .shallow; short = small }
         where
           small : length (treeBytes (read .root)) ≤ mostImage
-          small = let l = ap length behind ∙ ap length (nil-right (treeBytes (read .root))) in omega (arith, length-drop (c .at) s)
+          small = let l = ap length behind ∙ ap length (append-nil (treeBytes (read .root))) in omega (arith, length-drop (c .at) s)
 
       pub root-tree : Tree n u
       root-tree = subst (λ (v : List ℕ). Tree n v) (sym (behind-head s (c .at) i)) (record { tree = read .root; rest = []; at = root-at })

@@ -2,7 +2,7 @@
 use Prim.Native.Nat.{ℕ, zero, suc, _+_, _-_, _*_, max, _≤_, _<_}
 use mathlib.Core.Path.{_≡_, refl, sym, ap, ap₂, _∙_}
 use mathlib.Core.Bool.{true, false≢true}
-use mathlib.Core.List.{List, [], _∷_, _++_, map, map-append, append-assoc}
+use mathlib.Core.List.{List, [], _∷_, _++_, map, map-append, append-assoc, append-nil}
 use native.Mathlib.Omega.{arith}
 use native.Mathlib.Nat.{le-max-left, le-max-right}
 use lib.Dec.{eqb, leb}
@@ -14,7 +14,6 @@ use Rattle.model.specs.Reading.{Head, got, next, symbols}
 use Rattle.model.specs.Writing.{numBytes, treeBytes, treesBytes}
 use Rattle.laws.proofs.Tests.{and-both}
 use Rattle.codec_laws.specs.WellFormed.{AtomFits, TreeFits, TreesFit}
-use Rattle.codec_laws.proofs.Sequence.{nil-right}
 use Rattle.codec_laws.proofs.Lengths.{left-le, right-le, tcount-le}
 use Rattle.codec_laws.proofs.TreeTrip.{Counts}
 use Rattle.numbers.specs.Limits.{mostImage}
@@ -170,7 +169,7 @@ module _ (h : Head) (k : Counts h) (table : List ℕ) (around : List Bit) (same 
 
     expressions-wired : (l : Trees) → TreesFit (symbols h) (h .names) (h .scopes) l → areExpressions l ≡ true → length (treesBytes l) ≤ mostImage → (n : ℕ) → tnestings l ≤ n → (j o : Join) (before rest : List ℕ)
         → wireParts (wireTree table n) (joinNumber j) (joinNumber o) before (tcount l) (treesBytes l ++ rest) ≡ got (before ++ map wordOf (wiredAll j o around l)) rest
-    expressions-wired tnil f e s n d j o before rest = ap (λ (z : List ℕ). got z rest) (sym (nil-right before))
+    expressions-wired tnil f e s n d j o before rest = ap (λ (z : List ℕ). got z rest) (sym (append-nil before))
     expressions-wired (tcons t l) f e s n d j o before rest =
         let r = and-both (isExpression t) (areExpressions l) e in
         let x : tnesting t ≤ n = omega (arith, le-max-left (tnesting t) (tnestings l)) in

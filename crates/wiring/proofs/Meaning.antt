@@ -2,7 +2,7 @@
 use Prim.Native.Nat.{ℕ, zero, suc, _+_, _-_, _*_, max, _≤_, _<_}
 use mathlib.Core.Path.{_≡_, refl, sym, ap, ap₂, _∙_}
 use mathlib.Core.Bool.{Bool, true, false, false≢true, _&&_}
-use mathlib.Core.List.{List, [], _∷_, _++_, map, map-append, append-assoc}
+use mathlib.Core.List.{List, [], _∷_, _++_, map, map-append, append-assoc, append-nil}
 use native.Mathlib.Omega.{arith}
 use native.Mathlib.Nat.{le-max-left, le-max-right}
 use native.Mathlib.Numerals.{add-one}
@@ -18,7 +18,6 @@ use Rattle.model.specs.Reading.{Head, got, next, symbols}
 use Rattle.model.specs.Writing.{numBytes, treeBytes, treesBytes}
 use Rattle.laws.proofs.Tests.{and-both}
 use Rattle.codec_laws.specs.WellFormed.{TreeFits, TreesFit}
-use Rattle.codec_laws.proofs.Sequence.{nil-right}
 use Rattle.codec_laws.proofs.Lengths.{left-le, right-le, tcount-le}
 use Rattle.codec_laws.proofs.TreeTrip.{Counts}
 use Rattle.addresses.specs.OneNameOneAddress.{functionNames, functionNamesAll}
@@ -109,7 +108,7 @@ rung-on table l s u rest w t e d h =
 -- a place and one expression
 pair-bytes : (q e : Tree) (rest : List ℕ) → treesBytes (tcons q (tcons e tnil)) ++ rest ≡ treeBytes q ++ (treeBytes e ++ rest)
 unfolding treesBytes
-pair-bytes q e rest = append-assoc (treeBytes q) (treeBytes e ++ []) rest ∙ ap (λ (z : List ℕ). treeBytes q ++ (z ++ rest)) (nil-right (treeBytes e))
+pair-bytes q e rest = append-assoc (treeBytes q) (treeBytes e ++ []) rest ∙ ap (λ (z : List ℕ). treeBytes q ++ (z ++ rest)) (append-nil (treeBytes e))
 
 pair-short : (q e : Tree) → length (treesBytes (tcons q (tcons e tnil))) ≤ mostImage → length (treeBytes e) ≤ mostImage
 unfolding treesBytes
@@ -198,7 +197,7 @@ unfolding isStart isBinary tcount startValue treeBytes treesBytes tagOf contentO
 start-wired k n m tnil rest f e = absurd (false≢true e)
 start-wired k n m (tcons v (tcons y l)) rest f e = absurd (false≢true (sym (eqb·suc-zero (tcount l)) ∙ and-both (isBinary v) (eqb (suc (tcount l)) 0) e .1))
 start-wired k n m (tcons (datum (number x)) tnil) rest f e =
-    ap (λ (z : List ℕ). startNumber (z ++ rest)) (nil-right (numBytes 3 ++ numBytes 1 ++ numBytes x))
+    ap (λ (z : List ℕ). startNumber (z ++ rest)) (append-nil (numBytes 3 ++ numBytes 1 ++ numBytes x))
     ∙ start-on ((numBytes 3 ++ numBytes 1 ++ numBytes x) ++ rest) rest (atomToken 1 x) (atom-token-back 1 x rest (omega arith) (f .0)) (and-both (leb x 1) true e .0)
 start-wired k n m (tcons (datum (symbol x)) tnil) rest f e = absurd (false≢true e)
 start-wired k n m (tcons (datum (point x)) tnil) rest f e = absurd (false≢true e)
@@ -343,7 +342,7 @@ module _ (h : Head) (k : Counts h) where
     inside-wired (stx y) f e s = tt
 
     programs-wired : (l : Trees) → TreesFit (symbols h) (h .names) (h .scopes) l → arePrograms l ≡ true → length (treesBytes l) ≤ mostImage → ProgramsAre l
-    programs-wired tnil f e s = λ n d table around same a before r rest. ap (λ (z : Given). got z rest) (given-same (sym (nil-right (before .words))) (sym (nil-right (before .starts))))
+    programs-wired tnil f e s = λ n d table around same a before r rest. ap (λ (z : Given). got z rest) (given-same (sym (append-nil (before .words))) (sym (append-nil (before .starts))))
     programs-wired (tcons t l) f e s =
         let q = and-both (isProgram t) (arePrograms l) e in
         one-more t l (q .0) (program-wired t (f .0) (q .0) (left-le mostImage (treeBytes t) (treesBytes l) s)) (programs-wired l (f .1) (q .1) (right-le mostImage (treeBytes t) (treesBytes l) s))

@@ -2,7 +2,7 @@
 use Prim.Native.Nat.{ℕ, _+_, _≤_}
 use mathlib.Core.Path.{_≡_, sym, ap, ap₂, _∙_}
 use mathlib.Core.Bool.{true}
-use mathlib.Core.List.{List, [], _++_, map}
+use mathlib.Core.List.{List, [], _++_, map, append-nil}
 use native.Mathlib.Omega.{arith}
 use lib.ListN.{length, take, replicate, length-replicate, getD-replicate, length-map}
 use Rattle.model.specs.Limits.{mostNesting, mostScopes, mostNames}
@@ -11,7 +11,6 @@ use Rattle.model.specs.Reading as m
 use Rattle.model.specs.Reading.{got, readTree}
 use Rattle.model.specs.Writing.{treeBytes}
 use Rattle.codec_laws.specs.WellFormed.{Bytes, HeadFits}
-use Rattle.codec_laws.proofs.Sequence.{nil-right}
 use Rattle.codec_laws.proofs.TreeTrip.{Counts, tree-w}
 use Rattle.refusals.specs.declared.Refusal.{Refusal}
 use Rattle.numbers.specs.declared.Cursor.{Cursor}
@@ -50,7 +49,7 @@ root-wired h s t f b r e few short =
     let k = counts h f in
     let w = tree-w 64 h (k .scopes-few) 0 t s [] b r in
     let q : s ≡ treeBytes t ++ [] = w .0 .0 in
-    let z : length s ≡ length (treeBytes t) = ap length (q ∙ nil-right (treeBytes t)) in
+    let z : length s ≡ length (treeBytes t) = ap length (q ∙ append-nil (treeBytes t)) in
     ap (wireProgram 64 noneAround 0) q ∙ program-wired h k t (w .1) e (rw (← z) short) 64 (w .2) noneAround [] same-none 0 (omega arith) []
 
 abbrev none : Wired

@@ -2,7 +2,7 @@
 use Prim.Native.Nat.{ℕ, _+_, _*_, _≤_, _<_}
 use mathlib.Core.Path.{_≡_, ap, _∙_}
 use mathlib.Core.Bool.{Bool, true, false}
-use mathlib.Core.List.{List, [], _∷_, _++_}
+use mathlib.Core.List.{List, [], _∷_, _++_, append-nil}
 use native.Mathlib.Omega.{arith}
 use lib.Dec.{eqb}
 use lib.ListN.{length, getD, set, length-append}
@@ -10,7 +10,6 @@ use lib.Seq.{sets}
 use borrow.Author.Tests.{eq-eqb, ne-eqb}
 use Rattle.model.specs.Choice.{if_then_else_}
 use Rattle.bits.specs.declared.Token.{Token}
-use Rattle.codec_laws.proofs.Sequence.{nil-right}
 use Rattle.wiring.specs.Words.{operands, mostWords, placeWord, othersOf, turnOf, joinWord, endingOf}
 use Rattle.wiring.proofs.Runs.{sets-more}
 
@@ -66,7 +65,7 @@ module _ (n join count : ℕ) {turned : ℕ} (t : turned ≡ count + length (tur
 
   pub load-count : join ≡ 0 → turned ≡ count + length (endingOf n join)
   unfolding endingOf joinWord
-  load-count e = rw (eq-eqb join 0 e, nil-right (turnOf n)) t
+  load-count e = rw (eq-eqb join 0 e, append-nil (turnOf n)) t
 
   pub join-count : {r : ℕ} → (join ≡ 0 → ⊥) → r ≡ turned + 1 → r ≡ count + length (endingOf n join)
   unfolding endingOf joinWord
@@ -75,7 +74,7 @@ module _ (n join count : ℕ) {turned : ℕ} (t : turned ≡ count + length (tur
   module _ (code : List ℕ) {code′ : List ℕ} (c : code′ ≡ sets code count (turnOf n)) where
     pub load-code : join ≡ 0 → code′ ≡ sets code count (endingOf n join)
     unfolding endingOf joinWord
-    load-code e = rw (eq-eqb join 0 e, nil-right (turnOf n)) c
+    load-code e = rw (eq-eqb join 0 e, append-nil (turnOf n)) c
 
     pub join-code : {code″ : List ℕ} {w k : ℕ} → (join ≡ 0 → ⊥) → k ≡ 5 + join → w ≡ k * operands + 0 → code″ ≡ set code′ turned w → code″ ≡ sets code count (endingOf n join)
     unfolding endingOf joinWord
