@@ -58,10 +58,6 @@ wrote w s rest b e = (e, bytes-rest w rest (subst Bytes e b))
 pub join : (a b s t rest : List ℕ) → Wrote a s t → Wrote b t rest → Wrote (a ++ b) s rest
 join a b s t rest p q = (p .0 ∙ ap (λ (z : List ℕ). a ++ z) (q .0) ∙ sym (append-assoc a b rest), q .1)
 
-pub nil-right : (l : List ℕ) → l ++ [] ≡ l
-nil-right [] = refl
-nil-right (x ∷ l) = ap (λ (z : List ℕ). x ∷ z) (nil-right l)
-
 -- ---- numbers
 
 pub num-w : (v : ℕ) (s rest : List ℕ) → Bytes s → num s ≡ got v rest → Wrote (numBytes v) s rest × (v < 4294967296)

@@ -2,7 +2,7 @@
 use Prim.Native.Nat.{ℕ, zero, suc, _+_, _-_, _≤_, _<_}
 use mathlib.Core.Path.{_≡_, refl, sym, ap, ap₂, _∙_, subst}
 use mathlib.Core.Bool.{Bool, true, false}
-use mathlib.Core.List.{List, [], _∷_, _++_, append-assoc}
+use mathlib.Core.List.{List, [], _∷_, _++_, append-assoc, append-nil}
 use native.Mathlib.Omega.{arith}
 use lib.Dec.{eqb, ltb}
 use lib.ListN.{length, drop, length-drop, length-append}
@@ -15,7 +15,6 @@ use Rattle.model.specs.Trees.{var, app, fun, datum, lst, stx, Trees, tnil, tcon
 use Rattle.model.specs.Reading.{got}
 use Rattle.model.specs.Writing.{numBytes, treeBytes, treesBytes}
 use Rattle.codec_laws.proofs.NumberTrip.{fault≢got, got-value, got-rest}
-use Rattle.codec_laws.proofs.Sequence.{nil-right}
 use Rattle.requests.specs.Uses as u
 use Rattle.requests.specs.Uses.{things}
 use Rattle.requests.specs.Replacing as q
@@ -83,7 +82,7 @@ enter-bytes u (app g l) p h = go (ltb p (tsize g))
         ap (λ (n : ℕ). numBytes 1 ++ numBytes (suc n) ++ treeBytes g ++ treesBytes (replacedAmong u l (p - tsize g))) (same-count u l (p - tsize g))
         ∙ append-assoc (numBytes 1 ++ numBytes (suc (tcount l))) (treeBytes g) (treesBytes (replacedAmong u l (p - tsize g)))
 enter-bytes u (fun n b) p h =
-    rw (lt-ltb p (tsize b) (omega arith)) (ap (λ (z : List ℕ). (numBytes 2 ++ numBytes n) ++ z) (sym (nil-right (treeBytes (replaced u b p)))))
+    rw (lt-ltb p (tsize b) (omega arith)) (ap (λ (z : List ℕ). (numBytes 2 ++ numBytes n) ++ z) (sym (append-nil (treeBytes (replaced u b p)))))
 enter-bytes u (datum a) p h = absurd (omega arith)
 enter-bytes u (lst l) p h = ap (λ (n : ℕ). numBytes 4 ++ numBytes n ++ treesBytes (replacedAmong u l p)) (same-count u l p)
 enter-bytes u (stx s) p h = absurd (omega arith)
@@ -130,7 +129,7 @@ start-way {k} {at} {s} {place} t rest a h =
       behind = [];
       are = record {
         declared = a .declared;
-        is = rw e (a .is ∙ ap (λ (z : List ℕ). z ++ rest) (sym (nil-right (treeBytes t))));
+        is = rw e (a .is ∙ ap (λ (z : List ℕ). z ++ rest) (sym (append-nil (treeBytes t))));
         fits = (a .fits, tt);
         shallow = omega (arith, a .shallow);
         short = omega (arith, a .short, length-append (treeBytes t) []);
@@ -139,8 +138,8 @@ start-way {k} {at} {s} {place} t rest a h =
       nested = omega (arith, a .shallow);
       spot-is = rw l refl;
       long = omega arith;
-      bytes = sym (nil-right (treeBytes t ++ []) ∙ nil-right (treeBytes t));
-      puts = λ u. rw l (sym (nil-right (treeBytes (replaced u t place) ++ []) ∙ nil-right (treeBytes (replaced u t place))));
+      bytes = sym (append-nil (treeBytes t ++ []) ∙ append-nil (treeBytes t));
+      puts = λ u. rw l (sym (append-nil (treeBytes (replaced u t place) ++ []) ∙ append-nil (treeBytes (replaced u t place))));
       met = [];
       met-long = omega arith;
       reads = λ n. (let z : 0 + n ≡ n = omega arith in rw (e, z) refl);

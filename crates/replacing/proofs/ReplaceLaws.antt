@@ -2,7 +2,7 @@
 use Prim.Native.Nat.{ℕ, zero, suc, _+_, _-_, _*_, _≤_, _<_}
 use mathlib.Core.Path.{_≡_, refl, sym, ap, ap₂, _∙_, subst}
 use mathlib.Core.Bool.{Bool, true, false, not, _&&_}
-use mathlib.Core.List.{List, [], _++_, append-assoc}
+use mathlib.Core.List.{List, [], _++_, append-assoc, append-nil}
 use native.Mathlib.Omega.{arith}
 use lib.Dec.{eqb, leb, ltb}
 use lib.ListN.{length, take, drop, getD, length-drop, length-append}
@@ -20,7 +20,6 @@ use Rattle.model.specs.Reading as r
 use Rattle.model.specs.Reading.{got, fault, next, Image, atEnd, readTree, readTreeImage, readImage}
 use Rattle.model.specs.Writing.{headBytes, treeBytes, treeImageBytes}
 use Rattle.codec_laws.specs.WellFormed.{Bytes, TreeFits}
-use Rattle.codec_laws.proofs.Sequence.{nil-right}
 use Rattle.codec_laws.proofs.TreeTrip.{TreeTook, tree-w}
 use Rattle.requests.specs.Uses as u
 use Rattle.requests.specs.Uses.{things, belongs, refusedAnswer}
@@ -279,7 +278,7 @@ module _ {image part words : List ℕ} {place : ℕ} {o : Opened} {sp : code.Spo
   from-is = ap (drop (sp .at .at)) image-is ∙ drop-at front (treeBytes oldPart ++ F .behind) (sp .at .at) front-long
 
   part-is : part ≡ treeBytes (R .new)
-  part-is = R .new-at .is ∙ nil-right (treeBytes (R .new))
+  part-is = R .new-at .is ∙ append-nil (treeBytes (R .new))
 
   part-short : length part ≤ 65536
   part-short = omega (arith, ap length part-is, R .new-at .short)
@@ -365,7 +364,7 @@ module _ {image part words : List ℕ} {place : ℕ} {o : Opened} {sp : code.Spo
         sym (
         ap (drop (place + old .size)) (things-are ∙ sym (append-assoc (F .met) (things oldPart) (along (o .counts) rest (F .behind ++ []))))
         ∙ drop-at (F .met ++ things oldPart) (along (o .counts) rest (F .behind ++ [])) (place + old .size) z
-        ∙ ap (along (o .counts) rest) (nil-right (F .behind) ∙ sym to-is)
+        ∙ ap (along (o .counts) rest) (append-nil (F .behind) ∙ sym to-is)
         )
 
     pub put-parted : Parted image o (sp .at .at) (old .end .at) part (record { place = place; old = old .size; new = new .size })

@@ -33,7 +33,7 @@ pub struct Cut {
 }
 
 // Words of the largest summary.
-const WORDS: usize = 2050;
+const WORDS: usize = counting::FRONT + counting::ENTRY * Name::MOST as usize;
 
 // The image with a part in place of its bytes between two places.
 fn splice(out: &mut [u8], image: &[u8], from: usize, to: usize, part: &[u8]) -> usize

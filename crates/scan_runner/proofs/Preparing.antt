@@ -1,15 +1,16 @@
 -- Before the first scan: one law for each way out.
 use mathlib.Core.Path.{_≡_, refl, sym, ap, _∙_, subst}
-use Prim.Native.Nat.{ℕ, zero, suc, _+_, _-_, _≤_, _<_}
+use Prim.Native.Nat.{ℕ, _+_, _-_, _≤_, _<_}
 use native.Mathlib.Omega.{arith}
 use native.Mathlib.Nat.{min-le-right}
 use mathlib.Core.Bool.{true}
-use mathlib.Core.List.{List, [], _∷_, map}
+use mathlib.Core.List.{List, [], map}
 use lib.ListN.{length, take, drop, length-take, length-drop, length-map}
 use Rattle.model.specs.Limits.{mostScopes, mostNesting}
 use Rattle.model.specs.Trees.{Tree}
 use Rattle.model.specs.Reading.{Read, got, fault, symbols, num, readTree, readTreeImage, readImage}
 use Rattle.codec_laws.specs.WellFormed.{Bytes}
+use Rattle.codec_laws.proofs.Sequence.{bytes-drop}
 use Rattle.codec_laws.proofs.TreeTrip.{tree-w}
 use Rattle.requests.specs.Panel.{isProgram, driven, bitsOf, listed, profile, ofImage, panelOf}
 use Rattle.requests.specs.Recording.{Change, readScan, readScans}
@@ -48,11 +49,6 @@ use Rattle.scan_runner.specs.Preparing.{Accepted, WiresRoot, Programmed,
 use Rattle.scan_runner.proofs.Reading.{scans-fit}
 
 -- ---- the root
-
-bytes-drop : (n : ℕ) (s : List ℕ) → Bytes s → Bytes (drop n s)
-bytes-drop zero s b = b
-bytes-drop (suc n) [] b = b
-bytes-drop (suc n) (x ∷ s) b = bytes-drop n s (b .1)
 
 pub root-wired : {image : List ℕ} {root : ℕ} {s code bits : List ℕ} {r : Wired} → s ≡ drop (root - 0) image → w.Tells s code bits r → WiresRoot image root code bits r
 root-wired {image} {root} {s} i t g e few =

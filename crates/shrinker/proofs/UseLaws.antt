@@ -6,7 +6,7 @@ use mathlib.Core.List.{List, [], _∷_, _++_, append-nil}
 use native.Mathlib.Omega.{arith}
 use lib.Dec.{eqb}
 use lib.Bits.{bitOr}
-use lib.ListN.{length, take, drop, length-drop, take-append-drop}
+use lib.ListN.{length, drop, length-drop}
 use Rattle.model.specs.Choice.{if_then_else_}
 use Rattle.model.specs.Limits.{mostNesting, mostScopes, mostNames}
 use Rattle.model.specs.Scopes.{Scopes}
@@ -14,8 +14,8 @@ use Rattle.model.specs.Objects.{Stx}
 use Rattle.model.specs.Resolving.{Bind}
 use Rattle.model.specs.Reading.{got, Head, symbols, Image, readImage, readSyntax}
 use Rattle.model.specs.Writing.{stxBytes}
-use Rattle.codec_laws.specs.WellFormed.{Bytes, BindsFit, SyntaxFits}
-use Rattle.codec_laws.proofs.Sequence.{bytes-rest}
+use Rattle.codec_laws.specs.WellFormed.{BindsFit, SyntaxFits}
+use Rattle.codec_laws.proofs.Sequence.{bytes-drop}
 use Rattle.codec_laws.proofs.ObjectTrip.{stx-w}
 use Rattle.codec_laws.proofs.ImageLaws.{syntax-read-keeps-limits}
 use Rattle.shrinking.specs.Shrunk.{usedIn, kept, scopesIn, scopesBound, remaining}
@@ -34,9 +34,6 @@ use Rattle.marking.specs.declared.kept.Kept.{Kept}
 use Rattle.shrinker.specs.Using.{keptRead, remainingRead, keptIn, remainingIn, Held, Unused, Uses}
 
 -- ---- a judged image
-
-bytes-drop : (k : ℕ) (s : List ℕ) → Bytes s → Bytes (drop k s)
-bytes-drop k s b = bytes-rest (take k s) (drop k s) (subst Bytes (sym (take-append-drop k s)) b)
 
 pub root-pieces : (image rest : List ℕ) (i : Image Stx) → readImage readSyntax image ≡ got i rest → rootPieces image ≡ pieces (i .root) []
 unfolding rootPieces piecesRead

@@ -24,9 +24,6 @@ module _ (b next : ℕ) where
 pub past-end : (s : List ℕ) (i : ℕ) → length s ≤ i → 0 ≡ getD s i 0
 past-end s i h = sym (List·getD-eq-default s 0 h)
 
-at-cons : (s : List ℕ) (i : ℕ) → i < length s → drop i s ≡ getD s i 0 ∷ drop (i + 1) s
-at-cons s i h = rw (add-one, drop-cons s i 0)
-
 next-is : (s : List ℕ) (i : ℕ) → getD (drop (i + 1) s) 0 0 ≡ getD s (i + 1) 0
 next-is s i = getD-drop (i + 1) s 0 0 ∙ ap (λ (k : ℕ). getD s k 0) (omega arith)
 
@@ -52,7 +49,7 @@ module _ {s : List ℕ} {line column i : ℕ} (c : Counting s line column i) whe
   module _ (h : i < length s) {next : ℕ} (n : next ≡ getD s (i + 1) 0) {e : Bool} (q : e ≡ endsLine (getD s i 0) next) where
     step : placeFrom line column (drop i s) ≡ (if e then placeFrom (line + 1) 1 (drop (i + 1) s) else placeFrom line (column + 1) (drop (i + 1) s))
     step =
-        ap (placeFrom line column) (at-cons s i h)
+        ap (placeFrom line column) (drop-cons s i 0 h ∙ ap (λ (k : ℕ). getD s i 0 ∷ drop k s) (sym (add-one i)))
         ∙ after-byte line column (getD s i 0) (drop (i + 1) s)
         ∙ ap (λ (k : Bool). if k then placeFrom (line + 1) 1 (drop (i + 1) s) else placeFrom line (column + 1) (drop (i + 1) s)) (ap (endsLine (getD s i 0)) (next-is s i ∙ sym n) ∙ sym q)
 
