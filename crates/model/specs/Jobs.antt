@@ -1,9 +1,9 @@
 -- Document 01, 'What the work covers' and 'Numbers given back': the four jobs, what each leaves in output and table, and the
 -- program's line.
 use Prim.Native.Nat.{ℕ, zero, suc, _+_, _-_, _*_, _/_, _%_}
-use mathlib.Core.Bool.{Bool, true, false, _&&_, _||_}
+use mathlib.Core.Bool.{Bool, true, _&&_}
 use mathlib.Core.List.{List, [], _∷_, _++_}
-use lib.Dec.{eqb, ltb, leb}
+use lib.Dec.{ltb, leb}
 use lib.ListN.{length, drop, replicate}
 use Rattle.model.specs.Choice.{if_then_else_}
 use Rattle.model.specs.Limits.{mostEntries, mostBudget, mostImage, lastPhase, wordsPerUnit, programBudget}
@@ -14,10 +14,10 @@ use Rattle.model.specs.Trees.{Tree, var, app, fun, datum, lst, stx, Tree
 use Rattle.model.specs.Competing.{Rivals, noRivals}
 use Rattle.model.specs.Reading.{Read, got, fault, Head, Image, readSyntax, readTreeImage, readImage}
 use Rattle.model.specs.Writing.{syntaxBytes, treeImageBytes}
+use Rattle.model.specs.Meanings.{isAmong, ofRoot, nowhere}
 use Rattle.model.specs.Steps.{Units, State, Out, ok, no, Step, _>>=_, _>>_, charge, resolveAt, identifier}
-use Rattle.model.specs.Evaluating.{evaluate}
 use Rattle.model.specs.Parsing.{parse}
-use Rattle.model.specs.Expanding.{ofRoot, expand}
+use Rattle.model.specs.Expanding.{evaluate, expand}
 
 -- ---- how a job ends, each after so many units
 
@@ -86,7 +86,7 @@ withImage (got i s) f = f i
 withImage (fault r) f = refused r noRivals 0
 
 unfoldable pub start : Units → {R : Type 0} → Image R → State
-start budget i = record { left = budget; names = i .head .names; scopes = i .head .scopes; binds = i .binds; prunable = noScopes }
+start budget i = record { left = budget; names = i .head .names; scopes = i .head .scopes; binds = i .binds; prunable = noScopes; uses = noScopes }
 
 -- the work's result and last state, or its refusal with the units charged before it
 unfoldable pub worked : {A : Type 0} → Units → Out A → (A → State → Ending) → Ending
@@ -127,13 +127,9 @@ unfoldable pub evaluateRoot : Tree → Step Tree
 unfolding charge loadSize evaluate mostEntries
 evaluateRoot t = do
   charge (loadSize t)
-  evaluate mostEntries t
+  evaluate mostEntries nowhere t
 
 -- ---- 4: code 3: every variable, outside syntax values, has an enclosing function of its name; `around` has the names of those
-
-unfoldable pub isAmong : Name → List Name → Bool
-isAmong n [] = false
-isAmong n (m ∷ l) = eqb n m || isAmong n l
 
 unfoldable mutual
   unfolding isAmong

@@ -2,20 +2,10 @@
 use Prim.Native.Nat.{zero, suc}
 use mathlib.Core.Option.{Option, none, some}
 use Rattle.model.specs.Refusals.{noRule, tooManyEntries}
-use Rattle.model.specs.Objects.{Name, Phase, symbol, number, point, prim, rung, Stx, atom, list, Stxs, nil, cons, size}
+use Rattle.model.specs.Objects.{Phase, symbol, number, point, prim, rung, Stx, atom, list, Stxs, nil, cons, size}
 use Rattle.model.specs.Trees.{Tree, var, app, fun, datum, stx, Trees, tnil, tcons, strip}
+use Rattle.model.specs.Meanings.{Form, lambda, letSyntax, quote, syntax, formOf}
 use Rattle.model.specs.Steps.{Entries, Step, _>>=_, _>>_, done, refuse, charge, resolveAt, parts1, parts2, identifier}
-
--- the core forms are names 0 to 3; any other name heads none
-pub data Form : Type 0 where
-  lambda letSyntax quote syntax : Form
-
-unfoldable pub formOf : Name → Option Form
-formOf zero = some lambda
-formOf (suc zero) = some letSyntax
-formOf (suc (suc zero)) = some quote
-formOf (suc (suc (suc zero))) = some syntax
-formOf (suc (suc (suc (suc n)))) = none
 
 -- the form that head h makes
 unfoldable pub headForm : Phase → Stx → Step (Option Form)

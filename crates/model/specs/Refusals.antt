@@ -38,6 +38,8 @@ pub data Refusal : Type 0 where
   overBudget : Refusal
   -- the result is longer than the output or 65,536 bytes
   tooLong : Refusal
+  -- local expansion where source document 000's introduction scope is absent
+  outsideUse : Refusal
 
 abbrev pub codeOf : Refusal → ℕ
 codeOf layout = 1
@@ -59,3 +61,4 @@ codeOf tooDeep = 17
 codeOf tooManyEntries = 18
 codeOf overBudget = 19
 codeOf tooLong = 20
+codeOf outsideUse = 28

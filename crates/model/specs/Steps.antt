@@ -8,7 +8,7 @@ use lib.ListN.{length}
 use Rattle.model.specs.Choice.{if_then_else_}
 use Rattle.model.specs.Limits.{mostNames, mostScopes, mostBindings, mostNesting}
 use Rattle.model.specs.Refusals.{Refusal, ambiguous, noRule, noNameLeft, noScopeLeft, noBindingLeft, tooDeep, overBudget}
-use Rattle.model.specs.Scopes.{Scope, Scopes, add}
+use Rattle.model.specs.Scopes.{Scope, Scopes, noScopes, add}
 use Rattle.model.specs.Objects.{Name, Symbol, Phase, Sets, setAt, Atom, symbol, Stx, atom, list, Stxs, nil, cons, size, nesting, addScope, flipScope, pruneScopes}
 use Rattle.model.specs.Trees.{Tree, tnesting}
 use Rattle.model.specs.Resolving.{Bind, insert, Found, means, several, resolve}
@@ -22,13 +22,14 @@ abbrev pub Entries : Type 0
 Entries = ℕ
 
 -- units not yet charged; names and scopes reached: the next name is `names`, the next scope is `scopes + 1`; the bindings,
--- ascending; and the prunable set of the expansion in progress, which source document 000 hands on with the store
+-- ascending; and the prunable set and the use scopes of the expansion in progress, which source document 000 hands on with the store
 pub record State : Type 0 where
   pub left : Units
   pub names : ℕ
   pub scopes : ℕ
   pub binds : List Bind
   pub prunable : Scopes
+  pub uses : Scopes
 
 -- a value and the new state, or a refusal, the bindings that compete where it is 6, and the units not charged
 pub data Out (A : Type 0) : Type 0 where
@@ -66,7 +67,7 @@ unless c false = refuse c
 unfoldable pub charge : Units → Step (Unit {0})
 charge n = λ s.
     if leb n (s .left)
-    then ok tt (record { left = s .left - n; names = s .names; scopes = s .scopes; binds = s .binds; prunable = s .prunable })
+    then ok tt (record { left = s .left - n; names = s .names; scopes = s .scopes; binds = s .binds; prunable = s .prunable; uses = s .uses })
     else no overBudget noRivals (s .left)
 
 -- ---- what is made is tested
@@ -110,33 +111,37 @@ unfoldable pub freshName : Step Name
 unfolding mostNames
 freshName = λ s.
     if ltb (s .names) mostNames
-    then ok (s .names) (record { left = s .left; names = s .names + 1; scopes = s .scopes; binds = s .binds; prunable = s .prunable })
+    then ok (s .names) (record { left = s .left; names = s .names + 1; scopes = s .scopes; binds = s .binds; prunable = s .prunable; uses = s .uses })
     else no noNameLeft noRivals (s .left)
 
 unfoldable pub freshScope : Step Scope
 unfolding mostScopes
 freshScope = λ s.
     if ltb (s .scopes) mostScopes
-    then ok (s .scopes + 1) (record { left = s .left; names = s .names; scopes = s .scopes + 1; binds = s .binds; prunable = s .prunable })
+    then ok (s .scopes + 1) (record { left = s .left; names = s .names; scopes = s .scopes + 1; binds = s .binds; prunable = s .prunable; uses = s .uses })
     else no noScopeLeft noRivals (s .left)
 
--- ---- the prunable set of the expansion in progress
+-- ---- the prunable set and the use scopes of the expansion in progress
 
 unfoldable pub prunableNow : Step Scopes
 prunableNow = λ s. ok (s .prunable) s
 
-unfoldable pub carrying : Scopes → State → State
-carrying p s = record { left = s .left; names = s .names; scopes = s .scopes; binds = s .binds; prunable = p }
+-- request T-08: primitive 9 takes these off
+unfoldable pub usesNow : Step Scopes
+usesNow = λ s. ok (s .uses) s
 
--- the use scope k is prunable for the rest of the expansion in progress
+unfoldable pub carrying : Scopes → Scopes → State → State
+carrying p u s = record { left = s .left; names = s .names; scopes = s .scopes; binds = s .binds; prunable = p; uses = u }
+
+-- k is prunable and a use scope for the rest of the expansion in progress
 unfoldable pub useScope : Scope → Step (Unit {0})
 unfolding carrying add
-useScope k = λ s. ok tt (carrying (add k (s .prunable)) s)
+useScope k = λ s. ok tt (carrying (add k (s .prunable)) (add k (s .uses)) s)
 
--- m as an expansion of its own: with f of the prunable set, and afterwards with that of before
+-- m as an expansion of its own: with f of the prunable set and no use scopes, and afterwards with those of before
 unfoldable pub inside : {A : Type 0} → (Scopes → Scopes) → Step A → Step A
 unfolding carrying
-inside f m = λ s. after (m (carrying (f (s .prunable)) s)) (λ a t. ok a (carrying (s .prunable) t))
+inside f m = λ s. after (m (carrying (f (s .prunable)) noScopes s)) (λ a t. ok a (carrying (s .prunable) (s .uses) t))
 
 -- ---- bindings
 
@@ -145,7 +150,7 @@ unfoldable pub bind : Bind → Step (Unit {0})
 unfolding mostBindings insert
 bind b = λ s.
     if ltb (length (s .binds)) mostBindings
-    then ok tt (record { left = s .left; names = s .names; scopes = s .scopes; binds = insert b (s .binds); prunable = s .prunable })
+    then ok tt (record { left = s .left; names = s .names; scopes = s .scopes; binds = insert b (s .binds); prunable = s .prunable; uses = s .uses })
     else no noBindingLeft noRivals (s .left)
 
 -- where several fit and none contains the others, p competes
