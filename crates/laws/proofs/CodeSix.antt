@@ -10,12 +10,12 @@ use lib.ListN.{length}
 use Rattle.model.specs.Choice.{if_then_else_}
 use Rattle.model.specs.Limits.{mostNames, mostScopes, mostBindings}
 use Rattle.model.specs.Refusals.{Refusal, overBudget, noNameLeft, noScopeLeft, noBindingLeft, codeOf}
-use Rattle.model.specs.Scopes.{Scopes}
+use Rattle.model.specs.Scopes.{Scopes, noScopes}
 use Rattle.model.specs.Objects.{setAt, Stx}
 use Rattle.model.specs.Trees.{Tree}
 use Rattle.model.specs.Resolving.{Bind, Found, means, several, resolve}
 use Rattle.model.specs.Competing.{Rivals, noRivals, rivals}
-use Rattle.model.specs.Steps.{State, Out, ok, no, Step, after, charge, freshName, freshScope, carrying, prunableNow, useScope, inside, bind, nameOf, resolveAt}
+use Rattle.model.specs.Steps.{State, Out, ok, no, Step, after, charge, freshName, freshScope, carrying, prunableNow, usesNow, useScope, inside, bind, nameOf, resolveAt}
 use Rattle.model.specs.Jobs.{resolveRoot, expandRoot, parseRoot, evaluateRoot}
 use Rattle.laws.proofs.Walk.{Walkable, Resolves, Makes, resolveRoot-walks, expandRoot-walks, parseRoot-walks, evaluateRoot-walks}
 use Rattle.laws.proofs.StepLaws.{spend}
@@ -67,19 +67,20 @@ none-told-resolving : Resolves (From Always NoneToldBut6)
 unfolding resolveAt
 none-told-resolving ph c x s i = named-told (rivals x (setAt ph c) (s .binds)) (resolve x (setAt ph c) (s .binds)) s i
 
-put-back-ends : (Q : Refusal → Rivals → Type 0) {A : Type 0} (o : Out A) (p : Scopes) → Ends Always Q o → Ends Always Q (after o (λ a t. ok a (carrying p t)))
-put-back-ends Q (ok a t) p h = tt
-put-back-ends Q (no r q v) p h = h
+put-back-ends : (Q : Refusal → Rivals → Type 0) {A : Type 0} (o : Out A) (p u : Scopes) → Ends Always Q o → Ends Always Q (after o (λ a t. ok a (carrying p u t)))
+put-back-ends Q (ok a t) p u h = tt
+put-back-ends Q (no r q v) p u h = h
 
 none-told-making : Makes (From Always NoneToldBut6)
-unfolding freshName freshScope bind prunableNow useScope inside
+unfolding freshName freshScope bind prunableNow usesNow useScope inside
 none-told-making = record {
   of-freshName = λ s i. choice-ends Always NoneToldBut6 (ltb (s .names) mostNames) _ _ tt (λ n. refl);
   of-freshScope = λ s i. choice-ends Always NoneToldBut6 (ltb (s .scopes) mostScopes) _ _ tt (λ n. refl);
   of-bind = λ b s i. choice-ends Always NoneToldBut6 (ltb (length (s .binds)) mostBindings) _ _ tt (λ n. refl);
   of-prunableNow = λ s i. tt;
+  of-usesNow = λ s i. tt;
   of-useScope = λ k s i. tt;
-  of-inside = λ f m h s i. put-back-ends NoneToldBut6 (m (carrying (f (s .prunable)) s)) (s .prunable) (h (carrying (f (s .prunable)) s) tt);
+  of-inside = λ f m h s i. put-back-ends NoneToldBut6 (m (carrying (f (s .prunable)) noScopes s)) (s .prunable) (s .uses) (h (carrying (f (s .prunable)) noScopes s) tt);
 }
 
 pub resolve-tells-none-but-6 : (ph : ℕ) (x : Stx) (s : State) → Ends Always NoneToldBut6 (resolveRoot ph x s)

@@ -13,7 +13,7 @@ use Rattle.model.specs.Choice.{if_then_else_}
 use Rattle.model.specs.Scopes.{Scopes, within}
 use Rattle.model.specs.Resolving.{Bind, bindBefore, several, candidate, candidates, resolve}
 use Rattle.model.specs.Competing.{Rivals, noRivals, contained, uncontained, competes, competing, firstTwo, rivals}
-use borrow.Author.Tests.{eqb-true, eq-eqb}
+use borrow.Author.Tests.{eqb-true, eq-eqb, not-true}
 use Rattle.laws.specs.Ordered.{Ascending, Sorted}
 use Rattle.laws.specs.Rivalry.{At, front, behind, Compete, Told}
 use Rattle.laws.proofs.Tests.{and-both, both-true}
@@ -74,11 +74,7 @@ still-not-contained m n d h e = go (contained n d) refl
 pub uncontained-is : (b : Bind) (l : List Bind) → uncontained b l ≡ true → (c : Bind) → In c l → contained b c ≡ false
 unfolding uncontained
 uncontained-is b [] e c i = absurd i
-uncontained-is b (d ∷ l) e c (inl p) = ap (contained b) p ∙ off (contained b d) (and-both (not (contained b d)) (uncontained b l) e .0)
-  where
-    off : (t : Bool) → not t ≡ true → t ≡ false
-    off true q = absurd (false≢true q)
-    off false q = refl
+uncontained-is b (d ∷ l) e c (inl p) = ap (contained b) p ∙ not-true (contained b d) (and-both (not (contained b d)) (uncontained b l) e .0)
 uncontained-is b (d ∷ l) e c (inr i) = uncontained-is b l (and-both (not (contained b d)) (uncontained b l) e .1) c i
 
 -- ---- over each candidate there is one that no other contains

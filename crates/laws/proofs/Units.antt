@@ -9,17 +9,18 @@ use lib.ListN.{length}
 use Rattle.model.specs.Limits.{mostNames, mostScopes, mostBindings}
 use Rattle.model.specs.Refusals.{Refusal, tooManyEntries}
 use Rattle.model.specs.Choice.{if_then_else_}
-use Rattle.model.specs.Scopes.{Scopes}
+use Rattle.model.specs.Scopes.{Scopes, noScopes}
 use Rattle.model.specs.Objects.{setAt, Stx}
 use Rattle.model.specs.Trees.{Tree}
 use Rattle.model.specs.Resolving.{Found, means, several, resolve}
 use Rattle.model.specs.Competing.{Rivals, rivals}
-use Rattle.model.specs.Steps.{State, Out, ok, no, Step, after, charge, freshName, freshScope, carrying, prunableNow, useScope, inside, bind, nameOf, resolveAt}
-use Rattle.model.specs.Evaluating.{evalEntry, evaluate}
+use Rattle.model.specs.Meanings.{Surroundings, Place}
+use Rattle.model.specs.Steps.{State, Out, ok, no, Step, after, charge, freshName, freshScope, carrying, prunableNow, usesNow, useScope, inside, bind, nameOf, resolveAt}
+use Rattle.model.specs.Evaluating.{evalEntry}
 use Rattle.model.specs.Parsing.{parseEntry, parse}
-use Rattle.model.specs.Expanding.{Surroundings, expandEntry, expand}
+use Rattle.model.specs.Expanding.{expandEntry, expand, evaluate}
 use Rattle.laws.proofs.StepLaws.{no≢ok, both-ok, spend, charge-ok}
-use Rattle.laws.proofs.Walk.{Walkable, Resolves, Makes, evalEntry-walks, evaluate-walks, parseEntry-walks, parse-walks, expandEntry-walks, expand-walks}
+use Rattle.laws.proofs.Walk.{Walkable, Resolves, Makes, evalEntry-walks, evaluate-walks, applyLocal-walks, parseEntry-walks, parse-walks, expandEntry-walks, expand-walks}
 
 -- ---- units
 
@@ -61,20 +62,21 @@ unfolding leftOf resolveAt
 units-resolving ph c x s = named-left (rivals x (setAt ph c) (s .binds)) (resolve x (setAt ph c) (s .binds)) s
 
 -- the prunable set put back, whatever it was
-put-back-left : {A : Type 0} (o : Out A) (p : Scopes) → leftOf (after o (λ a t. ok a (carrying p t))) ≡ leftOf o
+put-back-left : {A : Type 0} (o : Out A) (p u : Scopes) → leftOf (after o (λ a t. ok a (carrying p u t))) ≡ leftOf o
 unfolding leftOf carrying
-put-back-left (ok a t) p = refl
-put-back-left (no r q v) p = refl
+put-back-left (ok a t) p u = refl
+put-back-left (no r q v) p u = refl
 
 units-making : Makes UnitsFall
-unfolding leftOf freshName freshScope bind prunableNow useScope inside carrying
+unfolding leftOf freshName freshScope bind prunableNow usesNow useScope inside carrying
 units-making = record {
   of-freshName = λ s. choice-left (ltb (s .names) mostNames) _ _ (s .left) (le-refl (s .left)) (le-refl (s .left));
   of-freshScope = λ s. choice-left (ltb (s .scopes) mostScopes) _ _ (s .left) (le-refl (s .left)) (le-refl (s .left));
   of-bind = λ b s. choice-left (ltb (length (s .binds)) mostBindings) _ _ (s .left) (le-refl (s .left)) (le-refl (s .left));
   of-prunableNow = λ s. le-refl (s .left);
+  of-usesNow = λ s. le-refl (s .left);
   of-useScope = λ k s. le-refl (s .left);
-  of-inside = λ f m h s. subst (λ (n : ℕ). n ≤ s .left) (sym (put-back-left (m (carrying (f (s .prunable)) s)) (s .prunable))) (h (carrying (f (s .prunable)) s));
+  of-inside = λ f m h s. subst (λ (n : ℕ). n ≤ s .left) (sym (put-back-left (m (carrying (f (s .prunable)) noScopes s)) (s .prunable) (s .uses))) (h (carrying (f (s .prunable)) noScopes s));
 }
 
 -- ---- names
@@ -120,20 +122,21 @@ names-resolving : Resolves NamesStay
 unfolding namesOf resolveAt
 names-resolving ph c x s = named-names (rivals x (setAt ph c) (s .binds)) (resolve x (setAt ph c) (s .binds)) s
 
-put-back-names : {A : Type 0} (o : Out A) (p : Scopes) (n : ℕ) → namesOf (after o (λ a t. ok a (carrying p t))) n ≡ namesOf o n
+put-back-names : {A : Type 0} (o : Out A) (p u : Scopes) (n : ℕ) → namesOf (after o (λ a t. ok a (carrying p u t))) n ≡ namesOf o n
 unfolding namesOf carrying
-put-back-names (ok a t) p n = refl
-put-back-names (no r q v) p n = refl
+put-back-names (ok a t) p u n = refl
+put-back-names (no r q v) p u n = refl
 
 names-making : Makes NamesStay
-unfolding namesOf freshName freshScope bind prunableNow useScope inside carrying
+unfolding namesOf freshName freshScope bind prunableNow usesNow useScope inside carrying
 names-making = record {
   of-freshName = λ s. choice-names (ltb (s .names) mostNames) _ _ (s .names) (omega arith) (le-refl (s .names));
   of-freshScope = λ s. choice-names (ltb (s .scopes) mostScopes) _ _ (s .names) (le-refl (s .names)) (le-refl (s .names));
   of-bind = λ b s. choice-names (ltb (length (s .binds)) mostBindings) _ _ (s .names) (le-refl (s .names)) (le-refl (s .names));
   of-prunableNow = λ s. le-refl (s .names);
+  of-usesNow = λ s. le-refl (s .names);
   of-useScope = λ k s. le-refl (s .names);
-  of-inside = λ f m h s. subst (λ (n : ℕ). s .names ≤ n) (sym (put-back-names (m (carrying (f (s .prunable)) s)) (s .prunable) (s .names))) (h (carrying (f (s .prunable)) s));
+  of-inside = λ f m h s. subst (λ (n : ℕ). s .names ≤ n) (sym (put-back-names (m (carrying (f (s .prunable)) noScopes s)) (s .prunable) (s .uses) (s .names))) (h (carrying (f (s .prunable)) noScopes s));
 }
 
 -- ---- both, of the three
@@ -143,8 +146,9 @@ pub record NoRise {A : Type 0} (m : Step A) : Type 0 where
   pub at-most : UnitsFall A m
   pub names-from : NamesStay A m
 
-pub evaluate-no-rise : (d : ℕ) (t : Tree) → NoRise (evaluate d t)
-evaluate-no-rise d t = record { at-most = evaluate-walks UnitsFall units-fall d t; names-from = evaluate-walks NamesStay names-stay d t }
+pub evaluate-no-rise : (d : ℕ) (place : Place) (t : Tree) → NoRise (evaluate d place t)
+evaluate-no-rise d place t =
+    record { at-most = evaluate-walks UnitsFall units-fall units-resolving units-making d place t; names-from = evaluate-walks NamesStay names-stay names-resolving names-making d place t }
 
 pub parse-no-rise : (d ph : ℕ) (x : Stx) → NoRise (parse d ph x)
 parse-no-rise d ph x = record { at-most = parse-walks UnitsFall units-fall units-resolving d ph x; names-from = parse-walks NamesStay names-stay names-resolving d ph x }
@@ -165,11 +169,14 @@ entry-falls {A = A} m h a s t e =
     let most : leftOf (ok a t) ≤ g .1 .left = subst (λ (o : Out A). leftOf o ≤ g .1 .left) (g .3) (h (g .1)) in
     omega (arith, c .0, left-is, most)
 
-pub evaluate-falls : (d : ℕ) (x v : Tree) (s t : State) → evaluate d x s ≡ ok v t → t .left < s .left
+pub evaluate-falls : (d : ℕ) (place : Place) (x v : Tree) (s t : State) → evaluate d place x s ≡ ok v t → t .left < s .left
 unfolding evaluate
-evaluate-falls zero x v s t e = absurd (no≢ok tooManyEntries (s .left) v t e)
-evaluate-falls (suc d) x v s t e =
-    entry-falls (evalEntry (λ y. evaluate d y) x) (evalEntry-walks UnitsFall units-fall (λ y. evaluate d y) (λ y. evaluate-walks UnitsFall units-fall d y) x) v s t e
+evaluate-falls zero place x v s t e = absurd (no≢ok tooManyEntries (s .left) v t e)
+evaluate-falls (suc d) place x v s t e =
+    entry-falls (evalEntry (λ there y. evaluate d there y) (λ there y. expand d there y) place x)
+    (evalEntry-walks UnitsFall units-fall (λ there y. evaluate d there y) (λ there y. expand d there y) place
+    (λ y. evaluate-walks UnitsFall units-fall units-resolving units-making d place y)
+    (applyLocal-walks UnitsFall units-fall units-resolving units-making (λ there y. expand d there y) (λ there y. expand-walks UnitsFall units-fall units-resolving units-making d there y) place) x) v s t e
 
 pub parse-falls : (d ph : ℕ) (x : Stx) (r : Tree) (s t : State) → parse d ph x s ≡ ok r t → t .left < s .left
 unfolding parse
@@ -181,8 +188,10 @@ pub expand-falls : (d : ℕ) (here : Surroundings) (x r : Stx) (s t : State) →
 unfolding expand
 expand-falls zero here x r s t q = absurd (no≢ok tooManyEntries (s .left) r t q)
 expand-falls (suc d) here x r s t q =
-    entry-falls (expandEntry (λ there y. expand d there y) d here x)
-    (expandEntry-walks UnitsFall units-fall units-resolving units-making (λ there y. expand d there y) (λ there y. expand-walks UnitsFall units-fall units-resolving units-making d there y) d here x) r s t q
+    entry-falls (expandEntry (λ there y. expand d there y) (λ there y. evaluate d there y) d here x)
+    (expandEntry-walks UnitsFall units-fall units-resolving units-making
+    (λ there y. expand d there y) (λ there y. expand-walks UnitsFall units-fall units-resolving units-making d there y)
+    (λ there y. evaluate d there y) (λ there y. evaluate-walks UnitsFall units-fall units-resolving units-making d there y) d here x) r s t q
 
 -- ---- of a step that is granted, and of one that is refused
 
