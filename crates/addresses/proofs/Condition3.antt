@@ -12,16 +12,15 @@ use Rattle.model.specs.Limits.{mostEntries, mostImage}
 use Rattle.model.specs.Refusals.{Refusal, overBudget, unowned}
 use Rattle.model.specs.Scopes.{noScopes}
 use Rattle.model.specs.Objects.{Stx, size}
-use Rattle.model.specs.Trees.{Tree, loadSize}
+use Rattle.model.specs.Trees.{Tree}
 use Rattle.model.specs.Resolving.{Bind}
 use Rattle.model.specs.Competing.{Rivals, noRivals}
 use Rattle.model.specs.Reading.{got, symbols, Image, readSyntax, readTreeImage, readImage}
 use Rattle.model.specs.Writing.{syntaxBytes, treeImageBytes}
+use Rattle.model.specs.Meanings.{coreOnly, isAmong, nowhere}
 use Rattle.model.specs.Steps.{State, ok, no, after}
 use Rattle.model.specs.Parsing.{parse}
-use Rattle.model.specs.Evaluating.{evaluate}
-use Rattle.model.specs.Expanding.{coreOnly}
-use Rattle.model.specs.Jobs.{Ending, refused, written, Result, budgetFits, lent, withImage, start, worked, fitted, reached, expandRoot, parseRoot, evaluateRoot, isAmong, closed, expandEnding, parseEnding, evaluateEnding, expandJob, parseJob, evaluateJob}
+use Rattle.model.specs.Jobs.{Ending, refused, written, Result, budgetFits, lent, withImage, start, worked, fitted, reached, expandRoot, parseRoot, evaluateRoot, closed, expandEnding, parseEnding, evaluateEnding, expandJob, parseJob, evaluateJob}
 use borrow.Author.Tests.{ne-eqb}
 use Rattle.laws.proofs.Stable.{Later, same}
 use Rattle.laws.proofs.StepLaws.{spend}
@@ -29,14 +28,15 @@ use Rattle.codec_laws.specs.WellFormed.{Bytes, SyntaxFits, TreeImageFits}
 use Rattle.codec_laws.proofs.ImageLaws.{syntax-read-keeps-limits, syntax-read-then-written, syntax-written-then-read, tree-written-then-read}
 use Rattle.addresses.specs.Charge.{entryCharge, parseCharge}
 use Rattle.addresses.specs.OneNameOneAddress.{functionNames, AllDifferent, NoneBelow, imageWritten, OneNameOneAddress}
-use Rattle.addresses.proofs.Outcomes.{Outcome, chain, charge-out}
-use Rattle.addresses.proofs.Evaluated.{TreeGood, Gave, since, evaluate-good}
+use Rattle.addresses.proofs.Outcomes.{Outcome}
+use Rattle.addresses.proofs.Evaluation.{Gave}
+use Rattle.addresses.proofs.Readable.{evaluate-root}
 use Rattle.addresses.proofs.Meanings.{vars}
 use Rattle.addresses.proofs.Costs.{Costs, charge-costs, costs-then, costs-enough, costs-short}
 use Rattle.addresses.proofs.Shorter.{image-shorter}
 use Rattle.addresses.proofs.Results.{Expanded, Rise}
 use Rattle.addresses.proofs.ParseCharge.{parse-spends, cost-is-charge}
-use Rattle.addresses.proofs.Endings.{Wrote, nothing-wrote, job-wrote, fitted-case, worked-case, image-case, phase-case, parseRoot-is, evaluateRoot-is, expandWork, parseWork, evaluateWork, expandEnding-is, parseEnding-is, evaluateEnding-is, expandJob-is, parseJob-is, evaluateJob-is, with-read, worked-ok, worked-no, fitted-is, lent-code}
+use Rattle.addresses.proofs.Endings.{Wrote, nothing-wrote, job-wrote, fitted-case, worked-case, image-case, phase-case, parseRoot-is, expandWork, parseWork, evaluateWork, expandEnding-is, parseEnding-is, evaluateEnding-is, expandJob-is, parseJob-is, evaluateJob-is, with-read, worked-ok, worked-no, fitted-is, lent-code}
 use Rattle.addresses.proofs.ExpandJob.{expand-root-good, outcome-ok, limits-kept, Fine, worked-fine, fitted-fine, lent-fine}
 
 -- ---- names that rise are all different, and none is below where they start
@@ -140,7 +140,7 @@ module _ (image : List ℕ) (is-bytes : Bytes image) (budget : ℕ) (b : List �
       (parse-spends mostEntries 0 (run .s .binds) (run .r) st (record { are = refl; ascending = result-fits .ascending })) refl
     where
       st : State
-      st = record { left = x .cost; names = run .s .names; scopes = run .s .scopes; binds = run .s .binds; prunable = noScopes }
+      st = record { left = x .cost; names = run .s .names; scopes = run .s .scopes; binds = run .s .binds; prunable = noScopes; uses = noScopes }
 
   -- with any units that cover it
   tree-is : (n : ℕ) → entryCharge 0 (result .binds) (result .root) ≤ n
@@ -223,10 +223,6 @@ module _ (image : List ℕ) (is-bytes : Bytes image) (budget : ℕ) (b : List �
   unfolding tree vars
   owned = x .owned
 
-  tree-good : TreeGood k (run .s .names) (run .s .scopes) tree
-  unfolding tree k
-  tree-good = record { fits = x .tree-fits; owned = owned; shallow = le-trans (x .tree-shallow) (x .shallow) }
-
   evaluate-fine : (n room : ℕ) → Fine (evaluateWork n room tree-read)
   unfolding tree-read
   evaluate-fine n room = go (closed [] tree) owned
@@ -234,11 +230,8 @@ module _ (image : List ℕ) (is-bytes : Bytes image) (budget : ℕ) (b : List �
       s₀ : State
       s₀ = start n tree-read
 
-      work : Outcome Tree (Gave k (run .s .names) (run .s .scopes) s₀) (evaluateRoot tree s₀)
-      work =
-          subst (Outcome Tree (Gave k (run .s .names) (run .s .scopes) s₀)) (sym (evaluateRoot-is tree s₀))
-          (chain (λ v. evaluate mostEntries tree) (charge-out (loadSize tree) s₀) (λ v t kp.
-          since k (run .s .names) (run .s .scopes) s₀ t kp (evaluate-good k (run .s .names) (run .s .scopes) mostEntries tree tree-good t)))
+      work : Outcome Tree (Gave (symbols (result .head)) nowhere s₀) (evaluateRoot tree s₀)
+      work = evaluate-root n tree-read tree-fits owned
 
       go : (t : Bool) → t ≡ true
           → Fine (if t then worked n (evaluateRoot tree s₀) (λ r s. fitted room (treeImageBytes (reached (result .head) s) r) (n - s .left)) else refused unowned noRivals 0)

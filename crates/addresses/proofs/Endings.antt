@@ -8,16 +8,16 @@ use lib.Dec.{leb}
 use lib.ListN.{length, take, drop, length-append}
 use Rattle.model.specs.Choice.{if_then_else_}
 use Rattle.model.specs.Limits.{mostImage, mostEntries, lastPhase}
-use Rattle.model.specs.Refusals.{Refusal, layout, overLimit, unowned, wrongKind, smallTable, ambiguous, noMeaning, noRule, noSyntax, notApplicable, wrongArgument, noPhase, noNameLeft, noScopeLeft, noBindingLeft, tooDeep, tooManyEntries, overBudget, tooLong, codeOf}
+use Rattle.model.specs.Refusals.{Refusal, layout, overLimit, unowned, wrongKind, smallTable, ambiguous, noMeaning, noRule, noSyntax, notApplicable, wrongArgument, noPhase, noNameLeft, noScopeLeft, noBindingLeft, tooDeep, tooManyEntries, overBudget, tooLong, outsideUse, codeOf}
 use Rattle.model.specs.Objects.{Stx, size}
 use Rattle.model.specs.Trees.{Tree, loadSize}
 use Rattle.model.specs.Competing.{Rivals, noRivals}
 use Rattle.model.specs.Reading.{Read, got, fault, Image, readSyntax, readTreeImage, readImage}
 use Rattle.model.specs.Writing.{syntaxBytes, treeImageBytes}
+use Rattle.model.specs.Meanings.{ofRoot, nowhere}
 use Rattle.model.specs.Steps.{State, Out, ok, no, after, charge}
 use Rattle.model.specs.Parsing.{parse}
-use Rattle.model.specs.Evaluating.{evaluate}
-use Rattle.model.specs.Expanding.{ofRoot, expand}
+use Rattle.model.specs.Expanding.{expand, evaluate}
 use Rattle.model.specs.Jobs.{Ending, refused, named, written, answerOf, outputAfter, Result, budgetFits, lent, cleared, atPhase, withImage, start, worked, fitted, reached, resolveRoot, expandRoot, parseRoot, evaluateRoot, closed, resolveEnding, expandEnding, parseEnding, evaluateEnding, resolveJob, expandJob, parseJob, evaluateJob}
 use borrow.Author.Tests.{le-leb, leb-true}
 use Rattle.laws.proofs.Tests.{and-both}
@@ -33,7 +33,7 @@ pub parseRoot-is : (x : Stx) (s : State) → parseRoot x s ≡ after (charge (si
 unfolding parseRoot
 parseRoot-is x s = refl
 
-pub evaluateRoot-is : (t : Tree) (s : State) → evaluateRoot t s ≡ after (charge (loadSize t) s) (λ v. evaluate mostEntries t)
+pub evaluateRoot-is : (t : Tree) (s : State) → evaluateRoot t s ≡ after (charge (loadSize t) s) (λ v. evaluate mostEntries nowhere t)
 unfolding evaluateRoot
 evaluateRoot-is t s = refl
 
@@ -192,6 +192,7 @@ code-some tooDeep e = omega arith
 code-some tooManyEntries e = omega arith
 code-some overBudget e = omega arith
 code-some tooLong e = omega arith
+code-some outsideUse e = omega arith
 
 -- a job that answers 0 ended with a name or with an image that was written
 abbrev pub Ended : Ending → Type 0

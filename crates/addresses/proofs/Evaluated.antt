@@ -1,30 +1,28 @@
--- Evaluating keeps every limit and leaves no variable without its function; so it never comes to a free variable (code 3).
+-- Trees and values that keep every limit and have no variable without its function; and that primitives 0 to 6 make such values.
 use mathlib.Core.Path.{_≡_, refl, ap, subst}
 use Prim.Native.Nat.{ℕ, zero, suc, _≤_, _<_, max}
 use native.Mathlib.Nat.{le-trans, le-max-left, le-max-right}
 use native.Mathlib.Omega.{arith}
-use mathlib.Core.Bool.{Bool, true, false, false≢true}
+use mathlib.Core.Bool.{Bool, true, false}
 use mathlib.Core.Option.{Option, none, some}
 use mathlib.Core.List.{[]}
 use lib.Dec.{eqb}
 use Rattle.model.specs.Choice.{if_then_else_, given}
 use Rattle.model.specs.Limits.{mostNesting}
-use Rattle.model.specs.Refusals.{notApplicable, wrongArgument, tooManyEntries}
-use Rattle.model.specs.Objects.{symbol, number, point, prim, rung, Sets, Stx, atom, list, Stxs, nil, cons, sameAtom}
-use Rattle.model.specs.Trees.{Tree, var, app, fun, datum, lst, stx, Trees, tnil, tcons, tcount, tsize, tnesting, tnestings, substitute, substituteAll, asStx, asAtom, asList, asNumber, fromStxs, toStxs}
-use Rattle.model.specs.Competing.{noRivals}
-use Rattle.model.specs.Steps.{State, Out, Step, after, charge, madeTree}
-use Rattle.model.specs.Evaluating.{Primitive, stxE, mkStx, first, rest, link, same, pick, primitiveOf, content, setsOf, remade, firstOf, restOf, picked, primitive, applicable, eachTree, argument, orWrongKind, applyPrimitive, apply, evalEntry, evaluate}
-use Rattle.model.specs.Jobs.{isAmong, closed, closedAll}
+use Rattle.model.specs.Objects.{number, Sets, Stx, atom, list, Stxs, nil, cons, sameAtom}
+use Rattle.model.specs.Trees.{Tree, var, app, fun, datum, lst, stx, Trees, tnil, tcons, tnesting, tnestings, substitute, substituteAll, asStx, asAtom, asList, asNumber, fromStxs, toStxs}
+use Rattle.model.specs.Steps.{State, madeTree}
+use Rattle.model.specs.Evaluating.{Plain, stxE, mkStx, first, rest, link, same, pick, content, setsOf, remade, firstOf, restOf, picked, primitive, argument}
+use Rattle.model.specs.Jobs.{closed, closedAll}
 use Rattle.laws.specs.Ordered.{SetsIn}
 use Rattle.codec_laws.specs.WellFormed.{StxFits, StxsFit, IsValue, TreeFits, TreesFit, ValuesFit}
 use Rattle.laws.proofs.Tests.{and-both, both-true}
-use Rattle.addresses.proofs.Outcomes.{Outcome, gives, stops, chain, Kept, kept-refl, kept-same, kept-trans, charge-out, unless-out, madeTree-out}
+use Rattle.addresses.proofs.Outcomes.{Outcome, weaken, madeTree-out}
 use Rattle.addresses.proofs.Owned.{closed-substitute}
 
 -- ---- what may be absent
 
-none≢some : {A : Type 0} (a : A) → none ≡ some a → ⊥
+pub none≢some : {A : Type 0} (a : A) → none ≡ some a → ⊥
 none≢some a e = subst code e tt
   where
     code : {A : Type 0} → Option A → Type 0
@@ -34,7 +32,7 @@ none≢some a e = subst code e tt
 pub some-value : {A : Type 0} (a b : A) → some a ≡ some b → a ≡ b
 some-value a b e = cc
 
-given-some : {A B : Type 0} (o : Option A) (f : A → Option B) (b : B) → given o f ≡ some b → (a : A) × (o ≡ some a) × (f a ≡ some b)
+pub given-some : {A B : Type 0} (o : Option A) (f : A → Option B) (b : B) → given o f ≡ some b → (a : A) × (o ≡ some a) × (f a ≡ some b)
 given-some none f b e = absurd (none≢some b e)
 given-some (some a) f b e = (a, refl, e)
 
@@ -48,7 +46,7 @@ stx-is (datum a) s e = absurd (none≢some s e)
 stx-is (lst l) s e = absurd (none≢some s e)
 stx-is (stx x) s e = ap stx (some-value x s e)
 
-list-is : (t : Tree) (l : Trees) → asList t ≡ some l → t ≡ lst l
+pub list-is : (t : Tree) (l : Trees) → asList t ≡ some l → t ≡ lst l
 unfolding asList
 list-is (var x) l e = absurd (none≢some l e)
 list-is (app h p) l e = absurd (none≢some l e)
@@ -73,7 +71,7 @@ module _ (k n m : ℕ) where
   TreesGood tnil = Unit {0}
   TreesGood (tcons t l) = TreeGood t × TreesGood l
 
-  abbrev ValuesGood : Trees → Type 0
+  abbrev pub ValuesGood : Trees → Type 0
   ValuesGood tnil = Unit {0}
   ValuesGood (tcons t l) = ValueGood t × ValuesGood l
 
@@ -88,7 +86,7 @@ module _ (k n m : ℕ) where
         trees-good l (f .1) (w .1) (le-trans (le-max-right (tnesting t) (tnestings l)) s),
       )
 
-  app-parts : (f : Tree) (l : Trees) → TreeGood (app f l) → TreeGood f × TreesGood l
+  pub app-parts : (f : Tree) (l : Trees) → TreeGood (app f l) → TreeGood f × TreesGood l
   unfolding closed tnesting mostNesting
   app-parts f l g =
       let w = and-both (closed [] f) (closedAll [] l) (g .owned) in
@@ -143,7 +141,7 @@ module _ (k n m : ℕ) where
   -- ---- primitives
 
   -- what a primitive makes, before it is tested for 17
-  abbrev Made : Tree → Type 0
+  abbrev pub Made : Tree → Type 0
   Made v = TreeFits k n m v × (closed [] v ≡ true) × IsValue v
 
   fromStxs-fits : (l : Stxs) → StxsFit k m l → ValuesFit k n m (fromStxs l)
@@ -219,7 +217,7 @@ module _ (k n m : ℕ) where
   one-or-none true = omega arith
   one-or-none false = omega arith
 
-  primitive-made : (p : Primitive) (a b c v : Tree) → ValueGood a → ValueGood b → ValueGood c → primitive p a b c ≡ some v → Made v
+  pub primitive-made : (p : Plain) (a b c v : Tree) → ValueGood a → ValueGood b → ValueGood c → primitive p a b c ≡ some v → Made v
   unfolding primitive closed
   primitive-made stxE a b c v i j l e =
       let g = given-some (asStx a) _ v e in
@@ -251,23 +249,9 @@ module _ (k n m : ℕ) where
       let h = given-some (asNumber (g .0)) _ v (g .2) in
       subst Made (some-value (picked (h .0) b c) v (h .2)) (picked-made (h .0) b c j l)
 
-  -- ---- evaluating
+  -- ---- arguments, and what is made of them
 
-  -- a value that is good, where no more than units were charged
-  abbrev pub Gave : State → Tree → State → Type 0
-  Gave s v u = ValueGood v × Kept s u
-
-  abbrev EvalGood : (Tree → Step Tree) → Type 0
-  EvalGood self = (t : Tree) → TreeGood t → (s : State) → Outcome Tree (Gave s) (self t s)
-
-  each-good : (self : Tree → Step Tree) → EvalGood self → (l : Trees) → TreesGood l → (s : State)
-      → Outcome Trees (λ r u. ValuesGood r × Kept s u) (eachTree self l s)
-  unfolding eachTree
-  each-good self h tnil g s = gives tnil s (tt, kept-refl s)
-  each-good self h (tcons t l) g s =
-      chain _ (h t (g .0) s) (λ v u a. chain _ (each-good self h l (g .1) u) (λ r w b. gives (tcons v r) w ((a .0, b .0), kept-trans (a .1) (b .1))))
-
-  argument-good : (l : Trees) (i : ℕ) → ValuesGood l → ValueGood (argument l i)
+  pub argument-good : (l : Trees) (i : ℕ) → ValuesGood l → ValueGood (argument l i)
   unfolding argument closed tnesting mostNesting
   argument-good tnil i h = (record { fits = tt; owned = refl; shallow = omega arith }, tt)
   argument-good (tcons t l) zero h = h .0
@@ -276,83 +260,15 @@ module _ (k n m : ℕ) where
   made-good : (v : Tree) → Made v → tnesting v ≤ mostNesting → ValueGood v
   made-good v g s = (record { fits = g .0; owned = g .1; shallow = s }, g .2)
 
-  wrong-good : (o : Option Tree) → ((w : Tree) → o ≡ some w → Made w) → (s : State) → Outcome Tree (Gave s) (orWrongKind o s)
-  unfolding orWrongKind
-  wrong-good none h s = stops wrongArgument noRivals (s .left) refl
-  wrong-good (some w) h s = checked (madeTree-out w s)
-    where
-      checked : {o : Out Tree} → Outcome Tree (λ y t. (w ≡ y) × (s ≡ t) × (tnesting w ≤ mostNesting)) o → Outcome Tree (Gave s) o
-      checked (gives y t p) =
-          gives y t (subst ValueGood (p .0) (made-good w (h w refl) (p .2)), kept-same (p .1))
-      checked (stops r q u p) = stops r q u p
+  -- what is made is tested
+  pub made-value : (w : Tree) → Made w → (s : State) → Outcome Tree (λ v u. ValueGood v × (s ≡ u)) (madeTree w s)
+  made-value w h s = weaken (madeTree-out w s) (λ y t p. (subst ValueGood (p .0) (made-good w h (p .2)), p .1))
 
-  -- what came before is kept too
-  pub since : (s u : State) → Kept s u → {o : Out Tree} → Outcome Tree (Gave u) o → Outcome Tree (Gave s) o
-  since s u kp (gives v z p) = gives v z (p .0, kept-trans kp (p .1))
-  since s u kp (stops r q z p) = stops r q z p
-
-  function-good : (self : Tree → Step Tree) → EvalGood self → (x : ℕ) (b v : Tree) → TreeGood (fun x b) → ValueGood v → (s : State)
-      → Outcome Tree (Gave s) (after (charge (tsize b) s) (λ a. λ u. after (madeTree (substitute x v b) u) (λ t. self t)))
+  -- the body of a function with a value put for its variable
+  pub body-good : (x : ℕ) (b v : Tree) → TreeGood (fun x b) → ValueGood v → tnesting (substitute x v b) ≤ mostNesting → TreeGood (substitute x v b)
   unfolding closed
-  function-good self h x b v g i s =
-      chain _ (charge-out (tsize b) s) (λ a u kp. chain _ (madeTree-out (substitute x v b) u) (λ t w p.
-      since s w (kept-trans kp (kept-same (p .1))) (h t (subst TreeGood (p .0) (body u (p .2))) w)))
-    where
-      body : (u : State) → tnesting (substitute x v b) ≤ mostNesting → TreeGood (substitute x v b)
-      body u q = record {
-        fits = substitute-fits x v (i .0 .fits) b (g .fits .1);
-        owned = closed-substitute x v (i .0 .owned) b (g .owned);
-        shallow = q;
-      }
-
-  primitive-good : (o : Option Primitive) (l : Trees) → ValuesGood l → (s : State) → Outcome Tree (Gave s) (applyPrimitive o l s)
-  unfolding applyPrimitive
-  primitive-good none l i s = stops notApplicable noRivals (s .left) refl
-  primitive-good (some p) l i s =
-      chain _ (charge-out 1 s) (λ a u kp. since s u kp
-      (wrong-good (primitive p (argument l 0) (argument l 1) (argument l 2))
-      (λ w e. primitive-made p (argument l 0) (argument l 1) (argument l 2) w (argument-good l 0 i) (argument-good l 1 i) (argument-good l 2 i) e) u))
-
-  apply-good : (self : Tree → Step Tree) → EvalGood self → (f : Tree) → ValueGood f → (l : Trees) → ValuesGood l → (s : State)
-      → Outcome Tree (Gave s) (apply self f l s)
-  unfolding apply
-  apply-good self h (var x) g l i s = stops notApplicable noRivals (s .left) refl
-  apply-good self h (app f p) g l i s = stops notApplicable noRivals (s .left) refl
-  apply-good self h (fun x b) g l i s = function-good self h x b (argument l 0) (g .0) (argument-good l 0 i) s
-  apply-good self h (datum (symbol x)) g l i s = stops notApplicable noRivals (s .left) refl
-  apply-good self h (datum (number x)) g l i s = stops notApplicable noRivals (s .left) refl
-  apply-good self h (datum (point x)) g l i s = stops notApplicable noRivals (s .left) refl
-  apply-good self h (datum (prim p)) g l i s = primitive-good (primitiveOf p) l i s
-  apply-good self h (datum (rung x)) g l i s = stops notApplicable noRivals (s .left) refl
-  apply-good self h (lst p) g l i s = stops notApplicable noRivals (s .left) refl
-  apply-good self h (stx x) g l i s = stops notApplicable noRivals (s .left) refl
-
-  -- an application, whose nesting need not be within the limit
-  application-good : (self : Tree → Step Tree) → EvalGood self → (f : Tree) (l : Trees) → TreeGood f → TreesGood l → (s : State)
-      → Outcome Tree (Gave s) (evalEntry self (app f l) s)
-  unfolding evalEntry
-  application-good self h f l g i s =
-      chain _ (h f g s) (λ v u a. chain _ (unless-out notApplicable refl (applicable v (tcount l)) u) (λ b w c.
-      chain _ (each-good self h l i w) (λ vs z d. since s z (kept-trans (a .1) (kept-trans (kept-same (c .1)) (d .1)))
-      (apply-good self h v (a .0) vs (d .0) z))))
-
-  entry-good : (self : Tree → Step Tree) → EvalGood self → EvalGood (evalEntry self)
-  unfolding evalEntry closed isAmong
-  entry-good self h (var x) g s = absurd (false≢true (g .owned))
-  entry-good self h (app f l) g s = let p = app-parts f l g in application-good self h f l (p .0) (p .1) s
-  entry-good self h (fun x b) g s = gives (fun x b) s ((g, tt), kept-refl s)
-  entry-good self h (datum a) g s = gives (datum a) s ((g, tt), kept-refl s)
-  entry-good self h (lst l) g s = gives (lst l) s ((g, tt), kept-refl s)
-  entry-good self h (stx x) g s = gives (stx x) s ((g, tt), kept-refl s)
-
-  pub evaluate-good : (d : ℕ) → EvalGood (evaluate d)
-  unfolding evaluate
-  evaluate-good zero t g s = stops tooManyEntries noRivals (s .left) refl
-  evaluate-good (suc d) t g s = chain _ (charge-out 1 s) (λ a u kp. since s u kp (entry-good (λ v. evaluate d v) (evaluate-good d) t g u))
-
-  -- a value applied to a value, as a macro use does
-  pub application-of : (d : ℕ) (f : Tree) (l : Trees) → TreeGood f → TreesGood l → (s : State) → Outcome Tree (Gave s) (evaluate d (app f l) s)
-  unfolding evaluate
-  application-of zero f l g i s = stops tooManyEntries noRivals (s .left) refl
-  application-of (suc d) f l g i s =
-      chain _ (charge-out 1 s) (λ a u kp. since s u kp (application-good (λ v. evaluate d v) (evaluate-good d) f l g i u))
+  body-good x b v g i q = record {
+    fits = substitute-fits x v (i .0 .fits) b (g .fits .1);
+    owned = closed-substitute x v (i .0 .owned) b (g .owned);
+    shallow = q;
+  }

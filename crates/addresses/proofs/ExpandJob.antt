@@ -10,20 +10,22 @@ use lib.Dec.{leb}
 use lib.ListN.{length}
 use Rattle.model.specs.Choice.{if_then_else_}
 use Rattle.model.specs.Limits.{coreNames, mostEntries, mostImage, lastPhase}
-use Rattle.model.specs.Refusals.{Refusal, layout, overLimit, unowned, wrongKind, smallTable, ambiguous, noMeaning, noRule, noSyntax, notApplicable, wrongArgument, noPhase, noNameLeft, noScopeLeft, noBindingLeft, tooDeep, tooManyEntries, overBudget, tooLong, codeOf}
+use Rattle.model.specs.Refusals.{Refusal, layout, overLimit, unowned, wrongKind, smallTable, ambiguous, noMeaning, noRule, noSyntax, notApplicable, wrongArgument, noPhase, noNameLeft, noScopeLeft, noBindingLeft, tooDeep, tooManyEntries, overBudget, tooLong, outsideUse, codeOf}
 use Rattle.model.specs.Objects.{Stx, size}
 use Rattle.model.specs.Competing.{Rivals, noRivals}
 use Rattle.model.specs.Reading.{Read, got, symbols, Image, readSyntax, readImage}
 use Rattle.model.specs.Writing.{syntaxBytes}
+use Rattle.model.specs.Meanings.{coreOnly, ofRoot}
 use Rattle.model.specs.Steps.{State, Out, ok}
-use Rattle.model.specs.Expanding.{coreOnly, ofRoot, expand}
+use Rattle.model.specs.Expanding.{expand}
 use Rattle.model.specs.Jobs.{Ending, refused, named, written, answerOf, Result, lent, atPhase, withImage, start, worked, fitted, reached, expandRoot, expandEnding, expandJob}
 use Rattle.codec_laws.specs.WellFormed.{Bytes, SyntaxFits}
 use Rattle.codec_laws.proofs.ImageLaws.{syntax-read-keeps-limits}
 use Rattle.addresses.proofs.Outcomes.{Possible, Outcome, gives, stops, chain, weaken, Kept, charge-out}
 use Rattle.addresses.proofs.States.{StateFits, kept-grows}
+use Rattle.addresses.proofs.Pieces.{Piece, piece-grows}
 use Rattle.addresses.proofs.Results.{Expanded, expanded-after}
-use Rattle.addresses.proofs.Expansion.{Piece, piece-grows, expand-good}
+use Rattle.addresses.proofs.Expansion.{both-good}
 use Rattle.addresses.proofs.Faults.{possible, Reads, reads, faults, image-reads}
 use Rattle.addresses.proofs.Endings.{lent-cases, expandRoot-is, expandWork, expandEnding-is, expandJob-is}
 
@@ -54,8 +56,8 @@ pub expand-root-good : (ph budget : ℕ) (i : Image Stx) → SyntaxFits (i .head
 expand-root-good ph budget i f =
     subst (Outcome Stx (Expanded k mostEntries ph coreOnly s)) (sym (expandRoot-is ph (i .root) s))
     (chain (λ v. expand mostEntries (ofRoot ph) (i .root)) (charge-out (size (i .root)) s) (λ v t kp.
-    weaken (expand-good k mostEntries (ofRoot ph) (i .root) t (kept-grows k s t kp .keeps g) tt (moved t kp)) (λ r s′ x.
-    expanded-after k mostEntries mostEntries ph coreOnly s t s′ r (le-refl mostEntries) (kept-grows k s t kp) x)))
+    weaken (both-good k mostEntries .expands (ofRoot ph) (i .root) t (kept-grows k s t kp .keeps g) tt (moved t kp)) (λ r s′ x.
+    expanded-after k mostEntries mostEntries ph coreOnly s t s′ r (le-refl mostEntries) (kept-grows k s t kp) (x .finished refl))))
   where
     k : ℕ
     k = symbols (i .head)
@@ -159,6 +161,7 @@ possible-code tooDeep q p e = omega arith
 possible-code tooManyEntries q p e = omega arith
 possible-code overBudget q p e = omega arith
 possible-code tooLong q p e = omega arith
+possible-code outsideUse q p e = omega arith
 
 fine-code : (e : Ending) → Fine e → (answerOf e) .code ≡ 3 → ⊥
 unfolding answerOf

@@ -1,12 +1,15 @@
 -- Condition 3, from what each step keeps up to the jobs. `Condition3` has the theorem; `ExpandJob` what it rests on at the level of the
--- expand job; `Meanings` that a binder resolves to its own name for ever and that resolved heads stay resolved; `Expansion` that a
--- right-hand side has no free variable; `Readable` that whatever a job writes can be read again.
+-- expand job; `Meanings` that a binder resolves to its own name for ever and that resolved heads stay resolved; `Evaluation` what
+-- evaluating keeps, local expansion included; `Expansion` that a right-hand side has no free variable, and `both-good`, of evaluating and expanding at
+-- once; `Readable` that whatever a job writes can be read again.
 pub mod Outcomes
 pub mod Fitting
 pub mod Owned
 pub mod Evaluated
 pub mod States
 pub mod Meanings
+pub mod Pieces
+pub mod Evaluation
 pub mod Costs
 pub mod Shorter
 pub mod Results

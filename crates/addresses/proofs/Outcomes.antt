@@ -6,8 +6,8 @@ use mathlib.Core.Bool.{Bool, true, false}
 use lib.Dec.{leb}
 use Rattle.model.specs.Choice.{if_then_else_}
 use Rattle.model.specs.Limits.{mostNesting}
-use Rattle.model.specs.Refusals.{Refusal, layout, overLimit, unowned, wrongKind, smallTable, ambiguous, noMeaning, noRule, noSyntax, notApplicable, wrongArgument, noPhase, noNameLeft, noScopeLeft, noBindingLeft, tooDeep, tooManyEntries, overBudget, tooLong}
-use Rattle.model.specs.Scopes.{Scopes, add}
+use Rattle.model.specs.Refusals.{Refusal, layout, overLimit, unowned, wrongKind, smallTable, ambiguous, noMeaning, noRule, noSyntax, notApplicable, wrongArgument, noPhase, noNameLeft, noScopeLeft, noBindingLeft, tooDeep, tooManyEntries, overBudget, tooLong, outsideUse}
+use Rattle.model.specs.Scopes.{Scopes, noScopes, add}
 use Rattle.model.specs.Objects.{symbol, number, point, prim, rung, Sets, setAt, Stx, atom, list, Stxs, nil, cons, size, nesting, addScope, flipScope, pruneScopes}
 use Rattle.model.specs.Trees.{Tree, tnesting}
 use Rattle.model.specs.Resolving.{Found, means, several, resolve}
@@ -39,6 +39,7 @@ Possible tooDeep p = p ≡ noRivals
 Possible tooManyEntries p = p ≡ noRivals
 Possible overBudget p = p ≡ noRivals
 Possible tooLong p = p ≡ noRivals
+Possible outsideUse p = p ≡ noRivals
 
 -- P of what is given and the state after it
 pub data Outcome (A : Type 0) (P : A → State → Type 0) : Out A → Type 0 where
@@ -81,18 +82,18 @@ pub kept-spend : (n : ℕ) (s : State) → Kept s (spend n s)
 unfolding spend
 kept-spend n s = record { names-is = refl; scopes-is = refl; binds-is = refl; left-le = sub-le (s .left) n }
 
--- the prunable set is no part of this
-pub kept-carrying : (p : Scopes) (s : State) → Kept s (carrying p s)
+-- the prunable set and the use scopes are no part of this
+pub kept-carrying : (p u : Scopes) (s : State) → Kept s (carrying p u s)
 unfolding carrying
-kept-carrying p s = record { names-is = refl; scopes-is = refl; binds-is = refl; left-le = le-refl (s .left) }
+kept-carrying p u s = record { names-is = refl; scopes-is = refl; binds-is = refl; left-le = le-refl (s .left) }
 
 -- ---- the steps
 
 pub useScope-out : (k : ℕ) (s : State) → Outcome (Unit {0}) (λ v t. Kept s t) (useScope k s)
 unfolding useScope
-useScope-out k s = gives tt (carrying (add k (s .prunable)) s) (kept-carrying (add k (s .prunable)) s)
+useScope-out k s = gives tt (carrying (add k (s .prunable)) (add k (s .uses)) s) (kept-carrying (add k (s .prunable)) (add k (s .uses)) s)
 
--- an expansion of its own: what holds from a state that differs in the prunable set alone, to one that does
+-- an expansion of its own: what holds from a state that differs in the prunable set and the use scopes alone, to one that does
 pub inside-out : {A : Type 0} {P : State → A → State → Type 0} {Q : A → State → Type 0} (f : Scopes → Scopes) (m : Step A) (s : State)
     → ((t : State) → Kept s t → Outcome A (P t) (m t)) → ((t : State) → Kept s t → (a : A) (u w : State) → Kept u w → P t a u → Q a w)
     → Outcome A Q (inside f m s)
@@ -100,13 +101,13 @@ unfolding inside
 inside-out {A} {P} {Q} f m s h back = go (h here kept)
   where
     here : State
-    here = carrying (f (s .prunable)) s
+    here = carrying (f (s .prunable)) noScopes s
 
     kept : Kept s here
-    kept = kept-carrying (f (s .prunable)) s
+    kept = kept-carrying (f (s .prunable)) noScopes s
 
-    go : {o : Out A} → Outcome A (P here) o → Outcome A Q (after o (λ a t. ok a (carrying (s .prunable) t)))
-    go (gives a u p) = gives a (carrying (s .prunable) u) (back here kept a u (carrying (s .prunable) u) (kept-carrying (s .prunable) u) p)
+    go : {o : Out A} → Outcome A (P here) o → Outcome A Q (after o (λ a t. ok a (carrying (s .prunable) (s .uses) t)))
+    go (gives a u p) = gives a (carrying (s .prunable) (s .uses) u) (back here kept a u (carrying (s .prunable) (s .uses) u) (kept-carrying (s .prunable) (s .uses) u) p)
     go (stops r q u p) = stops r q u p
 
 pub charge-out : (n : ℕ) (s : State) → Outcome (Unit {0}) (λ v t. Kept s t) (charge n s)

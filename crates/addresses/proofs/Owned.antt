@@ -8,7 +8,8 @@ use lib.Dec.{eqb}
 use Rattle.model.specs.Choice.{if_then_else_}
 use Rattle.model.specs.Objects.{Stx, atom, list, Stxs, nil, cons}
 use Rattle.model.specs.Trees.{Tree, var, app, fun, datum, lst, stx, Trees, tnil, tcons, substitute, substituteAll, strip, stripAll}
-use Rattle.model.specs.Jobs.{isAmong, closed, closedAll}
+use Rattle.model.specs.Meanings.{isAmong}
+use Rattle.model.specs.Jobs.{closed, closedAll}
 use borrow.Author.Tests.{eq-eqb, eqb-true}
 use Rattle.laws.proofs.Tests.{and-both, both-true, or-left, or-right}
 

@@ -13,8 +13,9 @@ use Rattle.model.specs.Objects.{symbol, number, point, prim, rung, setAt, Stx, 
 use Rattle.model.specs.Trees.{Tree, var, app, fun, datum, stx, Trees, tnil, tcons, strip}
 use Rattle.model.specs.Resolving.{Bind, means, resolve}
 use Rattle.model.specs.Competing.{noRivals}
+use Rattle.model.specs.Meanings.{Form, lambda, letSyntax, quote, syntax, formOf}
 use Rattle.model.specs.Steps.{State, Out, ok, no, Step, charge, nameOf, resolveAt}
-use Rattle.model.specs.Parsing.{Form, lambda, letSyntax, quote, syntax, formOf, headForm, parseAll, parseForm, parseEntry, parse}
+use Rattle.model.specs.Parsing.{headForm, parseAll, parseForm, parseEntry, parse}
 use borrow.Author.Tests.{leb-true}
 use Rattle.laws.specs.Ordered.{Sorted}
 use Rattle.laws.proofs.StepLaws.{spend}
@@ -31,7 +32,7 @@ spent-none : (s : State) → Spent 0 s s
 unfolding spend
 spent-none s = record {
   enough = zero-le;
-  is = ap (λ (z : ℕ). record { left = z; names = s .names; scopes = s .scopes; binds = s .binds; prunable = s .prunable }) (same-left (s .left));
+  is = ap (λ (z : ℕ). record { left = z; names = s .names; scopes = s .scopes; binds = s .binds; prunable = s .prunable; uses = s .uses }) (same-left (s .left));
 }
   where
     same-left : (n : ℕ) → n - 0 ≡ n

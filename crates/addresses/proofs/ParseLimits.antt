@@ -11,8 +11,9 @@ use Rattle.model.specs.Objects.{symbol, number, point, prim, rung, Sets, setAt,
 use Rattle.model.specs.Trees.{Tree, var, app, fun, datum, stx, Trees, tnil, tcons, tnesting, tnestings, strip}
 use Rattle.model.specs.Resolving.{Bind, Found, means, several, candidates, resolve}
 use Rattle.model.specs.Competing.{noRivals}
+use Rattle.model.specs.Meanings.{Form, lambda, letSyntax, quote, syntax, formOf}
 use Rattle.model.specs.Steps.{State, Out, Step, resolveAt}
-use Rattle.model.specs.Parsing.{Form, lambda, letSyntax, quote, syntax, formOf, headForm, parseAll, parseForm, parseEntry, parse}
+use Rattle.model.specs.Parsing.{headForm, parseAll, parseForm, parseEntry, parse}
 use Rattle.laws.specs.Ordered.{Sorted}
 use Rattle.laws.proofs.ResolveRule.{Rule, free, found, unclear, resolve-is, candidates-sound}
 use Rattle.codec_laws.specs.WellFormed.{StxFits, StxsFit, TreeFits, TreesFit, BindsFit}

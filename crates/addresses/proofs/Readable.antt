@@ -1,7 +1,7 @@
 -- Every image that a job writes keeps the limits of an image, so that the next job can read it.
 use mathlib.Core.Path.{_≡_, refl, sym, ap, _∙_, subst}
 use Prim.Native.Nat.{ℕ, _-_, _≤_}
-use native.Mathlib.Nat.{le-trans}
+use native.Mathlib.Nat.{le-trans, le-of-eq}
 use mathlib.Core.Bool.{Bool, true, false}
 use mathlib.Core.List.{List, []}
 use lib.ListN.{length}
@@ -13,15 +13,20 @@ use Rattle.model.specs.Trees.{Tree, loadSize}
 use Rattle.model.specs.Competing.{Rivals, noRivals}
 use Rattle.model.specs.Reading.{got, Head, symbols, Image, readSyntax, readTreeImage, readImage}
 use Rattle.model.specs.Writing.{syntaxBytes, treeImageBytes}
+use Rattle.model.specs.Meanings.{nowhere}
 use Rattle.model.specs.Steps.{State, Out}
 use Rattle.model.specs.Parsing.{parse}
-use Rattle.model.specs.Evaluating.{evaluate}
+use Rattle.model.specs.Expanding.{evaluate}
 use Rattle.model.specs.Jobs.{refused, Result, withImage, start, worked, fitted, reached, expandRoot, parseRoot, evaluateRoot, closed, expandEnding, parseEnding, evaluateEnding, expandJob, parseJob, evaluateJob}
-use Rattle.codec_laws.specs.WellFormed.{Bytes, SyntaxFits, TreeImageFits}
+use Rattle.codec_laws.specs.WellFormed.{Bytes, SyntaxFits, TreeFits, TreeImageFits}
 use Rattle.codec_laws.proofs.ImageLaws.{syntax-read-keeps-limits, syntax-written-then-read, tree-read-keeps-limits, tree-written-then-read}
 use Rattle.addresses.specs.OneNameOneAddress.{imageWritten}
 use Rattle.addresses.proofs.Outcomes.{Outcome, gives, stops, chain, Kept, kept-trans, charge-out}
-use Rattle.addresses.proofs.Evaluated.{Gave, since, evaluate-good}
+use Rattle.addresses.proofs.Fitting.{tree-more}
+use Rattle.addresses.proofs.States.{kept-grows}
+use Rattle.addresses.proofs.Meanings.{value-grows}
+use Rattle.addresses.proofs.Evaluation.{Gave, kept-since}
+use Rattle.addresses.proofs.Expansion.{both-good}
 use Rattle.addresses.proofs.Endings.{expandWork, parseWork, evaluateWork, parseRoot-is, evaluateRoot-is, expandEnding-is, parseEnding-is, evaluateEnding-is, expandJob-is, parseJob-is, evaluateJob-is, fitted-case, worked-case, image-case, phase-case, Wrote, nothing-wrote, job-wrote}
 use Rattle.addresses.proofs.ParseLimits.{Parsed, parse-keeps-limits}
 use Rattle.addresses.proofs.ExpandJob.{outcome-ok, expand-keeps-limits}
@@ -114,24 +119,25 @@ what-parse-writes-can-be-read image b budget table output q =
     (job-wrote IsTree budget table output (parseEnding image budget (length output)) (parse-wrote image b budget (length output))
     (ap (λ (z : Result). z .answer .code) (sym job) ∙ q))
 
-evaluate-root : (budget : ℕ) (i : Image Tree) → TreeImageFits (i .head) (i .root) → closed [] (i .root) ≡ true
-    → Outcome Tree (Gave (symbols (i .head)) (i .head .names) (i .head .scopes) (start budget i)) (evaluateRoot (i .root) (start budget i))
+pub evaluate-root : (budget : ℕ) (i : Image Tree) → TreeImageFits (i .head) (i .root) → closed [] (i .root) ≡ true
+    → Outcome Tree (Gave (symbols (i .head)) nowhere (start budget i)) (evaluateRoot (i .root) (start budget i))
+unfolding start
 evaluate-root budget i f c =
-    subst (Outcome Tree (Gave k n m s)) (sym (evaluateRoot-is (i .root) s))
-    (chain (λ v. evaluate mostEntries (i .root)) (charge-out (loadSize (i .root)) s) (λ v t kp.
-    since k n m s t kp (evaluate-good k n m mostEntries (i .root) (record { fits = f .root-fits; owned = c; shallow = f .shallow }) t)))
+    subst (Outcome Tree (Gave k nowhere s)) (sym (evaluateRoot-is (i .root) s))
+    (chain (λ v. evaluate mostEntries nowhere (i .root)) (charge-out (loadSize (i .root)) s) (λ v t kp.
+    kept-since k nowhere s t kp (both-good k mostEntries .evaluates nowhere (i .root) t tt
+    (value-grows k s t (kept-grows k s t kp) (i .root) (record { fits = f .root-fits; owned = c; shallow = f .shallow })))))
   where
     k : ℕ
     k = symbols (i .head)
 
-    n : ℕ
-    n = i .head .names
-
-    m : ℕ
-    m = i .head .scopes
-
     s : State
     s = start budget i
+
+-- a tree within the counts that are kept
+within-counts : (k budget : ℕ) (i : Image Tree) (t : Tree) (s : State) → Kept (start budget i) s → TreeFits k (s .names) (s .scopes) t → TreeFits k (i .head .names) (i .head .scopes) t
+unfolding start
+within-counts k budget i t s kp f = tree-more k (le-of-eq (sym (kp .names-is))) (le-of-eq (sym (kp .scopes-is))) t f
 
 evaluate-wrote : (image : List ℕ) → Bytes image → (budget room : ℕ) → Wrote IsTree (evaluateEnding image budget room)
 evaluate-wrote image b budget room =
@@ -144,7 +150,7 @@ evaluate-wrote image b budget room =
     tested i f true c =
         worked-case (Wrote IsTree) (nothing-wrote IsTree) budget (evaluateRoot (i .root) (start budget i)) _ (λ r s q.
         let x = outcome-ok (subst (Outcome Tree _) q (evaluate-root budget i f c)) in
-        tree-wrote budget room i r s (x .1) (λ n. record { head-fits = f .head-fits; root-fits = x .0 .0 .fits; shallow = x .0 .0 .shallow; short = n }))
+        tree-wrote budget room i r s (x .1) (λ n. record { head-fits = f .head-fits; root-fits = within-counts (symbols (i .head)) budget i r s (x .1) (x .0 .0 .fits); shallow = x .0 .0 .shallow; short = n }))
     tested i f false c = tt
 
 pub what-evaluate-writes-can-be-read : (image : List ℕ) → Bytes image → (budget : ℕ) (table output : List ℕ)

@@ -13,10 +13,11 @@ use Rattle.model.specs.Objects.{Atom, symbol, number, point, prim, rung, Sets, 
 use Rattle.model.specs.Trees.{Tree, var, app, fun, datum, stx, Trees, tnil, tcons, tcount, tnesting, tnestings, strip, stripAll}
 use Rattle.model.specs.Resolving.{Bind}
 use Rattle.model.specs.Writing.{stxBytes, stxsBytes, treeBytes, treesBytes}
+use Rattle.model.specs.Meanings.{lambda, quote, syntax, Env, extend, variable, isAmong, Surroundings}
 use Rattle.model.specs.Steps.{State, ok, resolveAt, parts1, parts2, identifier}
-use Rattle.model.specs.Parsing.{lambda, quote, syntax, headForm, parseAll, parseForm, parseEntry, parse}
-use Rattle.model.specs.Expanding.{Env, extend, variable, Binder}
-use Rattle.model.specs.Jobs.{isAmong, closed, closedAll}
+use Rattle.model.specs.Parsing.{headForm, parseAll, parseForm, parseEntry, parse}
+use Rattle.model.specs.Expanding.{Binder}
+use Rattle.model.specs.Jobs.{closed, closedAll}
 use Rattle.laws.specs.Ordered.{SetsIn}
 use Rattle.laws.proofs.Stable.{Later, later-trans, later-in}
 use Rattle.laws.proofs.StepLaws.{spend}
@@ -195,7 +196,7 @@ module _ (k : ℕ) where
     plain = g .plain;
   }
 
-  -- the prunable set differs afterwards
+  -- the prunable set and the use scopes differ afterwards
   pub expanded-kept : (d ph : ℕ) (e : Env) (s t u : State) (r : Stx) → Kept t u → Expanded d ph e s r t → Expanded d ph e s r u
   expanded-kept d ph e s t u r kp g = record {
     grows = grows-trans k s t u (g .grows) w;
@@ -483,3 +484,40 @@ module _ (k : ℕ) where
           (binder-resolves-to-its-name k ph (b .name) (b .sets) x s′ st₁ (all .keeps g)
           (later-in (t .scopes) (t .binds) (s′ .binds) (from-t .later) B (bd .bound-in)) w₁)
           (a .parses m (le-of-suc-le-suc q) st₁ w₁)
+
+  -- ---- request T-08: with stops
+
+  -- What expanding there gives. A form that is stopped inside stays as it is, so only where there are no stops is the result finished; with stops it
+  -- is text like any other that keeps the limits.
+  pub record Worked (d : ℕ) (here : Surroundings) (s : State) (r : Stx) (s′ : State) : Type 0 where
+    pub grows : Grows k s s′
+    pub fits : StxFits k (s′ .scopes) r
+    pub shallow : nesting r ≤ mostNesting
+    pub finished : here .stops ≡ [] → Expanded d (here .phase) (here .meanings) s r s′
+
+  pub record WorkedAll (d : ℕ) (here : Surroundings) (s : State) (l : Stxs) (s′ : State) : Type 0 where
+    pub grows : Grows k s s′
+    pub fits : StxsFit k (s′ .scopes) l
+    pub finished : here .stops ≡ [] → ExpandedAll d (here .phase) (here .meanings) s l s′
+
+  pub worked : (d : ℕ) (here : Surroundings) (s : State) (r : Stx) (s′ : State) → Expanded d (here .phase) (here .meanings) s r s′ → Worked d here s r s′
+  worked d here s r s′ x = record { grows = x .grows; fits = x .fits; shallow = x .shallow; finished = λ q. x }
+
+  pub worked-after : (d d′ : ℕ) (here : Surroundings) (s t s′ : State) (r : Stx) → d ≤ d′ → Grows k s t → Worked d here t r s′ → Worked d′ here s r s′
+  worked-after d d′ here s t s′ r le w g = record {
+    grows = grows-trans k s t s′ w (g .grows);
+    fits = g .fits;
+    shallow = g .shallow;
+    finished = λ q. expanded-after d d′ (here .phase) (here .meanings) s t s′ r le w (g .finished q);
+  }
+
+  pub worked-kept : (d : ℕ) (here : Surroundings) (s t u : State) (r : Stx) → Kept t u → Worked d here s r t → Worked d here s r u
+  worked-kept d here s t u r kp g = record {
+    grows = grows-trans k s t u (g .grows) (kept-grows k t u kp);
+    fits = stx-more k (kept-grows k t u kp .scopes-le) r (g .fits);
+    shallow = g .shallow;
+    finished = λ q. expanded-kept d (here .phase) (here .meanings) s t u r kp (g .finished q);
+  }
+
+  pub worked-same : (d : ℕ) (here : Surroundings) (s t u : State) (x y : Stx) → t ≡ u → x ≡ y → Worked d here s x t → Worked d here s y u
+  worked-same d here s t u x y a b w = subst (λ (v : Stx). Worked d here s v u) b (subst (λ (v : State). Worked d here s x v) a w)

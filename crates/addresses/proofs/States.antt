@@ -121,7 +121,7 @@ kept-grows k s t w = record {
 -- ---- a fresh scope
 
 withScope : State → State
-withScope s = record { left = s .left; names = s .names; scopes = s .scopes + 1; binds = s .binds; prunable = s .prunable }
+withScope s = record { left = s .left; names = s .names; scopes = s .scopes + 1; binds = s .binds; prunable = s .prunable; uses = s .uses }
 
 up : (n : ℕ) → n ≤ n + 1
 up n = omega arith
@@ -158,7 +158,7 @@ newBind ph c x s = record { symb = x; target = s .names; set = setAt ph (changeA
 
 withBind : ℕ → Sets → ℕ → State → State
 withBind ph c x s =
-    record { left = s .left - 1; names = s .names + 1; scopes = s .scopes + 1; binds = insert (newBind ph c x s) (s .binds); prunable = s .prunable }
+    record { left = s .left - 1; names = s .names + 1; scopes = s .scopes + 1; binds = insert (newBind ph c x s) (s .binds); prunable = s .prunable; uses = s .uses }
 
 set-changed : (f : Scopes → Scopes) (ph : ℕ) (c : Sets) → setAt ph (changeAt f ph c) ≡ f (setAt ph c)
 unfolding setAt changeAt
@@ -259,7 +259,7 @@ binder-bound k ph c x s f hx i hn hs hb = record {
 -- the four steps of a binder, each with what comes after it
 
 withName : State → State
-withName s = record { left = s .left; names = s .names + 1; scopes = s .scopes; binds = s .binds; prunable = s .prunable }
+withName s = record { left = s .left; names = s .names + 1; scopes = s .scopes; binds = s .binds; prunable = s .prunable; uses = s .uses }
 
 name-then : {B : Type 0} {Q : B → State → Type 0} (f : ℕ → Step B) (s : State)
     → (s .names < mostNames → Outcome B Q (f (s .names) (withName s))) → Outcome B Q (after (freshName s) f)
@@ -289,13 +289,13 @@ charge-then {B} {Q} n f s h = go (leb n (s .left))
     go false = stops overBudget noRivals (s .left) refl
 
 bind-then : {B : Type 0} {Q : B → State → Type 0} (b : Bind) (f : Unit {0} → Step B) (s : State)
-    → (length (s .binds) < mostBindings → Outcome B Q (f tt (record { left = s .left; names = s .names; scopes = s .scopes; binds = insert b (s .binds); prunable = s .prunable })))
+    → (length (s .binds) < mostBindings → Outcome B Q (f tt (record { left = s .left; names = s .names; scopes = s .scopes; binds = insert b (s .binds); prunable = s .prunable; uses = s .uses })))
     → Outcome B Q (after (bind b s) f)
 unfolding bind
 bind-then {B} {Q} b f s h = go (ltb (length (s .binds)) mostBindings) refl
   where
     t : State
-    t = record { left = s .left; names = s .names; scopes = s .scopes; binds = insert b (s .binds); prunable = s .prunable }
+    t = record { left = s .left; names = s .names; scopes = s .scopes; binds = insert b (s .binds); prunable = s .prunable; uses = s .uses }
 
     go : (x : Bool) → ltb (length (s .binds)) mostBindings ≡ x → Outcome B Q (after (if x then ok tt t else no noBindingLeft noRivals (s .left)) f)
     go true e = h (ltb-true (length (s .binds)) mostBindings e)

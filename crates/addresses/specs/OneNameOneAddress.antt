@@ -10,9 +10,10 @@ use Rattle.model.specs.Objects.{Stx}
 use Rattle.model.specs.Trees.{Tree, var, app, fun, datum, lst, stx, Trees, tnil, tcons}
 use Rattle.model.specs.Reading.{got, Image, readSyntax, readTreeImage, readImage}
 use Rattle.model.specs.Writing.{treeImageBytes}
+use Rattle.model.specs.Meanings.{isAmong}
 use Rattle.model.specs.Steps.{ok}
 use Rattle.model.specs.Parsing.{parse}
-use Rattle.model.specs.Jobs.{Result, written, lent, budgetFits, start, isAmong, closed, parseJob, evaluateJob}
+use Rattle.model.specs.Jobs.{Result, written, lent, budgetFits, start, closed, parseJob, evaluateJob}
 use Rattle.addresses.specs.Charge.{entryCharge, parseCharge}
 
 -- the names of a tree's functions, a whole before its parts, left to right
