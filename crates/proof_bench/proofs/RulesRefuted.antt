@@ -9,54 +9,73 @@ use lib.ListN.{length, getD}
 use Rattle.model.specs.Limits.{mostEntries}
 use Rattle.model.specs.Refusals.{layout}
 use Rattle.model.specs.Objects.{symbol, number, point, prim, rung, Sets, Stx, atom, list, Stxs, nil, cons, size}
+use Rattle.model.specs.Trees.{Tree}
 use Rattle.model.specs.Reading.{fault, readSyntax, readImage}
 use Rattle.model.specs.Steps.{State, Step, after, charge}
-use Rattle.model.specs.Parsing.{lambda, letSyntax, quote, syntax}
-use Rattle.model.specs.Expanding.{Meaning, core, variable, macro, unknown, headMeaning, Surroundings, ofRoot, Expander, expandForm, expandEntry, expand}
+use Rattle.model.specs.Expanding.{headMeaning, expandForm, expandEntry, evaluate, expand}
 use Rattle.model.specs.Writing.{syntaxBytes}
+use Rattle.model.specs.Meanings.{lambda, letSyntax, quote, syntax, Meaning, core, variable, macro, stopped, unknown, Surroundings, ofRoot, Place}
+use Rattle.model.specs.Evaluating.{Expander, Evaluator, evalEntry}
 use Rattle.model.specs.Jobs.{Result, lent, atPhase, withImage, start, worked, fitted, reached, expandRoot, expandEnding, expandJob}
 use Rattle.codec_laws.proofs.NumberTrip.{fault≢got}
 use Rattle.addresses.specs.OneNameOneAddress.{imageWritten}
 use Rattle.proof_bench.specs.Contracts.{Expanding, MeetsExpand}
-use Rattle.proof_bench.specs.Rules.{ruledForm, ruledEntry, ruledExpand, ruledRoot, ruledEnding, ruled, rightRules, copiesOthers, copiesPaid, staleNames, bareBodies, ownIdentifiers}
+use Rattle.proof_bench.specs.Rules.{ruledForm, ruledEntry, ruledEvaluate, ruledExpand, ruledRoot, ruledEnding, ruled, rightRules, copiesOthers, copiesPaid, staleNames, bareBodies, ownIdentifiers}
 use Rattle.proof_bench.specs.Shams.{WritesCopies, Condition3Of}
 use Rattle.proof_bench.proofs.Samples.{identity, applied, doubled, nested, words, room, expanded, identity-code, identity-image, applied-units, doubled-code, doubled-units, doubled-length, nested-length, identity-call, applied-call, doubled-call, nested-call, as-defined, code-is, image-is, units-are}
 
 -- ---- with the rules as defined
 
-right-form : (self : Expander) (d : ℕ) (here : Surroundings) (c : Sets) (h : Stx) (l : Stxs) (m : Meaning)
-    → ruledForm rightRules self d here c h l m ≡ expandForm self d here c h l m
+right-form : (self : Expander) (value : Evaluator) (d : ℕ) (here : Surroundings) (c : Sets) (h : Stx) (l : Stxs) (m : Meaning)
+    → ruledForm rightRules self value d here c h l m ≡ expandForm self value d here c h l m
 unfolding ruledForm rightRules expandForm
-right-form self d here c h l (core lambda) = refl
-right-form self d here c h l (core letSyntax) = refl
-right-form self d here c h l (core quote) = refl
-right-form self d here c h l (core syntax) = refl
-right-form self d here c h l (variable b x) = refl
-right-form self d here c h l (macro v) = refl
-right-form self d here c h l unknown = refl
+right-form self value d here c h l (core lambda) = refl
+right-form self value d here c h l (core letSyntax) = refl
+right-form self value d here c h l (core quote) = refl
+right-form self value d here c h l (core syntax) = refl
+right-form self value d here c h l (variable b x) = refl
+right-form self value d here c h l (macro v) = refl
+right-form self value d here c h l stopped = refl
+right-form self value d here c h l unknown = refl
 
-right-entry : (self : Expander) (d : ℕ) (here : Surroundings) (x : Stx) → ruledEntry rightRules self d here x ≡ expandEntry self d here x
+right-entry : (self : Expander) (value : Evaluator) (d : ℕ) (here : Surroundings) (x : Stx)
+    → ruledEntry rightRules self value d here x ≡ expandEntry self value d here x
 unfolding ruledEntry rightRules expandEntry
-right-entry self d here (atom c (symbol x)) = refl
-right-entry self d here (atom c (number x)) = refl
-right-entry self d here (atom c (point x)) = refl
-right-entry self d here (atom c (prim x)) = refl
-right-entry self d here (atom c (rung x)) = refl
-right-entry self d here (list c nil) = refl
-right-entry self d here (list c (cons h l)) =
-    ap (λ (f : Meaning → Step Stx). λ (s : State). after (headMeaning (here .phase) (here .meanings) h s) f) (fun-ext (λ m. right-form self d here c h l m))
+right-entry self value d here (atom c (symbol x)) = refl
+right-entry self value d here (atom c (number x)) = refl
+right-entry self value d here (atom c (point x)) = refl
+right-entry self value d here (atom c (prim x)) = refl
+right-entry self value d here (atom c (rung x)) = refl
+right-entry self value d here (list c nil) = refl
+right-entry self value d here (list c (cons h l)) =
+    ap (λ (f : Meaning → Step Stx). λ (s : State). after (headMeaning here h s) f) (fun-ext (λ m. right-form self value d here c h l m))
 
--- expanders that agree are equal
+-- expanders, and evaluators, that agree are equal
 same-expander : (a b : Expander) → ((here : Surroundings) (x : Stx) → a here x ≡ b here x) → a ≡ b
 same-expander a b h = fun-ext (λ here. fun-ext (λ x. h here x))
 
-right-expand : (d : ℕ) (here : Surroundings) (x : Stx) → ruledExpand rightRules d here x ≡ expand d here x
-unfolding ruledExpand expand
-right-expand zero here x = refl
-right-expand (suc d) here x =
-    ap (λ (self : Expander). λ (s : State). after (charge 1 s) (λ (v : Unit {0}). ruledEntry rightRules self d here x))
-    (same-expander (λ there y. ruledExpand rightRules d there y) (λ there y. expand d there y) (right-expand d))
-    ∙ ap (λ (g : Step Stx). λ (s : State). after (charge 1 s) (λ (v : Unit {0}). g)) (right-entry (λ there y. expand d there y) d here x)
+same-evaluator : (a b : Evaluator) → ((place : Place) (t : Tree) → a place t ≡ b place t) → a ≡ b
+same-evaluator a b h = fun-ext (λ place. fun-ext (λ t. h place t))
+
+mutual
+  unfolding ruledExpand expand
+
+  right-evaluate : (d : ℕ) (place : Place) (t : Tree) → ruledEvaluate d rightRules place t ≡ evaluate d place t
+  right-evaluate zero place t = refl
+  right-evaluate (suc d) place t =
+      ap (λ (value : Evaluator). λ (s : State). after (charge 1 s) (λ (v : Unit {0}). evalEntry value (λ there y. ruledExpand d rightRules there y) place t))
+      (same-evaluator (λ there u. ruledEvaluate d rightRules there u) (λ there u. evaluate d there u) (λ there u. right-evaluate d there u))
+      ∙ ap (λ (self : Expander). λ (s : State). after (charge 1 s) (λ (v : Unit {0}). evalEntry (λ there u. evaluate d there u) self place t))
+      (same-expander (λ there y. ruledExpand d rightRules there y) (λ there y. expand d there y) (λ there y. right-expand d there y))
+
+  right-expand : (d : ℕ) (here : Surroundings) (x : Stx) → ruledExpand d rightRules here x ≡ expand d here x
+  right-expand zero here x = refl
+  right-expand (suc d) here x =
+      ap (λ (self : Expander). λ (s : State). after (charge 1 s) (λ (v : Unit {0}). ruledEntry rightRules self (λ there u. ruledEvaluate d rightRules there u) d here x))
+      (same-expander (λ there y. ruledExpand d rightRules there y) (λ there y. expand d there y) (λ there y. right-expand d there y))
+      ∙ ap (λ (value : Evaluator). λ (s : State). after (charge 1 s) (λ (v : Unit {0}). ruledEntry rightRules (λ there y. expand d there y) value d here x))
+      (same-evaluator (λ there u. ruledEvaluate d rightRules there u) (λ there u. evaluate d there u) (λ there u. right-evaluate d there u))
+      ∙ ap (λ (g : Step Stx). λ (s : State). after (charge 1 s) (λ (v : Unit {0}). g)) (right-entry (λ there y. expand d there y) (λ there u. evaluate d there u) d here x)
 
 right-root : (ph : ℕ) (x : Stx) → ruledRoot rightRules ph x ≡ expandRoot ph x
 unfolding ruledRoot expandRoot

@@ -6,11 +6,13 @@ use Rattle.model.specs.Limits.{mostEntries}
 use Rattle.model.specs.Refusals.{noRule, tooManyEntries}
 use Rattle.model.specs.Scopes.{Scope, add}
 use Rattle.model.specs.Objects.{Symbol, Phase, symbol, number, point, prim, rung, Sets, setAt, changeAt, Stx, atom, list, Stxs, nil, cons, size}
+use Rattle.model.specs.Trees.{Tree}
 use Rattle.model.specs.Reading.{readSyntax, readImage}
 use Rattle.model.specs.Writing.{syntaxBytes}
+use Rattle.model.specs.Meanings.{lambda, letSyntax, quote, syntax, Meaning, core, variable, macro, stopped, unknown, meaningAmong, Surroundings, ofRoot, Place}
 use Rattle.model.specs.Steps.{Units, Entries, Step, ok, done, refuse, charge, made, addTo, freshScope, inside, bind, resolveAt, parts1, parts2, identifier, _>>=_, _>>_}
-use Rattle.model.specs.Parsing.{lambda, letSyntax, quote, syntax}
-use Rattle.model.specs.Expanding.{Meaning, core, variable, macro, unknown, meaning, headMeaning, expandName, Binder, bindFresh, Surroundings, ofRoot, ofBody, Expander, expandAll, expandSyntax, expandLetSyntax, expandMacro}
+use Rattle.model.specs.Evaluating.{Expander, Evaluator, evalEntry}
+use Rattle.model.specs.Expanding.{headMeaning, expandName, Binder, bindFresh, ofBody, expandAll, expandSyntax, expandLetSyntax, expandMacro}
 use Rattle.model.specs.Jobs.{Ending, lent, atPhase, withImage, start, worked, fitted, reached}
 use Rattle.proof_bench.specs.Contracts.{Expanding}
 
@@ -42,42 +44,52 @@ ruledApplication w self here c l = do
   r ← w .parts (λ x. inside (λ p. p) (self here x)) l
   made (list c r)
 
-unfoldable pub ruledForm : Rules → Expander → Entries → Surroundings → Sets → Stx → Stxs → Meaning → Step Stx
+unfoldable pub ruledForm : Rules → Expander → Evaluator → Entries → Surroundings → Sets → Stx → Stxs → Meaning → Step Stx
 unfolding ruledLambda expandLetSyntax expandSyntax expandMacro ruledApplication parts1
-ruledForm w self d here c h l (core lambda) = ruledLambda w self here c h l
-ruledForm w self d here c h l (core letSyntax) = expandLetSyntax self d here l
-ruledForm w self d here c h l (core quote) = parts1 l (λ s. done (list c (cons h l)))
-ruledForm w self d here c h l (core syntax) = expandSyntax (here .phase) c h l
-ruledForm w self d here c h l (variable b x) = ruledApplication w self here c (cons h l)
-ruledForm w self d here c h l (macro v) = expandMacro self d here v (list c (cons h l))
-ruledForm w self d here c h l unknown = ruledApplication w self here c (cons h l)
+ruledForm w self value d here c h l (core lambda) = ruledLambda w self here c h l
+ruledForm w self value d here c h l (core letSyntax) = expandLetSyntax self value d here l
+ruledForm w self value d here c h l (core quote) = parts1 l (λ s. done (list c (cons h l)))
+ruledForm w self value d here c h l (core syntax) = expandSyntax (here .phase) c h l
+ruledForm w self value d here c h l (variable b x) = ruledApplication w self here c (cons h l)
+ruledForm w self value d here c h l (macro v) = expandMacro self value here v (list c (cons h l))
+ruledForm w self value d here c h l stopped = done (list c (cons h l))
+ruledForm w self value d here c h l unknown = ruledApplication w self here c (cons h l)
 
-unfoldable pub ruledEntry : Rules → Expander → Entries → Surroundings → Stx → Step Stx
-unfolding resolveAt meaning expandName headMeaning ruledForm
-ruledEntry w self d here (atom c (symbol x)) = do
+unfoldable pub ruledEntry : Rules → Expander → Evaluator → Entries → Surroundings → Stx → Step Stx
+unfolding resolveAt meaningAmong expandName headMeaning ruledForm
+ruledEntry w self value d here (atom c (symbol x)) = do
   n ← resolveAt (here .phase) c x
-  expandName (w .means c x (meaning n (here .meanings)))
-ruledEntry w self d here (atom c (number x)) = done (atom c (number x))
-ruledEntry w self d here (atom c (point x)) = done (atom c (point x))
-ruledEntry w self d here (atom c (prim x)) = done (atom c (prim x))
-ruledEntry w self d here (atom c (rung x)) = done (atom c (rung x))
-ruledEntry w self d here (list c nil) = refuse noRule
-ruledEntry w self d here (list c (cons h l)) = do
-  m ← headMeaning (here .phase) (here .meanings) h
-  ruledForm w self d here c h l m
+  expandName (w .means c x (meaningAmong n (here .meanings) (here .stops)))
+ruledEntry w self value d here (atom c (number x)) = done (atom c (number x))
+ruledEntry w self value d here (atom c (point x)) = done (atom c (point x))
+ruledEntry w self value d here (atom c (prim x)) = done (atom c (prim x))
+ruledEntry w self value d here (atom c (rung x)) = done (atom c (rung x))
+ruledEntry w self value d here (list c nil) = refuse noRule
+ruledEntry w self value d here (list c (cons h l)) = do
+  m ← headMeaning here h
+  ruledForm w self value d here c h l m
 
-unfoldable pub ruledExpand : Rules → Entries → Surroundings → Stx → Step Stx
-unfolding charge ruledEntry
-ruledExpand w zero here s = refuse tooManyEntries
-ruledExpand w (suc d) here s = do
-  charge 1
-  ruledEntry w (λ there x. ruledExpand w d there x) d here s
+-- evaluating expands by the same rules (request T-08)
+unfoldable mutual
+  unfolding charge evalEntry ruledEntry
+
+  pub ruledEvaluate : Entries → Rules → Place → Tree → Step Tree
+  ruledEvaluate zero w place t = refuse tooManyEntries
+  ruledEvaluate (suc d) w place t = do
+    charge 1
+    evalEntry (λ there u. ruledEvaluate d w there u) (λ there x. ruledExpand d w there x) place t
+
+  pub ruledExpand : Entries → Rules → Surroundings → Stx → Step Stx
+  ruledExpand zero w here s = refuse tooManyEntries
+  ruledExpand (suc d) w here s = do
+    charge 1
+    ruledEntry w (λ there x. ruledExpand d w there x) (λ there u. ruledEvaluate d w there u) d here s
 
 unfoldable pub ruledRoot : Rules → Phase → Stx → Step Stx
 unfolding charge size ruledExpand mostEntries
 ruledRoot w ph x = do
   charge (size x)
-  ruledExpand w mostEntries (ofRoot ph) x
+  ruledExpand mostEntries w (ofRoot ph) x
 
 unfoldable pub ruledEnding : Rules → List ℕ → Phase → Units → ℕ → Ending
 unfolding atPhase withImage readImage readSyntax worked start ruledRoot fitted syntaxBytes reached
@@ -146,6 +158,7 @@ unfoldable pub itself : Sets → Symbol → Meaning → Meaning
 itself c x (core f) = core f
 itself c x (variable b y) = variable c x
 itself c x (macro v) = macro v
+itself c x stopped = stopped
 itself c x unknown = unknown
 
 unfoldable pub ownIdentifiers : Rules
