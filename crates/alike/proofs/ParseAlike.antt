@@ -7,8 +7,9 @@ use Rattle.model.specs.Refusals.{noRule, tooManyEntries}
 use Rattle.model.specs.Objects.{symbol, number, point, prim, rung, Sets, setAt, Stx, atom, list, Stxs, nil, cons, size}
 use Rattle.model.specs.Trees.{Tree, strip}
 use Rattle.model.specs.Resolving.{resolve}
+use Rattle.model.specs.Meanings.{Form, lambda, letSyntax, quote, syntax}
 use Rattle.model.specs.Steps.{State, Step, resolveAt, parts1, parts2, identifier}
-use Rattle.model.specs.Parsing.{Form, lambda, letSyntax, quote, syntax, headForm, parseAll, parseForm, parseEntry, parse}
+use Rattle.model.specs.Parsing.{headForm, parseAll, parseForm, parseEntry, parse}
 use Rattle.alike.proofs.Alike.{NewNumbers, SetsAlike, StxAlike, atoms, lists, StxsAlike, nils, conses, TreeAlike, vars, apps, funs, datums, stxs, TreesAlike, tnils, tconses, Same, same}
 use Rattle.alike.proofs.Things.{size-alike, strip-alike}
 use Rattle.alike.proofs.Runs.{Pairing, StepAlike, then-alike, then-same, done-alike, refuse-alike, charge-alike, charged-alike, resolveAt-agree}

@@ -3,18 +3,20 @@ use mathlib.Core.Path.{_≡_}
 use Prim.Native.Nat.{ℕ}
 use mathlib.Core.Bool.{Bool, true, false}
 use mathlib.Core.Option.{Option, none, some}
+use mathlib.Core.List.{List}
 use lib.Dec.{eqb}
 use Rattle.model.specs.Choice.{if_then_else_}
 use Rattle.model.specs.Objects.{Sets}
 use Rattle.model.specs.Trees.{Tree}
-use Rattle.model.specs.Parsing.{Form, formOf}
-use Rattle.model.specs.Expanding.{Meaning, core, variable, macro, unknown, Env, coreOnly, extend, coreMeaning, meaning, Binder, Surroundings}
+use Rattle.model.specs.Meanings.{Form, formOf, Meaning, core, variable, macro, stopped, unknown, Env, coreOnly, extend, coreMeaning, meaning, isAmong, meaningAmong, Surroundings, Place, nowhere, macroUse}
+use Rattle.model.specs.Expanding.{Binder}
 use Rattle.alike.proofs.Alike.{NewNumbers, SetsAlike, TreeAlike}
 
 pub data MeaningAlike (ρ : NewNumbers) : Meaning → Meaning → Type 0 where
   cores : {f : Form} → MeaningAlike ρ (core f) (core f)
   variables : {c d : Sets} {x : ℕ} → SetsAlike ρ c d → MeaningAlike ρ (variable c x) (variable d x)
   macros : {v w : Tree} → TreeAlike ρ v w → MeaningAlike ρ (macro v) (macro w)
+  stoppeds : MeaningAlike ρ stopped stopped
   unknowns : MeaningAlike ρ unknown unknown
 
 pub data EnvAlike (ρ : NewNumbers) : Env → Env → Type 0 where
@@ -22,7 +24,13 @@ pub data EnvAlike (ρ : NewNumbers) : Env → Env → Type 0 where
   extends : {n : ℕ} {m o : Meaning} {e f : Env} → MeaningAlike ρ m o → EnvAlike ρ e f → EnvAlike ρ (extend n m e) (extend n o f)
 
 pub data HereAlike (ρ : NewNumbers) : Surroundings → Surroundings → Type 0 where
-  heres : {ph : ℕ} {e f : Env} → EnvAlike ρ e f → HereAlike ρ (record { phase = ph; meanings = e }) (record { phase = ph; meanings = f })
+  heres : {ph : ℕ} {e f : Env} {z : List ℕ} → EnvAlike ρ e f
+      → HereAlike ρ (record { phase = ph; meanings = e; stops = z }) (record { phase = ph; meanings = f; stops = z })
+
+-- an introduction scope was fresh
+pub data PlaceAlike (ρ : NewNumbers) : Place → Place → Type 0 where
+  nowheres : PlaceAlike ρ nowhere nowhere
+  macro-uses : {k : ℕ} {a b : Surroundings} → ρ .to k ≡ k → HereAlike ρ a b → PlaceAlike ρ (macroUse k a) (macroUse k b)
 
 -- a scope that is left as it is
 pub data ScopeAlike (ρ : NewNumbers) : ℕ → ℕ → Type 0 where
@@ -46,3 +54,7 @@ module _ (ρ : NewNumbers) where
   unfolding meaning
   meaning-alike n core-only = core-alike (formOf n)
   meaning-alike k (extends {n} h i) = choice-alike (eqb k n) h (meaning-alike k i)
+
+  pub among-alike : (n : ℕ) {e f : Env} → EnvAlike ρ e f → (z : List ℕ) → MeaningAlike ρ (meaningAmong n e z) (meaningAmong n f z)
+  unfolding meaningAmong
+  among-alike n h z = choice-alike (isAmong n z) stoppeds (meaning-alike n h)

@@ -9,8 +9,8 @@ use Rattle.model.specs.Objects.{Stx, size}
 use Rattle.model.specs.Resolving.{Bind}
 use Rattle.model.specs.Reading.{got, Head, symbols, Image, readSyntax, readImage}
 use Rattle.model.specs.Writing.{syntaxBytes}
+use Rattle.model.specs.Meanings.{ofRoot}
 use Rattle.model.specs.Steps.{State, Out}
-use Rattle.model.specs.Expanding.{ofRoot}
 use Rattle.model.specs.Jobs.{Ending, atPhase, start, worked, fitted, reached, expandRoot, expandEnding, expandJob}
 use Rattle.codec_laws.specs.WellFormed.{Bytes, HeadFits, SyntaxFits}
 use Rattle.codec_laws.proofs.ImageLaws.{syntax-read-keeps-limits, syntax-written-then-read}
@@ -96,7 +96,7 @@ module _ (i : Image Stx) (fit : SyntaxFits (i .head) (i .binds) (i .root)) (f : 
   unfolding start
   start-alike budget =
       states (le-refl n)
-      (renumbered-alike ρ zero-is n few-scopes up (symbols (i .head)) (i .head .names) (i .binds) (fit .binds-fit) (fit .ascending)) (none-alike ρ)
+      (renumbered-alike ρ zero-is n few-scopes up (symbols (i .head)) (i .head .names) (i .binds) (fit .binds-fit) (fit .ascending)) (none-alike ρ) (none-alike ρ)
 
   -- ---- what is written
 
@@ -117,7 +117,7 @@ module _ (i : Image Stx) (fit : SyntaxFits (i .head) (i .binds) (i .root)) (f : 
       → SyntaxFits (reached (i .head) t) (t .binds) b
       → syntaxBytes (reached (i .head) t) (t .binds) b ≡ renumbered g (syntaxBytes (reached (i .head) s) (s .binds) a)
   unfolding reached
-  state-written a b like s t (states {names} {reached = k} {l} {r = m} base store pruned) one two =
+  state-written a b like s t (states {names} {reached = k} {l} {r = m} base store pruned used) one two =
       written-alike (record { words = i .head .words; names = names; scopes = k }) a b l m base store like one two
 
   -- ---- how the two jobs end

@@ -9,15 +9,15 @@ use lib.ListN.{length}
 use Rattle.model.specs.Choice.{if_then_else_}
 use Rattle.model.specs.Limits.{mostNames, mostScopes, mostBindings}
 use Rattle.model.specs.Refusals.{noNameLeft, noScopeLeft, noBindingLeft}
-use Rattle.model.specs.Scopes.{Scopes, add, flip, prune}
+use Rattle.model.specs.Scopes.{Scopes, noScopes, add, flip, prune}
 use Rattle.model.specs.Objects.{Sets, setAt, changeAt, Stx, Stxs, size, onSets, onSetsAll, addScope, flipScope, pruneScopes}
 use Rattle.model.specs.Resolving.{Bind, insert, resolve}
 use Rattle.model.specs.Competing.{noRivals}
-use Rattle.model.specs.Steps.{State, Out, ok, no, Step, after, addTo, flipIn, pruneFrom, freshName, freshScope, prunableNow, carrying, useScope, inside, bind, resolveAt}
+use Rattle.model.specs.Steps.{State, Out, ok, no, Step, after, addTo, flipIn, pruneFrom, freshName, freshScope, prunableNow, usesNow, carrying, useScope, inside, bind, resolveAt}
 use Rattle.model.specs.Expanding.{Binder, bindFresh}
 use Rattle.laws.proofs.StepLaws.{spend}
 use Rattle.alike.proofs.Alike.{NewNumbers, SetAlike, SetsAlike, BindAlike, StxAlike, atoms, lists, StxsAlike, nils, conses, Same, same}
-use Rattle.alike.proofs.SetLaws.{add-alike, flip-alike, prune-alike, setAt-alike, changeAt-alike}
+use Rattle.alike.proofs.SetLaws.{none-alike, add-alike, flip-alike, prune-alike, setAt-alike, changeAt-alike}
 use Rattle.alike.proofs.Stores.{StoreAlike, insert-alike, resolve-alike}
 use Rattle.alike.proofs.Things.{size-alike}
 use Rattle.alike.proofs.Runs.{Pairing, OutAlike, oks, nos, StepAlike, after-alike, then-alike, then-same, done-alike, charge-alike, charged-alike, resolveAt-agree}
@@ -29,18 +29,18 @@ pub record Renumbering : Type 0 where
   pub upTo : ℕ
   pub fixed : (k : ℕ) → upTo < k → map .to k ≡ k
 
--- the same units left, the same names and scopes reached, at least n; and bindings and the prunable set alike
+-- the same units left, the same names and scopes reached, at least n; and bindings, the prunable set and the use scopes alike
 pub data StateAlike (ρ : NewNumbers) (n : ℕ) : State → State → Type 0 where
-  states : {left names reached : ℕ} {l r : List Bind} {p o : Scopes} → n ≤ reached → StoreAlike ρ l r → SetAlike ρ p o
-      → StateAlike ρ n (record { left = left; names = names; scopes = reached; binds = l; prunable = p })
-      (record { left = left; names = names; scopes = reached; binds = r; prunable = o })
+  states : {left names reached : ℕ} {l r : List Bind} {p o u v : Scopes} → n ≤ reached → StoreAlike ρ l r → SetAlike ρ p o → SetAlike ρ u v
+      → StateAlike ρ n (record { left = left; names = names; scopes = reached; binds = l; prunable = p; uses = u })
+      (record { left = left; names = names; scopes = reached; binds = r; prunable = o; uses = v })
 
 pub left-same : (ρ : NewNumbers) (n : ℕ) (s t : State) → StateAlike ρ n s t → s .left ≡ t .left
-left-same ρ n s t (states b h i) = refl
+left-same ρ n s t (states b h i j) = refl
 
 pub spent-alike : (ρ : NewNumbers) (n k : ℕ) (s t : State) → StateAlike ρ n s t → StateAlike ρ n (spend k s) (spend k t)
 unfolding spend
-spent-alike ρ n k s t (states b h i) = states b h i
+spent-alike ρ n k s t (states b h i j) = states b h i j
 
 unfoldable pub pairing : Renumbering → Pairing
 pairing q = record { rel = StateAlike (q .map) (q .upTo); left-is = left-same (q .map) (q .upTo); spent = spent-alike (q .map) (q .upTo) }
@@ -108,16 +108,16 @@ module _ (q : Renumbering) where
   freshName-alike = record { run = go }
     where
       go : (s t : State) → StateAlike ρ (q .upTo) s t → OutAlike W (Same {A = ℕ}) (freshName s) (freshName t)
-      go s t (states {left} {names} {reached} {l} {r} {p} {o} b h i) = test (ltb names mostNames)
+      go s t (states {left} {names} {reached} {l} {r} {p} {o} {u} {v} b h i j) = test (ltb names mostNames)
         where
-          named : List Bind → Scopes → Bool → Out ℕ
-          named z a x =
+          named : List Bind → Scopes → Scopes → Bool → Out ℕ
+          named z a c x =
               if x
-              then ok names (record { left = left; names = names + 1; scopes = reached; binds = z; prunable = a })
+              then ok names (record { left = left; names = names + 1; scopes = reached; binds = z; prunable = a; uses = c })
               else no noNameLeft noRivals left
 
-          test : (x : Bool) → OutAlike W (Same {A = ℕ}) (named l p x) (named r o x)
-          test true = oks same (states b h i)
+          test : (x : Bool) → OutAlike W (Same {A = ℕ}) (named l p u x) (named r o v x)
+          test true = oks same (states b h i j)
           test false = nos
 
   pub freshScope-alike : StepAlike W (ScopeAlike ρ) freshScope freshScope
@@ -125,49 +125,58 @@ module _ (q : Renumbering) where
   freshScope-alike = record { run = go }
     where
       go : (s t : State) → StateAlike ρ (q .upTo) s t → OutAlike W (ScopeAlike ρ) (freshScope s) (freshScope t)
-      go s t (states {left} {names} {reached} {l} {r} {p} {o} b h i) = test (ltb reached mostScopes)
+      go s t (states {left} {names} {reached} {l} {r} {p} {o} {u} {v} b h i j) = test (ltb reached mostScopes)
         where
-          scoped : List Bind → Scopes → Bool → Out ℕ
-          scoped z a x =
+          scoped : List Bind → Scopes → Scopes → Bool → Out ℕ
+          scoped z a c x =
               if x
-              then ok (reached + 1) (record { left = left; names = names; scopes = reached + 1; binds = z; prunable = a })
+              then ok (reached + 1) (record { left = left; names = names; scopes = reached + 1; binds = z; prunable = a; uses = c })
               else no noScopeLeft noRivals left
 
-          test : (x : Bool) → OutAlike W (ScopeAlike ρ) (scoped l p x) (scoped r o x)
-          test true = oks (scopes (q .fixed (reached + 1) (omega arith))) (states {reached = reached + 1} (omega arith) h i)
+          test : (x : Bool) → OutAlike W (ScopeAlike ρ) (scoped l p u x) (scoped r o v x)
+          test true = oks (scopes (q .fixed (reached + 1) (omega arith))) (states {reached = reached + 1} (omega arith) h i j)
           test false = nos
 
-  -- ---- the prunable set of the expansion in progress
+  -- ---- the prunable set and the use scopes of the expansion in progress
 
   pub prunableNow-alike : StepAlike W (SetAlike ρ) prunableNow prunableNow
   unfolding prunableNow pairing
   prunableNow-alike = record { run = go }
     where
       go : (s t : State) → StateAlike ρ (q .upTo) s t → OutAlike W (SetAlike ρ) (prunableNow s) (prunableNow t)
-      go s t (states b h i) = oks i (states b h i)
+      go s t (states b h i j) = oks i (states b h i j)
 
-  carrying-alike : (a b : Scopes) → SetAlike ρ a b → (s t : State) → StateAlike ρ (q .upTo) s t → StateAlike ρ (q .upTo) (carrying a s) (carrying b t)
+  pub usesNow-alike : StepAlike W (SetAlike ρ) usesNow usesNow
+  unfolding usesNow pairing
+  usesNow-alike = record { run = go }
+    where
+      go : (s t : State) → StateAlike ρ (q .upTo) s t → OutAlike W (SetAlike ρ) (usesNow s) (usesNow t)
+      go s t (states b h i j) = oks j (states b h i j)
+
+  carrying-alike : (a b c d : Scopes) → SetAlike ρ a b → SetAlike ρ c d → (s t : State) → StateAlike ρ (q .upTo) s t
+      → StateAlike ρ (q .upTo) (carrying a c s) (carrying b d t)
   unfolding carrying
-  carrying-alike a b m s t (states e h i) = states e h m
+  carrying-alike a b c d m k s t (states e h i j) = states e h m k
 
   pub useScope-alike : (k : ℕ) → ρ .to k ≡ k → StepAlike W (Same {A = Unit {0}}) (useScope k) (useScope k)
   unfolding useScope pairing
   useScope-alike k f = record { run = go }
     where
       go : (s t : State) → StateAlike ρ (q .upTo) s t → OutAlike W (Same {A = Unit {0}}) (useScope k s) (useScope k t)
-      go s t (states {left} {names} {reached} {l} {r} {p} {o} b h i) = oks same (carrying-alike _ _ (add-alike ρ k f p o i) _ _ (states b h i))
+      go s t (states {left} {names} {reached} {l} {r} {p} {o} {u} {v} b h i j) =
+          oks same (carrying-alike _ _ _ _ (add-alike ρ k f p o i) (add-alike ρ k f u v j) _ _ (states b h i j))
 
   pub inside-alike : {A : Type 0} {R : A → A → Type 0} (f g : Scopes → Scopes) → ((a b : Scopes) → SetAlike ρ a b → SetAlike ρ (f a) (g b))
       → (m n : Step A) → StepAlike W R m n → StepAlike W R (inside f m) (inside g n)
   unfolding inside pairing
   inside-alike {A} {R} f g z m n w = record { run = go }
     where
-      put : (a b : Scopes) → SetAlike ρ a b → (e o : A) → R e o → StepAlike W R (λ t. ok e (carrying a t)) (λ t. ok o (carrying b t))
-      put a b i e o r = record { run = λ s t h. oks r (carrying-alike a b i s t h) }
+      put : (a b c d : Scopes) → SetAlike ρ a b → SetAlike ρ c d → (e o : A) → R e o → StepAlike W R (λ t. ok e (carrying a c t)) (λ t. ok o (carrying b d t))
+      put a b c d i j e o r = record { run = λ s t h. oks r (carrying-alike a b c d i j s t h) }
 
       go : (s t : State) → StateAlike ρ (q .upTo) s t → OutAlike W R (inside f m s) (inside g n t)
-      go s t (states {left} {names} {reached} {l} {r} {p} {o} b h i) =
-          after-alike _ _ (w .run _ _ (carrying-alike (f p) (g o) (z p o i) _ _ (states b h i))) (λ x y e. put p o i x y e)
+      go s t (states {left} {names} {reached} {l} {r} {p} {o} {u} {v} b h i j) =
+          after-alike _ _ (w .run _ _ (carrying-alike (f p) (g o) noScopes noScopes (z p o i) (none-alike ρ) _ _ (states b h i j))) (λ x y e. put p o u v i j x y e)
 
   -- ---- bindings
 
@@ -176,24 +185,24 @@ module _ (q : Renumbering) where
   bind-alike a b z = record { run = go }
     where
       go : (s t : State) → StateAlike ρ (q .upTo) s t → OutAlike W (Same {A = Unit {0}}) (bind a s) (bind b t)
-      go s t (states {left} {names} {reached} {l} {r} {p} {o} e h i) =
+      go s t (states {left} {names} {reached} {l} {r} {p} {o} {u} {v} e h i j) =
           test (ltb (length l) mostBindings) (ltb (length r) mostBindings) (ap (λ (x : ℕ). ltb x mostBindings) (h .same-length))
         where
-          bound : List Bind → Scopes → Bool → Out (Unit {0})
-          bound m c x =
+          bound : List Bind → Scopes → Scopes → Bool → Out (Unit {0})
+          bound m c d x =
               if x
-              then ok tt (record { left = left; names = names; scopes = reached; binds = m; prunable = c })
+              then ok tt (record { left = left; names = names; scopes = reached; binds = m; prunable = c; uses = d })
               else no noBindingLeft noRivals left
 
-          test : (x y : Bool) → x ≡ y → OutAlike W (Same {A = Unit {0}}) (bound (insert a l) p x) (bound (insert b r) o y)
-          test true true x = oks same (states e (insert-alike ρ l r h a b z) i)
+          test : (x y : Bool) → x ≡ y → OutAlike W (Same {A = Unit {0}}) (bound (insert a l) p u x) (bound (insert b r) o v y)
+          test true true x = oks same (states e (insert-alike ρ l r h a b z) i j)
           test true false x = absurd (true≢false x)
           test false true x = absurd (false≢true x)
           test false false x = nos
 
   pub agree-alike : (ph x : ℕ) (c d : Sets) → SetsAlike ρ c d → (s t : State) → StateAlike ρ (q .upTo) s t
       → resolve x (setAt ph c) (s .binds) ≡ resolve x (setAt ph d) (t .binds)
-  agree-alike ph x c d i s t (states {left} {names} {reached} {l} {r} b h j) =
+  agree-alike ph x c d i s t (states {left} {names} {reached} {l} {r} b h j k) =
       resolve-alike ρ l r h x (setAt ph c) (setAt ph d) (setAt-alike ρ ph c d i)
 
   pub resolveAt-alike : (ph : ℕ) (c d : Sets) → SetsAlike ρ c d → (x : ℕ) → StepAlike W (Same {A = ℕ}) (resolveAt ph c x) (resolveAt ph d x)

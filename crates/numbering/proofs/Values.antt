@@ -4,11 +4,12 @@ use mathlib.Core.Path.{_≡_, refl, ap, ap₂}
 use Prim.Native.Nat.{ℕ, zero, suc, _+_, max}
 use mathlib.Core.Bool.{Bool, true, false}
 use mathlib.Core.Option.{Option, none, some}
+use mathlib.Core.List.{List, [], _∷_}
 use lib.Dec.{eqb}
 use Rattle.model.specs.Choice.{if_then_else_, given}
-use Rattle.model.specs.Objects.{Atom, Sets, Stx, Stxs}
+use Rattle.model.specs.Objects.{Atom, symbol, number, point, prim, rung, Sets, Stx, Stxs}
 use Rattle.model.specs.Trees.{Tree, Trees, tcount, tsizeBy, tsizesBy, tsize, tnesting, tnestings, substitute, substituteAll, asStx, asAtom, asList, asNumber, fromStxs, toStxs}
-use Rattle.model.specs.Evaluating.{Primitive, stxE, mkStx, first, rest, link, same, pick, content, setsOf, remade, firstOf, restOf, picked, primitive, argument, applicable}
+use Rattle.model.specs.Evaluating.{Plain, stxE, mkStx, first, rest, link, same, pick, content, setsOf, remade, firstOf, restOf, picked, primitive, Id, idOf, asId, asIds, argument, applicable, isLocal}
 use Rattle.alike.proofs.Alike.{NewNumbers, SetsAlike, StxAlike, atoms, lists, StxsAlike, nils, conses, TreeAlike, vars, apps, funs, datums, lsts, stxs, TreesAlike, tnils, tconses, Same}
 use Rattle.alike.proofs.Things.{nesting-alike}
 
@@ -18,7 +19,7 @@ pub data OptionAlike {A : Type 0} (R : A → A → Type 0) : Option A → Option
   nones : OptionAlike R none none
   somes : {a b : A} → R a b → OptionAlike R (some a) (some b)
 
-given-alike : {A B : Type 0} {R : A → A → Type 0} {S : B → B → Type 0} {o p : Option A} (f g : A → Option B) → OptionAlike R o p
+pub given-alike : {A B : Type 0} {R : A → A → Type 0} {S : B → B → Type 0} {o p : Option A} (f g : A → Option B) → OptionAlike R o p
     → ((a b : A) → R a b → OptionAlike S (f a) (g b)) → OptionAlike S (given o f) (given p g)
 given-alike f g nones k = nones
 given-alike f g (somes h) k = k _ _ h
@@ -170,7 +171,7 @@ module _ (ρ : NewNumbers) where
   picked-alike zero h i = i
   picked-alike (suc n) h i = h
 
-  pub primitive-alike : (p : Primitive) {a b c d e f : Tree} → TreeAlike ρ a b → TreeAlike ρ c d → TreeAlike ρ e f
+  pub primitive-alike : (p : Plain) {a b c d e f : Tree} → TreeAlike ρ a b → TreeAlike ρ c d → TreeAlike ρ e f
       → OptionAlike (TreeAlike ρ) (primitive p a c e) (primitive p b d f)
   unfolding primitive
   primitive-alike stxE h i j = given-alike _ _ (asStx-alike h) (λ x y k. somes (content-alike k))
@@ -182,6 +183,33 @@ module _ (ρ : NewNumbers) where
   primitive-alike same h i j = same-given _ _ (asAtom-alike h) (λ x. same-given _ _ (asAtom-alike i) (λ y. somes datums))
   primitive-alike pick h i j =
       same-given _ _ (asAtom-alike h) (λ x. same-given _ _ (same-option (asNumber x)) (λ k. somes (picked-alike k i j)))
+
+  -- ---- identifiers (request T-08)
+
+  pub data IdAlike : Id → Id → Type 0 where
+    ids : {c d : Sets} {x : ℕ} → SetsAlike ρ c d → IdAlike (record { sets = c; symb = x }) (record { sets = d; symb = x })
+
+  pub data IdsAlike : List Id → List Id → Type 0 where
+    no-ids : IdsAlike [] []
+    more-ids : {i j : Id} {l r : List Id} → IdAlike i j → IdsAlike l r → IdsAlike (i ∷ l) (j ∷ r)
+
+  idOf-alike : (x y : Stx) → StxAlike ρ x y → OptionAlike IdAlike (idOf x) (idOf y)
+  unfolding idOf
+  idOf-alike x y (atoms (symbol n) h) = somes (ids h)
+  idOf-alike x y (atoms (number n) h) = nones
+  idOf-alike x y (atoms (point n) h) = nones
+  idOf-alike x y (atoms (prim n) h) = nones
+  idOf-alike x y (atoms (rung n) h) = nones
+  idOf-alike x y (lists h i) = nones
+
+  pub asId-alike : {t u : Tree} → TreeAlike ρ t u → OptionAlike IdAlike (asId t) (asId u)
+  unfolding asId
+  asId-alike h = given-alike _ _ (asStx-alike h) idOf-alike
+
+  pub asIds-alike : (l r : Trees) → TreesAlike ρ l r → OptionAlike IdsAlike (asIds l) (asIds r)
+  unfolding asIds
+  asIds-alike l r tnils = somes no-ids
+  asIds-alike l r (tconses {l = m} {r = n} h i) = given-alike _ _ (asId-alike h) (λ a b j. given-alike _ _ (asIds-alike m n i) (λ c d k. somes (more-ids j k)))
 
   -- ---- applying
 
@@ -199,3 +227,12 @@ module _ (ρ : NewNumbers) where
   applicable-alike datums n = refl
   applicable-alike (lsts i) n = refl
   applicable-alike (stxs h) n = refl
+
+  pub isLocal-alike : {t u : Tree} → TreeAlike ρ t u → isLocal t ≡ isLocal u
+  unfolding isLocal asAtom
+  isLocal-alike vars = refl
+  isLocal-alike (apps h i) = refl
+  isLocal-alike (funs h) = refl
+  isLocal-alike datums = refl
+  isLocal-alike (lsts i) = refl
+  isLocal-alike (stxs h) = refl
