@@ -10,7 +10,7 @@ use lib.Seq.{drop-append-seam}
 use borrow.Author.Tests.{eqb-true, eqb-false, eq-eqb, ne-eqb}
 use Rattle.model.specs.Choice.{if_then_else_}
 use Rattle.model.specs.Trees.{Tree}
-use Rattle.model.specs.Jobs.{isAmong}
+use Rattle.model.specs.Meanings.{isAmong}
 use Rattle.requests.specs.Recording.{Change}
 use Rattle.requests.specs.Scanning.{State, scan, scans}
 use Rattle.requests.specs.ScanJob.{lineAfter, ascending, drivenPlaces, linesFrom}

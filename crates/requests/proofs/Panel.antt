@@ -11,7 +11,8 @@ use Rattle.model.specs.Choice.{if_then_else_}
 use Rattle.model.specs.Refusals.{Refusal, unowned, tooLong, codeOf}
 use Rattle.model.specs.Trees.{Tree}
 use Rattle.model.specs.Reading.{Read, got, fault, Image, readTreeImage, readImage}
-use Rattle.model.specs.Jobs.{isAmong, closed}
+use Rattle.model.specs.Meanings.{isAmong}
+use Rattle.model.specs.Jobs.{closed}
 use borrow.Author.Tests.{leb-true, eqb-true, eq-eqb, not-true}
 use Rattle.laws.proofs.Tests.{and-both, or-right}
 use Rattle.addresses.specs.OneNameOneAddress.{AllDifferent}

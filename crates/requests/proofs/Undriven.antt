@@ -12,7 +12,7 @@ use Rattle.model.specs.Choice.{if_then_else_}
 use Rattle.model.specs.Limits.{lastPoint}
 use Rattle.model.specs.Objects.{symbol, number, point, prim, rung}
 use Rattle.model.specs.Trees.{Tree, var, app, fun, datum, lst, stx, Trees, tnil, tcons}
-use Rattle.model.specs.Jobs.{isAmong}
+use Rattle.model.specs.Meanings.{isAmong}
 use Rattle.requests.specs.Panel as p
 use Rattle.requests.specs.Panel.{Word, bit, and, or, out, all, free, headWord, bitsOf, pointOf, firstPoint, drivenOf, driven, drivenInside, drivenAll}
 use Rattle.requests.specs.Recording.{Change}

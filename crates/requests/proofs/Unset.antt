@@ -7,7 +7,7 @@ use lib.ListN.{length, getD, set}
 use lib.Seq.{getD-set-other}
 use Rattle.model.specs.Objects.{symbol, number, point, prim, rung}
 use Rattle.model.specs.Trees.{Tree, var, app, fun, datum, lst, stx, Trees, tnil, tcons}
-use Rattle.model.specs.Jobs.{isAmong}
+use Rattle.model.specs.Meanings.{isAmong}
 use Rattle.requests.specs.Panel as p
 use Rattle.requests.specs.Panel.{Word, bit, and, or, out, all, free, headWord, bitsOf}
 use Rattle.requests.specs.Recording.{Change}

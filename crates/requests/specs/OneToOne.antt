@@ -6,7 +6,8 @@ use mathlib.Core.List.{List, [], _∷_, _++_}
 use lib.ListN.{length, getD, drop}
 use Rattle.model.specs.Trees.{Tree}
 use Rattle.model.specs.Reading.{got, Image, readTreeImage, readImage}
-use Rattle.model.specs.Jobs.{isAmong, closed}
+use Rattle.model.specs.Meanings.{isAmong}
+use Rattle.model.specs.Jobs.{closed}
 use Rattle.addresses.specs.OneNameOneAddress.{AllDifferent}
 use Rattle.requests.specs.Panel.{isProgram, driven, bitsOf, mostBits, panelJob}
 

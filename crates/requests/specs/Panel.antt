@@ -11,7 +11,8 @@ use Rattle.model.specs.Refusals.{Refusal, unowned, tooLong, codeOf}
 use Rattle.model.specs.Objects.{Atom, symbol, number, point, prim, rung}
 use Rattle.model.specs.Trees.{Tree, var, app, fun, datum, lst, stx, Trees, tnil, tcons, tcount}
 use Rattle.model.specs.Reading.{Read, got, fault, Image, readTreeImage, readImage}
-use Rattle.model.specs.Jobs.{Answer, isAmong, closed}
+use Rattle.model.specs.Meanings.{isAmong}
+use Rattle.model.specs.Jobs.{Answer, closed}
 use Rattle.addresses.specs.OneNameOneAddress.{functionNames}
 
 unfoldable pub mostBits : ℕ

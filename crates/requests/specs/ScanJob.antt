@@ -9,7 +9,8 @@ use Rattle.model.specs.Limits.{mostImage, lastPoint}
 use Rattle.model.specs.Refusals.{tooLong}
 use Rattle.model.specs.Trees.{Tree}
 use Rattle.model.specs.Reading.{Read, got, fault, Image, readTreeImage, readImage}
-use Rattle.model.specs.Jobs.{Answer, isAmong, digits}
+use Rattle.model.specs.Meanings.{isAmong}
+use Rattle.model.specs.Jobs.{Answer, digits}
 use Rattle.requests.specs.Panel.{driven, PanelRefusal, base, panelCode, PanelEnding, refused, listed, profile}
 use Rattle.requests.specs.Recording.{Change, readRecording}
 use Rattle.requests.specs.Scanning.{State, atStart, scan}
