@@ -4,6 +4,7 @@ pub mod Samples
 pub mod InNotation
 pub mod Cases
 pub mod UseScope
+pub mod Local
 pub mod Rivals
 pub mod PanelPrograms
 pub mod Panel
