@@ -23,6 +23,7 @@ pub enum Refusal {
     TooManyEntries,
     OverBudget,
     TooLong,
+    OutsideUse,
 }
 
 impl Refusal {
@@ -50,6 +51,7 @@ impl Refusal {
             Refusal::TooManyEntries => 18,
             Refusal::OverBudget => 19,
             Refusal::TooLong => 20,
+            Refusal::OutsideUse => 28,
         }
     }
 }
