@@ -15,25 +15,26 @@ use Rattle.steps.specs.declared.Charged.{Charged}
 use Rattle.steps.specs.declared.Charged.the-variants.{Paid, Refused}
 use Rattle.store.specs.declared.rivals.Rivals.{Rivals}
 use Rattle.store.specs.Sizes.{mostBindings, heldSize}
-use Rattle.store.specs.Words.{bindsOf, prunableOf}
+use Rattle.store.specs.Words.{bindsOf, prunableOf, usesOf}
 use Rattle.table.specs.Sizes.{tableSize, unitSize}
 
 -- entries in progress: the model's mostEntries
 abbrev pub mostEntries : ℕ
 mostEntries = 128
 
--- what an agreement speaks of that lies outside the state: what the first n places of the store stand for, and the prunable set behind them.
--- Evaluate and parse take any; expand takes what its store's contents are.
+-- what an agreement speaks of that lies outside the state: what the first n places of the store stand for, and the prunable set and the use scopes behind them.
+-- What neither binds nor carries takes any; parse, and expanding and evaluating, take what their store's contents are.
 pub record Store : Type 0 where
   pub bindings : ℕ → List Bind
   pub prunable : Scopes
+  pub uses : Scopes
 
 abbrev pub storeOf : List ℕ → Store
-storeOf l = record { bindings = bindsOf l; prunable = prunableOf l }
+storeOf l = record { bindings = bindsOf l; prunable = prunableOf l; uses = usesOf l }
 
 -- where any will do
 abbrev pub noStore : Store
-noStore = record { bindings = λ n. []; prunable = noScopes }
+noStore = record { bindings = λ n. []; prunable = noScopes; uses = noScopes }
 
 -- the store is whole, and holds no more than it has room for
 pub record Held (st : List ℕ) (s : State) : Type 0 where
@@ -41,7 +42,7 @@ pub record Held (st : List ℕ) (s : State) : Type 0 where
   pub wide : heldSize ≤ length st
 
 abbrev pub stateOf : State → Store → m.State
-stateOf s b = record { left = s .left; names = s .names; scopes = s .scopes; binds = b .bindings (s .bindings); prunable = b .prunable }
+stateOf s b = record { left = s .left; names = s .names; scopes = s .scopes; binds = b .bindings (s .bindings); prunable = b .prunable; uses = b .uses }
 
 -- no bindings compete
 abbrev pub quiet : Rivals

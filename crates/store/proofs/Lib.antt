@@ -1,6 +1,6 @@
 pub mod Keys
 pub mod Runs
-pub mod Pruning
+pub mod Carrying
 pub mod Pass
 pub mod Taking
 pub mod Competing

@@ -13,6 +13,7 @@ use Rattle.model.specs.Choice.{if_then_else_}
 use Rattle.model.specs.Scopes.{Scopes}
 use Rattle.model.specs.Resolving.{Bind, bindBefore, insert}
 use Rattle.scopes.specs.Sets.{wordsFrom, setWords}
+use Rattle.scopes.specs.declared.ScopeSet.{ScopeSet}
 use Rattle.scopes.proofs.Stores.{stores-before, stores-after, stores-at}
 use Rattle.scopes.proofs.Words.{words-same}
 use Rattle.store.specs.declared.bindings.Binding.{Binding}
@@ -26,16 +27,32 @@ bindings-are = refl
 
 -- ---- one binding
 
--- a set whose words are those of the store, from the third of a binding on
-pub words-there : (l : List ℕ) (a : ℕ) → wordsFrom 64 setWords (getD l (a + 2) 0 ∷ getD l (a + 3) 0 ∷ getD l (a + 4) 0 ∷ getD l (a + 5) 0 ∷ []) 0 ≡ wordsFrom 64 setWords l (a + 2)
-words-there l a = words-same 64 setWords _ l 0 (a + 2) go
+-- the words of a set, stored one by one
+abbrev pub setList : ScopeSet → List ℕ
+setList s = getD (s .words) 0 0 ∷ getD (s .words) 1 0 ∷ getD (s .words) 2 0 ∷ getD (s .words) 3 0 ∷ []
+
+pub listed : (s : ScopeSet) (k : ℕ) → k < setWords → getD (setList s) k 0 ≡ getD (s .words) (0 + k) 0
+listed s zero g = refl
+listed s (suc zero) g = refl
+listed s (suc (suc zero)) g = refl
+listed s (suc (suc (suc zero))) g = refl
+listed s (suc (suc (suc (suc k)))) g = absurd (omega arith)
+
+-- a set whose words are those of the store, from place a on
+pub set-there : (l : List ℕ) (a b c d : ℕ) → b ≡ a + 1 → c ≡ a + 2 → d ≡ a + 3
+    → wordsFrom 64 setWords (getD l a 0 ∷ getD l b 0 ∷ getD l c 0 ∷ getD l d 0 ∷ []) 0 ≡ wordsFrom 64 setWords l a
+set-there l a b c d p q r = words-same 64 setWords _ l 0 a go
   where
-    go : (k : ℕ) → k < setWords → getD (getD l (a + 2) 0 ∷ getD l (a + 3) 0 ∷ getD l (a + 4) 0 ∷ getD l (a + 5) 0 ∷ []) (0 + k) 0 ≡ getD l (a + 2 + k) 0
-    go zero g = ap (λ (n : ℕ). getD l n 0) (let e : a + 2 ≡ a + 2 + 0 = omega arith in e)
-    go (suc zero) g = ap (λ (n : ℕ). getD l n 0) (let e : a + 3 ≡ a + 2 + 1 = omega arith in e)
-    go (suc (suc zero)) g = ap (λ (n : ℕ). getD l n 0) (let e : a + 4 ≡ a + 2 + 2 = omega arith in e)
-    go (suc (suc (suc zero))) g = ap (λ (n : ℕ). getD l n 0) (let e : a + 5 ≡ a + 2 + 3 = omega arith in e)
+    go : (k : ℕ) → k < setWords → getD (getD l a 0 ∷ getD l b 0 ∷ getD l c 0 ∷ getD l d 0 ∷ []) (0 + k) 0 ≡ getD l (a + k) 0
+    go zero g = ap (λ (n : ℕ). getD l n 0) (let e : a ≡ a + 0 = omega arith in e)
+    go (suc zero) g = ap (λ (n : ℕ). getD l n 0) p
+    go (suc (suc zero)) g = ap (λ (n : ℕ). getD l n 0) q
+    go (suc (suc (suc zero))) g = ap (λ (n : ℕ). getD l n 0) r
     go (suc (suc (suc (suc k)))) g = absurd (omega arith)
+
+-- from the third of a binding on
+pub words-there : (l : List ℕ) (a : ℕ) → wordsFrom 64 setWords (getD l (a + 2) 0 ∷ getD l (a + 3) 0 ∷ getD l (a + 4) 0 ∷ getD l (a + 5) 0 ∷ []) 0 ≡ wordsFrom 64 setWords l (a + 2)
+words-there l a = set-there l (a + 2) (a + 3) (a + 4) (a + 5) (omega arith) (omega arith) (omega arith)
 
 pub bind-eq : {x y t u : ℕ} {s r : Scopes} → x ≡ y → t ≡ u → s ≡ r
     → _≡_ {A = Bind} (record { symb = x; target = t; set = s }) (record { symb = y; target = u; set = r })
@@ -152,8 +169,7 @@ module _ {b : Bind} {l : List ℕ} {n i : ℕ} (w : Passed b l n i) where
 -- ---- a binding put between others that were moved
 
 abbrev pub bindWords : Binding → List ℕ
-bindWords b =
-    b .symbol .0 ∷ b .target .0 ∷ getD (b .set .words) 0 0 ∷ getD (b .set .words) 1 0 ∷ getD (b .set .words) 2 0 ∷ getD (b .set .words) 3 0 ∷ []
+bindWords b = b .symbol .0 ∷ b .target .0 ∷ setList (b .set)
 
 pub put-words : (l : List ℕ) (i : ℕ) (b : Binding) → i * bindingSize + bindingSize ≤ length l → b .symbol .0 < 4294967296 → b .target .0 < 4294967296
     → Put (bindOf b) l (sets l (i * bindingSize) (bindWords b)) i
@@ -176,11 +192,7 @@ put-words l i b h p q = record {
     at k g = stores-at (bindWords b) l (i * bindingSize) k h g
 
     word : (k : ℕ) → k < setWords → getD now (i * bindingSize + 2 + k) 0 ≡ getD (b .set .words) (0 + k) 0
-    word zero g = ap (λ (n : ℕ). getD now n 0) (let e : i * bindingSize + 2 + 0 ≡ i * bindingSize + 2 = omega arith in e) ∙ at 2 (omega arith)
-    word (suc zero) g = ap (λ (n : ℕ). getD now n 0) (let e : i * bindingSize + 2 + 1 ≡ i * bindingSize + 3 = omega arith in e) ∙ at 3 (omega arith)
-    word (suc (suc zero)) g = ap (λ (n : ℕ). getD now n 0) (let e : i * bindingSize + 2 + 2 ≡ i * bindingSize + 4 = omega arith in e) ∙ at 4 (omega arith)
-    word (suc (suc (suc zero))) g = ap (λ (n : ℕ). getD now n 0) (let e : i * bindingSize + 2 + 3 ≡ i * bindingSize + 5 = omega arith in e) ∙ at 5 (omega arith)
-    word (suc (suc (suc (suc k)))) g = absurd (omega arith)
+    word k g = ap (λ (n : ℕ). getD now n 0) (let e : i * bindingSize + 2 + k ≡ i * bindingSize + suc (suc k) = omega arith in e) ∙ at (suc (suc k)) (omega arith) ∙ listed (b .set) k g
 
 pub inserted : (b : Bind) (was moved now : List ℕ) (n i : ℕ) → n * bindingSize + bindingSize ≤ length moved
     → Placed b was n i → Shifted (i * bindingSize) (n * bindingSize) was moved → Put b moved now i → Inserts b n was now

@@ -13,6 +13,6 @@ mostBindings = 512
 abbrev pub storeSize : ℕ
 storeSize = mostBindings * bindingSize
 
--- with the prunable set behind the bindings
+-- with the prunable set and the use scopes behind the bindings
 abbrev pub heldSize : ℕ
-heldSize = storeSize + setWords
+heldSize = storeSize + 2 * setWords

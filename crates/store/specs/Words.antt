@@ -35,6 +35,10 @@ bindsOf l n = bindsFrom l 0 n
 unfoldable pub prunableOf : List ℕ → Scopes
 prunableOf l = wordsFrom wordDigits setWords l storeSize
 
+-- its use scopes, behind that
+unfoldable pub usesOf : List ℕ → Scopes
+usesOf l = wordsFrom wordDigits setWords l (storeSize + setWords)
+
 -- b is put at place i, and the other words stay
 pub record Put (b : Bind) (was now : List ℕ) (i : ℕ) : Type 0 where
   pub long : length now ≡ length was
@@ -58,7 +62,14 @@ pub record Inserts (b : Bind) (n : ℕ) (was now : List ℕ) : Type 0 where
   pub binds : bindsOf now (n + 1) ≡ insert b (bindsOf was n)
   pub kept : (k : ℕ) → n * bindingSize + bindingSize ≤ k → getD now k 0 ≡ getD was k 0
 
--- the prunable set is p, and the bindings stay
-pub record Prunes (p : Scopes) (was now : List ℕ) : Type 0 where
-  pub is : prunableOf now ≡ p
+-- the set s is put at place a, and the other words stay
+pub record SetPut (s : Scopes) (was now : List ℕ) (a : ℕ) : Type 0 where
+  pub before : (k : ℕ) → k < a → getD now k 0 ≡ getD was k 0
+  pub after : (k : ℕ) → a + setWords ≤ k → getD now k 0 ≡ getD was k 0
+  pub there : wordsFrom wordDigits setWords now a ≡ s
+
+-- the prunable set is p, the use scopes are u, and the bindings stay
+pub record Carries (p u : Scopes) (was now : List ℕ) : Type 0 where
+  pub prunable : prunableOf now ≡ p
+  pub uses : usesOf now ≡ u
   pub same : (n : ℕ) → n ≤ mostBindings → bindsOf now n ≡ bindsOf was n

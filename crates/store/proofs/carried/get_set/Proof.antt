@@ -1,7 +1,8 @@
-use Rattle.store.proofs.Pruning.{prunable-there}
+use native.Mathlib.Omega.{arith}
+use Rattle.store.proofs.Runs.{set-there}
 use borrow.Author.Needs.{needs}
-use Rattle.store.proofs.prunable.get.Statement.{statement}
-use Rattle.store.proofs.prunable.get.Tie as tie
+use Rattle.store.proofs.carried.get_set.Statement.{statement}
+use Rattle.store.proofs.carried.get_set.Tie as tie
 
 mul-t3 : tie.Need-mul-t3
 mul-t3 c = search needs
@@ -37,10 +38,10 @@ shared-slice-read-t17 : tie.Need-shared-slice-read-t17
 shared-slice-read-t17 c = search needs
 
 returns : tie.Need-returns
-returns c = prunable-there _
+returns c = set-there _ _ _ _ _ (omega arith) (omega arith) (omega arith)
 
-pub get-spec : {M : Type 1} → statement M
-get-spec =
+pub get-set-spec : {M : Type 1} → statement M
+get-set-spec =
     tie.close
     (tie.spec
     mul-t3

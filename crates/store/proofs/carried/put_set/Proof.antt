@@ -1,9 +1,10 @@
 use native.Mathlib.Omega.{arith}
+use native.Mathlib.Numerals.{towards-suc}
 use lib.ListN.{length-set}
-use Rattle.store.proofs.Pruning.{put-prunes}
+use Rattle.store.proofs.Carrying.{set-put}
 use borrow.Author.Needs.{needs}
-use Rattle.store.proofs.prunable.put.Statement.{statement}
-use Rattle.store.proofs.prunable.put.Tie as tie
+use Rattle.store.proofs.carried.put_set.Statement.{statement}
+use Rattle.store.proofs.carried.put_set.Tie as tie
 
 element-copy-out-store : tie.Need-element-copy-out-store
 element-copy-out-store c = search needs
@@ -54,10 +55,10 @@ same-length : tie.Need-same-length
 same-length c = simp length-set
 
 returns : tie.Need-returns
-returns c = put-prunes _ _ (omega arith)
+returns c = set-put _ _ _ (omega arith) (simp towards-suc)
 
-pub put-spec : {M : Type 1} → statement M
-put-spec =
+pub put-set-spec : {M : Type 1} → statement M
+put-set-spec =
     tie.close
     (tie.spec
     element-copy-out-store
