@@ -12,8 +12,8 @@ use Rattle.model.specs.Trees.{stx}
 use Rattle.model.specs.Competing as c
 use Rattle.model.specs.Competing.{noRivals}
 use Rattle.model.specs.Steps.{State, Step, ok, no, after, resolveAt, identifier}
-use Rattle.model.specs.Parsing as p
-use Rattle.model.specs.Parsing.{formOf}
+use Rattle.model.specs.Meanings as p
+use Rattle.model.specs.Meanings.{formOf}
 use Rattle.scopes.specs.Sets.{scopesOf}
 use Rattle.scopes.specs.declared.ScopeSet.{ScopeSet}
 use Rattle.store.specs.Words.{bindsOf}

@@ -6,7 +6,7 @@ use Prim.Native.Nat.{ℕ}
 use Rattle.model.specs.Objects.{Atom, symbol, number, point, prim, rung, Stx, atom, list, setAt}
 use Rattle.model.specs.Trees.{stx}
 use Rattle.model.specs.Resolving.{Bind}
-use Rattle.model.specs.Parsing as p
+use Rattle.model.specs.Meanings as p
 use Rattle.store.specs.Words.{bindsOf}
 use Rattle.store.specs.Rivalry as d
 use Rattle.store.specs.Rivalry.{Decision, several, rivalsOf, decided}

@@ -11,7 +11,7 @@ ghost use mathlib.Core.Path.{_≡_};
 ghost use Prim.Native.Nat.{ℕ, _*_, _≤_};
 ghost use lib.ListN.{length};
 ghost use Rattle.model.specs.Objects.{setAt};
-ghost use Rattle.model.specs.Parsing.{formOf};
+ghost use Rattle.model.specs.Meanings.{formOf};
 ghost use Rattle.scopes.specs.Sets.{scopesOf};
 ghost use Rattle.things.specs.Rep.{setsOf};
 ghost use Rattle.things.specs.Measuring.{Seen, SeenP};

@@ -10,8 +10,8 @@ use Rattle.model.specs.Steps as m
 use Rattle.model.specs.Objects.{Atom, symbol, tagOf, contentOf, Stx, atom, list, Stxs, nil, cons, size, count}
 use Rattle.model.specs.Trees.{Tree, var, app, fun, datum, stx, Trees, tnil, tcons, fromStxs, strip}
 use Rattle.model.specs.Steps.{ok, no, charge, parts1, parts2, identifier}
-use Rattle.model.specs.Parsing as p
-use Rattle.model.specs.Parsing.{formOf, parseAll, parseForm, parseEntry, parse}
+use Rattle.model.specs.Meanings.{formOf}
+use Rattle.model.specs.Parsing.{parseAll, parseForm, parseEntry, parse}
 use Rattle.refusals.specs.declared.Refusal.the-variants.{NoRule}
 use Rattle.scopes.specs.declared.Name.{Name}
 use Rattle.store.specs.declared.rivals.Rivals.{Rivals}

@@ -9,8 +9,9 @@ use Rattle.model.specs.Objects.{Atom, symbol, number, point, prim, rung, tagOf,
 use Rattle.model.specs.Trees.{Tree, var, app, fun, datum, stx, Trees, tnil, tcons}
 use Rattle.model.specs.Competing.{Rivals, noRivals}
 use Rattle.model.specs.Steps.{State, Out, ok, no, after, Step, identifier}
-use Rattle.model.specs.Parsing as p
-use Rattle.model.specs.Parsing.{formOf, headForm, parseAll, parseForm, parseEntry, parse}
+use Rattle.model.specs.Meanings as p
+use Rattle.model.specs.Meanings.{formOf}
+use Rattle.model.specs.Parsing.{headForm, parseAll, parseForm, parseEntry, parse}
 use Rattle.store.specs.Rivalry as d
 use Rattle.store.specs.Rivalry.{several}
 use Rattle.store.proofs.Competing.{resolveAt-decided}

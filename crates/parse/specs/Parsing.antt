@@ -7,7 +7,8 @@ use Rattle.store.specs.Sizes.{mostBindings}
 use Rattle.model.specs.Objects.{Sets, Stx, list, Stxs, size}
 use Rattle.model.specs.Trees.{Tree, var, app, fun, stx, Trees, tcons, fromStxs, strip}
 use Rattle.model.specs.Steps.{Step, _>>=_, _>>_, done, charge, resolveAt, parts1, parts2, identifier}
-use Rattle.model.specs.Parsing.{formOf, parseAll, parseForm, parseEntry, parse}
+use Rattle.model.specs.Meanings.{formOf}
+use Rattle.model.specs.Parsing.{parseAll, parseForm, parseEntry, parse}
 use Rattle.steps.specs.States.{Store, storeOf, Held, stateOf, end, Room}
 use Rattle.steps.specs.Agreement.{ended, Agrees}
 use Rattle.steps.specs.declared.State.{State}

@@ -9,7 +9,7 @@ use Rattle.model.specs.Choice.{if_then_else_}
 use Rattle.model.specs.Objects.{Stxs}
 use Rattle.model.specs.Trees.{Tree, Trees, tnil, tcons, tcount, fromStxs, toStxs}
 use Rattle.model.specs.Evaluating as m
-use Rattle.model.specs.Evaluating.{Primitive, primitiveOf, primitive, arity, argument}
+use Rattle.model.specs.Evaluating.{Plain, plain, primitiveOf, primitive, arity, argument}
 use Rattle.table.specs.Words.{Same}
 use Rattle.table.specs.declared.Node.{Node}
 use Rattle.things.specs.Rep.{Rep, RepP}
@@ -63,11 +63,11 @@ pub data Given (l : List ℕ) (top : ℕ) : ℕ → ℕ → ℕ → Trees → Ty
   one-more : {x y z w : ℕ} {t : Tree} {ts : Trees} → Rep l top x t → Given l top y z w ts → Given l top x y z (tcons t ts)
 
 pub record ReadyAll (l : List ℕ) (top p x y z : ℕ) : Type 0 where
-  pub which : Primitive
-  pub is : primitiveOf p ≡ some which
+  pub which : Plain
+  pub is : primitiveOf p ≡ some (plain which)
   pub thing : Trees
   pub given : Given l top x y z thing
-  pub able : tcount thing ≡ arity which
+  pub able : tcount thing ≡ arity (plain which)
   pub room : Roomy l top unitSize
 
 -- ---- what is given
@@ -87,7 +87,7 @@ pub record Does3 (f : Tree → Tree → Tree → Option Tree) (l l′ : List ℕ
   pub means : (t u w : Tree) → Rep l top x t → Rep l top y u → Rep l top z w → Pieced l l′ top (f t u w) r
 
 pub record Works (l l′ : List ℕ) (top p x y z : ℕ) (r : Part) : Type 0 where
-  pub means : (q : Primitive) → primitiveOf p ≡ some q → (ts : Trees) → Given l top x y z ts → tcount ts ≡ arity q
+  pub means : (q : Plain) → primitiveOf p ≡ some (plain q) → (ts : Trees) → Given l top x y z ts → tcount ts ≡ arity (plain q)
       → Pieced l l′ top (primitive q (argument ts 0) (argument ts 1) (argument ts 2)) r
 
 -- a chain of syntax objects, or not

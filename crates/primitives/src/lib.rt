@@ -3,7 +3,7 @@
 use table::Node;
 use things::Made;
 ghost use mathlib.Core.Path.{_≡_};
-ghost use Rattle.model.specs.Evaluating.{primitiveOf, takes};
+ghost use Rattle.model.specs.Evaluating.{primitiveOf, takes, wantsUse};
 ghost use Rattle.things.specs.Measuring.{SeenP};
 ghost use Rattle.primitives.specs.Working.{ReadyToApply, ReadyAll, Does1, Does2, Does3, Works, stxE, mkStx, first, rest, linked, same, pick, agreed, AllSyntax};
 
@@ -17,7 +17,7 @@ pub enum Part {
 const COUNT: u32 = scopes::LAST_PRIMITIVE + 1;
 
 // How many arguments each takes.
-const ARGUMENTS: [u32; COUNT as usize] = [1, 2, 1, 1, 2, 2, 3];
+const ARGUMENTS: [u32; COUNT as usize] = [1, 2, 1, 1, 2, 2, 3, 1, 2, 1];
 
 // p is a primitive that takes n arguments.
 pub fn takes(p: u32, n: u32) -> bool
@@ -28,6 +28,24 @@ pub fn takes(p: u32, n: u32) -> bool
         return n == ARGUMENTS[i];
     }
     false
+}
+
+// Request T-08, source document 000's local-value, local-expand and local-binder: those that want a macro use, the last.
+pub const MEANING_OF: u32 = 7;
+
+pub const EXPAND_IN: u32 = 8;
+
+pub const BINDER_OF: u32 = 9;
+
+pub const FIRST_LOCAL: u32 = MEANING_OF;
+
+pub fn is_local(p: u32) -> bool
+    ensures { λ r. ⌜ r ≡ wantsUse (primitiveOf p) ⌝ }
+{
+    if COUNT <= p {
+        return false;
+    }
+    FIRST_LOCAL <= p
 }
 
 // ---- 0 stx-e and 1 mk-stx
@@ -239,7 +257,7 @@ fn pick(table: &[u32], top: u32, x: u32, y: u32, z: u32) -> Part
     Part::Piece(Made { at: y, top })
 }
 
-// Primitive p of the values x, y and z, as many of them as it takes.
+// Primitive p, which wants no macro use, of the values x, y and z, as many of them as it takes.
 pub fn primitive(table: &mut [u32], top: u32, p: u32, x: u32, y: u32, z: u32) -> Part
     requires { ⌜ ReadyAll (now table) top p x y z ⌝ }
     ensures { λ r. ⌜ Works (now (table .entry)) (now (table .exit)) top p x y z r ⌝ }
