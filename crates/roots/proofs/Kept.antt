@@ -13,7 +13,8 @@ use Rattle.model.specs.Objects.{Atom, contentOf, Stx, size}
 use Rattle.model.specs.Trees.{Tree, var, app, fun, datum, lst, stx, Trees, tcons, tsizeBy, tsizesBy, loadSize}
 use Rattle.model.specs.Reading as m
 use Rattle.model.specs.Reading.{Reader, got, fault, next, need, num, numBelow, symbols, readAtom, readStx, readTrees, readApp, readTreeBody, readTree, atEnd}
-use Rattle.model.specs.Jobs.{isAmong, closed, closedAll}
+use Rattle.model.specs.Meanings.{isAmong}
+use Rattle.model.specs.Jobs.{closed, closedAll}
 use Rattle.scopes.proofs.Members.{zeros-of}
 use Rattle.numbers.specs.Answers.{kept}
 use Rattle.roots.specs.MeasuredObjects.{readContentOf, measureStx}
