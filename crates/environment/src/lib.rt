@@ -3,6 +3,7 @@
 use forms::Form;
 use forms::Naming;
 use scopes::Name;
+use scopes::Scope;
 use store::rivals::Rivals;
 use table::Entry;
 use things::Made;
@@ -11,7 +12,8 @@ ghost use Prim.Native.Nat.{ℕ, _*_, _≤_};
 ghost use lib.ListN.{length};
 ghost use Rattle.things.specs.Measuring.{Seen};
 ghost use Rattle.things.specs.Making.{Roomy};
-ghost use Rattle.environment.specs.Meanings.{Known, CoreMeans, Means, MeansAt, Extended};
+ghost use Rattle.stops.specs.Stops.{KnownZ};
+ghost use Rattle.environment.specs.Meanings.{Known, CoreMeans, Means, MeansAmong, MeansAt, Extended};
 ghost use Rattle.table.specs.Sizes.{entrySize};
 ghost use Rattle.store.specs.Sizes.{bindingSize};
 
@@ -25,6 +27,8 @@ pub enum Meaning {
     Variable(u32),
     // Where its value lies.
     Macro(u32),
+    // Of a stop, whatever it means elsewhere.
+    Stopped,
     Unknown,
     // Of an identifier with several candidates, none of which contains every other: the two that compete.
     Unclear(Rivals),
@@ -88,14 +92,42 @@ pub fn lookup(table: &[u32], e: u32, name: Name) -> Meaning
     lookup(table, x.next, name)
 }
 
+// The same with the stops z.
+pub fn lookup_among(table: &[u32], e: u32, z: u32, name: Name) -> Meaning
+    requires { ⌜ Known (now table) e × KnownZ (now table) z ⌝ }
+    ensures { λ r. ⌜ MeansAmong (now (table .entry)) e z (name .0) r ⌝ }
+{
+    if stops::is_stopped(table, z, name) {
+        return Meaning::Stopped;
+    }
+    lookup(table, e, name)
+}
+
 // What the head of a list means: Unknown where it is no identifier.
-pub fn meaning_of(table: &[u32], store: &[u64], count: u32, i: u32, phase: u32, e: u32) -> Meaning
-    requires { ⌜ Seen (now table) i × Known (now table) e × (count * bindingSize ≤ length (now store)) ⌝ }
-    ensures { λ r. ⌜ MeansAt phase (now (store .entry)) count (now (table .entry)) i e r ⌝ }
+pub fn meaning_of(
+    table: &[u32],
+    store: &[u64],
+    count: u32,
+    i: u32,
+    phase: u32,
+    e: u32,
+    z: u32,
+) -> Meaning
+    requires { ⌜ Seen (now table) i × Known (now table) e × KnownZ (now table) z × (count * bindingSize ≤ length (now store)) ⌝ }
+    ensures { λ r. ⌜ MeansAt phase (now (store .entry)) count (now (table .entry)) i e z r ⌝ }
 {
     match forms::name_of(table, store, count, i, phase) {
         Naming::Unclear(rivals) => Meaning::Unclear(rivals),
         Naming::Unnamed => Meaning::Unknown,
-        Naming::Named(n) => lookup(table, e, n),
+        Naming::Named(n) => lookup_among(table, e, z, n),
     }
+}
+
+// Request T-08: where a tree is evaluated. Without an introduction scope (0) it is a right-hand side or the evaluate job; with one, a use of a
+// macro at that phase, with those meanings and stops.
+pub struct Place {
+    pub intro: Scope,
+    pub phase: u32,
+    pub meanings: u32,
+    pub stops: u32,
 }

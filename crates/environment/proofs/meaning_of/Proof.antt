@@ -15,8 +15,8 @@ enum-told c = search (laws, needs)
 enum-known-n : tie.Need-enum-known-n
 enum-known-n c = search (laws, needs)
 
-lookup-requires : tie.Need-lookup-requires
-lookup-requires c κs = search (laws, needs)
+lookup-among-requires : tie.Need-lookup-among-requires
+lookup-among-requires c κs = search (laws, needs)
 
 returns : tie.Need-returns
 returns c = search (laws, needs)
@@ -35,7 +35,7 @@ meaning-of-spec =
     enum-known-rivals
     enum-told
     enum-known-n
-    lookup-requires
+    lookup-among-requires
     returns
     returns-2
     returns-3)
