@@ -27,7 +27,7 @@ use Rattle.scopes.specs.declared.ScopeSet.{ScopeSet}
 use Rattle.store.specs.Words.{bindOf, bindsOf, Inserts}
 use Rattle.store.specs.declared.bindings.Binding.{Binding}
 pub use Rattle.store.proofs.Runs.{binds-length}
-use Rattle.store.proofs.Pruning.{prunable-kept}
+use Rattle.store.proofs.Carrying.{prunable-kept, uses-kept}
 use Rattle.steps.specs.States.{Store, storeOf, noStore, stateOf, stopOf, paid, raisedTo, chargeOf, Room}
 use Rattle.steps.specs.Agreement.{Later, Ended, ended, Gave, Agrees, gives, stops}
 use Rattle.steps.specs.declared.State.{State}
@@ -63,7 +63,7 @@ use Rattle.store.specs.Sizes.{bindingSize, heldSize}
 
 -- ---- the next name and scope
 
-name-ok : (y : ms.State) → y .names < 1024 → freshName y ≡ ok (y .names) (record { left = y .left; names = y .names + 1; scopes = y .scopes; binds = y .binds; prunable = y .prunable })
+name-ok : (y : ms.State) → y .names < 1024 → freshName y ≡ ok (y .names) (record { left = y .left; names = y .names + 1; scopes = y .scopes; binds = y .binds; prunable = y .prunable; uses = y .uses })
 unfolding freshName mostNames
 name-ok y h = rw (lt-ltb (y .names) 1024 h) refl
 
@@ -71,7 +71,7 @@ name-no : (y : ms.State) → 1024 ≤ y .names → freshName y ≡ no ref.noName
 unfolding freshName mostNames
 name-no y h = rw (le-ltb (y .names) 1024 h) refl
 
-pub scope-ok : (y : ms.State) → y .scopes < 256 → freshScope y ≡ ok (y .scopes + 1) (record { left = y .left; names = y .names; scopes = y .scopes + 1; binds = y .binds; prunable = y .prunable })
+pub scope-ok : (y : ms.State) → y .scopes < 256 → freshScope y ≡ ok (y .scopes + 1) (record { left = y .left; names = y .names; scopes = y .scopes + 1; binds = y .binds; prunable = y .prunable; uses = y .uses })
 unfolding freshScope mostScopes
 scope-ok y h = rw (lt-ltb (y .scopes) 256 h) refl
 
@@ -83,7 +83,7 @@ abbrev takes : State → State
 takes s = record { top = s .top; left = s .left; names = s .names + 1; scopes = s .scopes + 1; bindings = s .bindings }
 
 after-name : State → Store → ms.State
-after-name s b = record { left = s .left; names = s .names + 1; scopes = s .scopes; binds = b .bindings (s .bindings); prunable = b .prunable }
+after-name s b = record { left = s .left; names = s .names + 1; scopes = s .scopes; binds = b .bindings (s .bindings); prunable = b .prunable; uses = b .uses }
 
 module _ (s : State) where
   pub take-no-name : {f : Stop} → 1024 ≤ s .names → f ≡ stopOf NoNameLeft s → Takes s (charged.Refused f)
@@ -111,7 +111,7 @@ module _ (s : State) where
                 ∙ then-ok _ (scope-ok (after-name s b) k)
                 ∙ then-ok _ (charge-ok 1 (takes s) b (q .enough))
                 ∙ ap (λ (y : State). ok (record { name = s .names; scope = s .scopes + 1 }) (stateOf y b)) (sym (q .is));
-            shown = record { name = refl; scope = us; from-one = omega (arith, us); most = omega (arith, us); few = omega (arith, ub) };
+            shown = record { name = refl; small = h; scope = us; from-one = omega (arith, us); most = omega (arith, us); few = omega (arith, ub) };
             later = record { kept = later-refl l s .kept; grows = omega (arith, ut); fits = omega (arith, ut, uu, q .enough); spent = omega (arith, uu, q .enough) };
           });
         }
@@ -160,7 +160,7 @@ module _ (st : List ℕ) (s : State) (b : Binding) where
         record {
           means = λ l. gives t (record {
             value = tt;
-            is = rw (room-yet, f .binds, prunable-kept f h) refl;
+            is = rw (room-yet, f .binds, prunable-kept f h, uses-kept f h) refl;
             shown = record { few = omega arith };
             later = record { kept = later-refl l s .kept; grows = omega arith; fits = omega arith; spent = omega arith };
           });
@@ -209,16 +209,17 @@ module _ {l st : List ℕ} (s : State) {i : ℕ} (r : ReadyBinder l st (unpaid s
           let a = p2 .means l1 in
           rw (k .means (m .top) (changeAt (add (d .0)) ph c) x (copied c x w)) at a
 
-      as-bound : Declared d → (c : Sets) (x : ℕ) → Rep l (s .top) i (stx (atom c (symbol x))) → {q : Ended Binder} → Agrees (putsBinder n d (m .at)) 0 0 l1 l1 (raisedTo (m .top) s) (storeOf st1) (bind (key-of c x) (stateOf s (storeOf st))) q
+      as-bound : Declared d → n .0 < 1024 → (c : Sets) (x : ℕ) → Rep l (s .top) i (stx (atom c (symbol x))) → {q : Ended Binder} → Agrees (putsBinder n d (m .at)) 0 0 l1 l1 (raisedTo (m .top) s) (storeOf st1) (bind (key-of c x) (stateOf s (storeOf st))) q
           → Agrees (binders x) 1 nodeSpare l l1 (unpaid s) (storeOf st1) (bindRule (n .0) (d .0) ph c x (stateOf s (storeOf st))) q
       unfolding bindRule unpaid size key-of
-      as-bound known c x w (gives o g) =
+      as-bound known few c x w (gives o g) =
           let q = v .means (atom c (symbol x)) w in
           gives o (record {
             value = record { name = n .0; scope = d .0; sets = changeAt (add (d .0)) ph c };
             is = then-ok _ (g .is);
             shown = record {
               name = ap (λ (y : Name). y .0) (g .shown .name);
+              small = rw (g .shown .name) few;
               scope = ap (λ (y : Scope). y .0) (g .shown .scope);
               declared = rw (g .shown .scope) known;
               rep = rw (g .shown .place) (up (copied c x w) (g .later .grows));
@@ -226,10 +227,10 @@ module _ {l st : List ℕ} (s : State) {i : ℕ} (r : ReadyBinder l st (unpaid s
             };
             later = record { kept = v .kept; grows = omega (arith, v .grows, g .later .grows); fits = omega (arith, q .room, g .later .fits); spent = omega (arith, g .later .spent) };
           })
-      as-bound known c x w (stops f g) = stops f (then-no _ g)
+      as-bound known few c x w (stops f g) = stops f (then-no _ g)
 
-      pub bind-all : Declared d → Binds ph st st1 l l1 s (n .0) (d .0) i z
-      bind-all known = record { means = λ c x w. as-bound known c x w (put-as c x w) }
+      pub bind-all : Declared d → n .0 < 1024 → Binds ph st st1 l l1 s (n .0) (d .0) i z
+      bind-all known few = record { means = λ c x w. as-bound known few c x w (put-as c x w) }
 
 module _ {st st1 : List ℕ} {s : State} {b : Binding} {n : Name} {k : Scope} {at : ℕ} {y : Charged} (p : Puts st st1 s b y) where
   pub put-binder-refused : {f : Stop} → y ≡ charged.Refused f → PutsBinder n k at st st1 s b (bounds.Refused f)
@@ -271,6 +272,9 @@ module _ {s : State} {y : Charged} (p : Takes s y) where
 
     pub fresh-declared : Declared (record { 0 = t .scopes })
     fresh-declared = let g = took [] noStore in record { from-one = g .shown .from-one; most = g .shown .most }
+
+    pub fresh-small : s .names < 1024
+    fresh-small = took [] noStore .shown .small
 
     pub fresh-ready : {st l : List ℕ} {i : ℕ} → ReadyBinder l st s i → ReadyBinder l st (unpaid t) i
     unfolding unpaid
@@ -389,7 +393,7 @@ module _ (s : State) {x : Charged} (h : x ≡ freshScopeOf s) where
         record {
           means = λ b x w. rw (q .is, tu) (stops _ (
               then-ok _ (scope-ok (stateOf s b) (first .some))
-              ∙ then-no _ (scope-no (record { left = s .left; names = s .names; scopes = s .scopes + 1; binds = b .bindings (s .bindings); prunable = b .prunable }) (omega (arith, q .none, ts)))));
+              ∙ then-no _ (scope-no (record { left = s .left; names = s .names; scopes = s .scopes + 1; binds = b .bindings (s .bindings); prunable = b .prunable; uses = b .uses }) (omega (arith, q .none, ts)))));
         }
 
     module _ {u : State} (z : y ≡ charged.Paid u) where
@@ -420,12 +424,12 @@ module _ (s : State) {x : Charged} (h : x ≡ freshScopeOf s) where
           record {
             means = λ b x w.
                 let d = a .means b x (rw ut w) in
-                let same : stateOf u b ≡ record { left = s .left; names = s .names; scopes = s .scopes + 1 + 1; binds = b .bindings (s .bindings); prunable = b .prunable } = rw (second .is, first .is) refl in
-                let named : marksRule ph (s .scopes + 1) (s .scopes + 1 + 1) x (record { left = s .left; names = s .names; scopes = s .scopes + 1 + 1; binds = b .bindings (s .bindings); prunable = b .prunable }) ≡ marksRule ph (t .scopes) (u .scopes) x (stateOf u b) =
+                let same : stateOf u b ≡ record { left = s .left; names = s .names; scopes = s .scopes + 1 + 1; binds = b .bindings (s .bindings); prunable = b .prunable; uses = b .uses } = rw (second .is, first .is) refl in
+                let named : marksRule ph (s .scopes + 1) (s .scopes + 1 + 1) x (record { left = s .left; names = s .names; scopes = s .scopes + 1 + 1; binds = b .bindings (s .bindings); prunable = b .prunable; uses = b .uses }) ≡ marksRule ph (t .scopes) (u .scopes) x (stateOf u b) =
                 λ j. marksRule ph ((sym ts) j) ((sym us) j) x ((sym same) j) in
                 let goes : markRule ph x (stateOf s b) ≡ marksRule ph (t .scopes) (u .scopes) x (stateOf u b) =
                 then-ok _ (scope-ok (stateOf s b) (first .some))
-                ∙ then-ok _ (scope-ok (record { left = s .left; names = s .names; scopes = s .scopes + 1; binds = b .bindings (s .bindings); prunable = b .prunable }) (omega (arith, second .some, ts)))
+                ∙ then-ok _ (scope-ok (record { left = s .left; names = s .names; scopes = s .scopes + 1; binds = b .bindings (s .bindings); prunable = b .prunable; uses = b .uses }) (omega (arith, second .some, ts)))
                 ∙ named in
                 since 1 nodeSpare (later-marks l) (omega arith) (omega arith) goes d;
           }
@@ -449,6 +453,7 @@ pub ruleset laws = (
   put-binder-done,
   fresh-refused,
   fresh-declared,
+  fresh-small,
   fresh-ready,
   fresh-bound,
   scope-none,

@@ -2,7 +2,7 @@
 use mathlib.Core.Path.{_≡_}
 use mathlib.Core.List.{List}
 use mathlib.Core.Bool.{Bool, true, false}
-use Prim.Native.Nat.{ℕ, _+_, _≤_}
+use Prim.Native.Nat.{ℕ, _+_, _≤_, _<_}
 use lib.ListN.{length}
 use lib.Dec.{leb}
 use Rattle.store.specs.Sizes.{mostBindings}
@@ -58,6 +58,8 @@ takeRule = do
 
 pub record ShownTaken (o : State) (k : Taken) (next : ℕ) : Type 0 where
   pub name : k .name ≡ next
+  -- below the model's mostNames
+  pub small : next < 1024
   pub scope : o .scopes ≡ k .scope
   pub from-one : 1 ≤ o .scopes
   pub most : o .scopes ≤ setScopes
@@ -112,6 +114,7 @@ pub record ReadyBinder (l st : List ℕ) (s : State) (i : ℕ) : Type 0 where
 -- the binder with symbol x
 pub record ShownBinder (x : ℕ) (l : List ℕ) (o : Binder) (k : m.Binder) : Type 0 where
   pub name : o .name .0 ≡ k .name
+  pub small : o .name .0 < 1024
   pub scope : o .scope .0 ≡ k .scope
   pub declared : Declared (o .scope)
   pub rep : Rep l (o .state .top) (o .at) (stx (atom (k .sets) (symbol x)))

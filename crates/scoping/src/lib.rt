@@ -15,7 +15,7 @@ use store::bindings::Binding;
 use store::resolving::Resolving;
 use things::Made;
 ghost use mathlib.Core.Path.{_≡_};
-ghost use Prim.Native.Nat.{ℕ, _+_, _≤_};
+ghost use Prim.Native.Nat.{ℕ, _+_, _≤_, _<_};
 ghost use lib.ListN.{length};
 ghost use Rattle.model.specs.Objects.{addScope, flipScope, pruneScopes};
 ghost use Rattle.parse.specs.Parsing.{unpaid};
@@ -171,7 +171,7 @@ fn bind(
     id: u32,
     phase: u32,
 ) -> Bound
-    requires { ⌜ ReadyBinder (now table) (now store) (unpaid s) id × Declared scope ⌝ }
+    requires { ⌜ ReadyBinder (now table) (now store) (unpaid s) id × Declared scope × (name .0 < 1024) ⌝ }
     ensures { λ r. ⌜ Binds phase (now (store .entry)) (now (store .exit)) (now (table .entry)) (now (table .exit)) s (name .0) (scope .0) id r ⌝ }
 {
     let m = with_scope(table, s.top, id, phase, scope);
