@@ -1,0 +1,4 @@
+pub mod ByKind
+pub mod Answering
+pub mod Stopping
+pub mod Pieces

@@ -1,0 +1,4 @@
+pub mod Kinds
+pub mod Answering
+pub mod Stopping
+pub mod Pieces
