@@ -1,0 +1,4 @@
+pub mod Testing
+pub mod Allowing
+pub mod Functions
+pub mod Working
