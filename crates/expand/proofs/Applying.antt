@@ -1,4 +1,4 @@
--- Applications, and what is expanded in a form's place: one law for each way through them.
+-- Applications, and bodies: one law for each way through them.
 use mathlib.Core.Path.{_≡_, refl, sym, ap, _∙_}
 use mathlib.Core.List.{List, []}
 use Prim.Native.Nat.{ℕ, _+_, _-_, _*_, _≤_, _<_}
@@ -6,30 +6,28 @@ use native.Mathlib.Omega.{arith}
 use lib.ListN.{length}
 use Rattle.model.specs.Scopes.{Scopes, add}
 use Rattle.model.specs.Objects.{Stx, Stxs}
-use Rattle.model.specs.Trees.{Tree, stx, fromStxs}
+use Rattle.model.specs.Trees.{stx, fromStxs}
 use Rattle.model.specs.Steps.{inside}
-use Rattle.model.specs.Expanding.{Env, expandAll, expandApplication, expand}
+use Rattle.model.specs.Expanding.{expandAll, expandApplication, expand}
 use Rattle.scopes.specs.Sets.{Declared}
 use Rattle.store.specs.Sizes.{heldSize}
 use Rattle.store.specs.Words.{prunableOf}
 use Rattle.things.specs.Rep.{Rep, RepP}
 use Rattle.things.proofs.Frame.{carry}
-use Rattle.steps.specs.States.{storeOf, Held, stateOf}
+use Rattle.steps.specs.States.{storeOf, stateOf}
 use Rattle.steps.specs.Agreement.{ended, Gave, Agrees, stops}
 use Rattle.steps.specs.declared.State.{State}
 use Rattle.steps.specs.declared.Stop.{Stop}
 use Rattle.steps.specs.declared.Out.{Out}
 use Rattle.steps.specs.declared.Answer.{Answer}
 use Rattle.steps.specs.declared.Answer.the-variants.{Done, Refused}
-use Rattle.steps.proofs.Laws.{then-ok, then-no, room-later, on-done, on-refused, since}
+use Rattle.steps.proofs.Laws.{then-ok, then-no, on-done, on-refused}
 use Rattle.parse.specs.Parsing.{unpaid}
-use Rattle.environment.specs.Meanings.{RepE}
-use Rattle.environment.proofs.Frame.{carryE}
 use Rattle.scoping.specs.Changing.{objects}
 use Rattle.expand.specs.Making.{ReadyList, Lists}
-use Rattle.expand.specs.Leaves.{around}
-use Rattle.expand.specs.InPlace.{ShownNext, ReadyMacro, rewrittenRule, Rewritten}
-use Rattle.expand.specs.Cycle.{expansion, partsOf, ReadyToExpand, ReadyParts, ReadyChain, ReadyOnward, Expanded, ExpandedInside, ExpandedOnward, ExpandedApplication, ExpandedParts, ExpandedMacro}
+use Rattle.expand.specs.Leaves.{Around, around, RepA}
+use Rattle.expand.specs.InPlace.{further, ShownNext}
+use Rattle.expand.specs.Cycle.{expansion, partsOf, ReadyToExpand, ReadyParts, ReadyChain, ReadyOnward, Expanded, ExpandedInside, ExpandedOnward, ExpandedApplication, ExpandedParts}
 use Rattle.expand.specs.declared.Surroundings.{Surroundings}
 use Rattle.expand.specs.declared.rewriting.Next.{Next}
 use Rattle.expand.specs.declared.rewriting.Onward.{Onward}
@@ -37,9 +35,8 @@ use Rattle.expand.specs.declared.rewriting.Onward.the-variants as onward
 use Rattle.expand.proofs.Agreeing.{beyond}
 use Rattle.expand.proofs.Leaves.{owes-one}
 use Rattle.expand.proofs.InPlace.{leftOf}
-use Rattle.expand.proofs.Rules.{macro-split}
-use Rattle.table.specs.Sizes.{twoCells, nodeSpare}
-use Rattle.expand.proofs.Within.{within-paid}
+use Rattle.table.specs.Sizes.{twoCells}
+use Rattle.expand.proofs.Surrounding.{within-paid}
 
 -- ---- application
 
@@ -53,7 +50,7 @@ module _ {at : Surroundings} {st st1 l l1 : List ℕ} (s : State) {c : ℕ} {a :
   application-refused e = record { means = λ k ps g u w y. stops _ (then-no _ (on-refused (v .means ps g w y) (ap ended e))) }
 
   module _ {o : Out} (e : a ≡ Done o) where
-    parts-gave : (ps : Stxs) (g : Env) → RepP l (s .top) c (fromStxs ps) → RepE l (s .top) (at .meanings) g
+    parts-gave : (ps : Stxs) (g : Around) → RepP l (s .top) c (fromStxs ps) → RepA l (s .top) at g
         → Gave partsOf 0 0 l l1 s (storeOf st1) (expandAll (λ x. inside (λ p. p) (expand (at .entries) (around g at) x)) ps (stateOf s (storeOf st))) o
     parts-gave ps g w y = on-done (v .means ps g w y) (ap ended e)
 
@@ -84,93 +81,51 @@ module _ {at : Surroundings} {st st1 l l1 : List ℕ} (s : State) {c : ℕ} {a :
 -- ---- what is expanded next
 
 module _ {l st : List ℕ} {x : Onward} {at : Surroundings} (r : ReadyOnward l st x at) {o : Next} (e : x ≡ onward.Done o) where
-  pub in-place-declared : Declared (o .scope)
-  in-place-declared = r .next o e .shown .declared
+  pub body-declared : Declared (o .scope)
+  body-declared = r .next o e .shown .declared
 
-  pub in-place-wide : heldSize ≤ length st
-  in-place-wide = r .next o e .held .wide
+  pub body-wide : heldSize ≤ length st
+  body-wide = r .next o e .held .wide
 
-  pub in-place-ready : {entries ph : ℕ} → ReadyToExpand l st (o .state) (o .at) (record { entries = entries; phase = ph; meanings = o .meanings })
-  in-place-ready =
+  pub body-ready : ReadyToExpand l st (o .state) (o .at) (further o at)
+  body-ready =
       let q = r .next o e in
       record { thing = q .further .object; shown = q .shown .rep; within = record { meant = q .shown .meant; known = q .shown .known; room = q .room; held = q .held } }
 
-pub in-place-less : {x : Onward} {o : Next} {T : ℕ} → x ≡ onward.Done o → leftOf x * 32 + 2 ≡ T → o .state .left * 32 + 1 < T
-in-place-less e z = omega (arith, ap leftOf e)
+pub body-less : {x : Onward} {o : Next} {T : ℕ} → x ≡ onward.Done o → leftOf x * 32 + 2 ≡ T → o .state .left * 32 + 1 < T
+body-less e z = omega (arith, ap leftOf e)
 
-pub in-place-refused : {at : Surroundings} {st l : List ℕ} {x : Onward} {f : Stop} → x ≡ onward.Refused f → ExpandedOnward at st st l l x (Refused f)
-in-place-refused {f = f} e = record {
+pub body-refused : {at : Surroundings} {st l : List ℕ} {x : Onward} {f : Stop} → x ≡ onward.Refused f → ExpandedOnward at st st l l x (Refused f)
+body-refused {f = f} e = record {
   means = λ o k h w. let z : _≡_ {A = ℕ} 0 1 = cc in absurd (omega arith);
   refused = λ g h. let z : f ≡ g = cc in rw z refl;
 }
 
-pub in-place-expanded : {at : Surroundings} {st st1 l l1 : List ℕ} {x : Onward} {o : Next} {p q : Scopes} {r : Answer} → x ≡ onward.Done o → p ≡ prunableOf st → q ≡ add (o .scope .0) p
-    → ExpandedInside (record { entries = at .entries; phase = at .phase; meanings = o .meanings }) st st1 l l1 (o .state) q (o .at) r → ExpandedOnward at st st1 l l1 x r
+pub body-expanded : {at : Surroundings} {st st1 l l1 : List ℕ} {x : Onward} {o : Next} {p q : Scopes} {r : Answer} → x ≡ onward.Done o → p ≡ prunableOf st → q ≡ add (o .scope .0) p
+    → ExpandedInside (further o at) st st1 l l1 (o .state) q (o .at) r → ExpandedOnward at st st1 l l1 x r
 unfolding inside
-in-place-expanded {at} {st} {st1} {l} {l1} {x} {o} {p} {q} {r} e was wider a = record {
+body-expanded {at} {st} {st1} {l} {l1} {x} {o} {p} {q} {r} e was wider a = record {
   means = λ n k h w.
       let same : o ≡ n = cc in
       let v : ShownNext at l o k = rw same w in
       let more : q ≡ add (k .scope) (prunableOf st) = wider ∙ (λ i. add ((v .scope) i) (was i)) in
-      let c : Agrees objects 1 twoCells l l1 (o .state) (storeOf st1) (inside (λ u. q) (expand (at .entries) (record { phase = at .phase; meanings = v .meant }) (k .object)) (stateOf (o .state) (storeOf st))) (ended r) =
+      let c : Agrees objects 1 twoCells l l1 (o .state) (storeOf st1) (inside (λ u. q) (expand (at .entries) (around (v .meant) at) (k .object)) (stateOf (o .state) (storeOf st))) (ended r) =
       a .means (k .object) (v .meant) (v .rep) (v .known) in
-      let d : Agrees objects 1 twoCells l l1 (o .state) (storeOf st1) (inside (λ u. add (k .scope) (prunableOf st)) (expand (at .entries) (record { phase = at .phase; meanings = v .meant }) (k .object)) (stateOf (o .state) (storeOf st))) (ended r) = rw more at c in
+      let d : Agrees objects 1 twoCells l l1 (o .state) (storeOf st1) (inside (λ u. add (k .scope) (prunableOf st)) (expand (at .entries) (around (v .meant) at) (k .object)) (stateOf (o .state) (storeOf st))) (ended r) = rw more at c in
       let f : Agrees objects 1 twoCells l l1 (o .state) (storeOf st1) (inside (add (k .scope)) (expand (at .entries) (k .there) (k .object)) (stateOf (o .state) (storeOf st))) (ended r) = rw (v .there) d in
       rw same at f;
   refused = λ g h. let z : _≡_ {A = ℕ} 0 1 = cc in absurd (omega arith);
 }
-
--- ---- a macro's use
-
-module _ {at : Surroundings} {st st1 l l1 : List ℕ} {s : State} {i w : ℕ} {a : Answer} (v : Rewritten at st st1 l l1 s i w a) where
-  pub macro-refused : {f : Stop} → a ≡ Refused f → ExpandedMacro at st st1 l l1 s i w (Refused f)
-  macro-refused e =
-      record { means = λ y t g p u k. stops _ (macro-split (expansion (at .entries)) (at .entries) (around g at) (stateOf s (storeOf st)) t y ∙ then-no _ (on-refused (v .means y t p u) (ap ended e))) }
-
-  module _ {o : Out} (e : a ≡ Done o) where
-    rewritten-to : (y : Stx) (t : Tree) → Rep l (s .top) i (stx y) → Rep l (s .top) w t
-        → Gave objects 1 nodeSpare l l1 s (storeOf st1) (rewrittenRule (at .entries) (at .phase) t y (stateOf s (storeOf st))) o
-    rewritten-to y t p u = on-done (v .means y t p u) (ap ended e)
-
-    pub macro-ready : ReadyMacro l s i w at → Held st s → length l1 ≡ length l → length st1 ≡ length st → ReadyToExpand l1 st1 (o .state) (o .at) at
-    macro-ready r h len len2 =
-        let g = rewritten-to (r .thing) (r .value) (r .shown) (r .shown-value) in
-        record {
-          thing = g .value;
-          shown = g .shown .rep;
-          within = record {
-            meant = r .meant;
-            known = carryE (r .known) (g .later .kept) (g .later .grows);
-            room = room-later (r .room) (g .later) len;
-            held = record { few = g .shown .few; wide = omega (arith, h .wide, len2) };
-          };
-        }
-
-    pub macro-less : {T : ℕ} → ReadyMacro l s i w at → s .left * 32 + 18 ≡ T → o .state .left * 32 < T
-    macro-less r z = omega (arith, rewritten-to (r .thing) (r .value) (r .shown) (r .shown-value) .later .spent)
-
-    pub macro-expanded : {st2 l2 : List ℕ} {q : Answer} → Expanded at st1 st2 l1 l2 (o .state) (o .at) q → ExpandedMacro at st st2 l l2 s i w q
-    macro-expanded d =
-        record {
-          means = λ y t g p u k.
-              let j = rewritten-to y t p u in
-              since 1 twoCells (j .later) (omega arith) (omega arith) (macro-split (expansion (at .entries)) (at .entries) (around g at) (stateOf s (storeOf st)) t y ∙ then-ok _ (j .is))
-              (d .means (j .value) g (j .shown .rep) (carryE k (j .later .kept) (j .later .grows)));
-        }
 
 pub ruleset laws = (
   application-parts,
   application-refused,
   application-list,
   application-made,
-  in-place-declared,
-  in-place-wide,
-  in-place-ready,
-  in-place-less,
-  in-place-refused,
-  in-place-expanded,
-  macro-refused,
-  macro-ready,
-  macro-less,
-  macro-expanded,
+  body-declared,
+  body-wide,
+  body-ready,
+  body-less,
+  body-refused,
+  body-expanded,
 )

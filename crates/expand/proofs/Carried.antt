@@ -1,16 +1,16 @@
--- An expansion of its own, with another set prunable, and afterwards the one of before.
+-- An expansion of its own, with other sets carried, and afterwards those of before.
 use mathlib.Core.Path.{_≡_, sym, ap, _∙_}
 use mathlib.Core.List.{List}
 use Prim.Native.Nat.{ℕ, _+_, _*_, _≤_, _<_}
 use native.Mathlib.Omega.{arith}
 use lib.ListN.{length}
-use Rattle.model.specs.Scopes.{Scopes}
+use Rattle.model.specs.Scopes.{Scopes, noScopes}
 use Rattle.model.specs.Objects.{Stx}
 use Rattle.model.specs.Steps as ms
 use Rattle.model.specs.Steps.{ok, no, after, Step, carrying, inside}
 use Rattle.model.specs.Expanding.{expand}
 use Rattle.store.specs.Sizes.{mostBindings, heldSize}
-use Rattle.store.specs.Words.{prunableOf, Prunes}
+use Rattle.store.specs.Words.{prunableOf, usesOf, Carries}
 use Rattle.steps.specs.States.{storeOf, stateOf}
 use Rattle.steps.specs.Agreement.{Ended, ended, Agrees, gives, stops}
 use Rattle.steps.specs.declared.State.{State}
@@ -22,14 +22,14 @@ use Rattle.expand.specs.Leaves.{around}
 use Rattle.expand.specs.Cycle.{ReadyToExpand, Expanded, ExpandedInside}
 use Rattle.expand.specs.declared.Surroundings.{Surroundings}
 
--- another set in the store is another set in the rules' state
-pub put-state : {p : Scopes} {st st1 : List ℕ} (s : State) → Prunes p st st1 → s .bindings ≤ mostBindings → stateOf s (storeOf st1) ≡ carrying p (stateOf s (storeOf st))
+-- other sets in the store are other sets in the rules' state
+pub put-state : {p u : Scopes} {st st1 : List ℕ} (s : State) → Carries p u st st1 → s .bindings ≤ mostBindings → stateOf s (storeOf st1) ≡ carrying p u (stateOf s (storeOf st))
 unfolding carrying
 put-state s w few =
-    λ i. record { left = s .left; names = s .names; scopes = s .scopes; binds = (w .same (s .bindings) few) i; prunable = (w .is) i }
+    λ i. record { left = s .left; names = s .names; scopes = s .scopes; binds = (w .same (s .bindings) few) i; prunable = (w .prunable) i; uses = (w .uses) i }
 
--- from the set of before, the set put, and the set of before put back
-inside-agrees : {n v : ℕ} {l l1 : List ℕ} {s : State} {st st1 st2 st3 : List ℕ} {p : Scopes} (m : Step Stx) {x : Ended Out} → s .bindings ≤ mostBindings → Prunes p st st1 → Prunes (prunableOf st) st2 st3
+-- from the sets of before, the set put with no use scopes, and the sets of before put back
+inside-agrees : {n v : ℕ} {l l1 : List ℕ} {s : State} {st st1 st2 st3 : List ℕ} {p : Scopes} (m : Step Stx) {x : Ended Out} → s .bindings ≤ mostBindings → Carries p noScopes st st1 → Carries (prunableOf st) (usesOf st) st2 st3
     → Agrees objects n v l l1 s (storeOf st2) (m (stateOf s (storeOf st1))) x → Agrees objects n v l l1 s (storeOf st3) (inside (λ q. p) m (stateOf s (storeOf st))) x
 unfolding inside
 inside-agrees {s = s} m few put back (gives o g) =
@@ -55,9 +55,9 @@ module _ {l st : List ℕ} {s : State} {i : ℕ} {at : Surroundings} (r : ReadyT
         within = record { meant = r .within .meant; known = r .within .known; room = r .within .room; held = record { few = r .within .held .few; wide = omega (arith, r .within .held .wide, len) } };
       }
 
-  pub inside-is : {st1 st2 st3 l1 : List ℕ} {was p : Scopes} {a : Answer} → was ≡ prunableOf st → Prunes p st st1 → Expanded at st1 st2 l l1 s i a → Prunes was st2 st3
+  pub inside-is : {st1 st2 st3 l1 : List ℕ} {was had p none : Scopes} {a : Answer} → was ≡ prunableOf st → had ≡ usesOf st → none ≡ noScopes → Carries p none st st1 → Expanded at st1 st2 l l1 s i a → Carries was had st2 st3
       → ExpandedInside at st st3 l l1 s p i a
-  inside-is e put v back = record { means = λ x g w k. inside-agrees (expand (at .entries) (around g at) x) (r .within .held .few) put (rw e at back) (v .means x g w k) }
+  inside-is e j z put v back = record { means = λ x g w k. inside-agrees (expand (at .entries) (around g at) x) (r .within .held .few) (rw z at put) (rw (e, j) at back) (v .means x g w k) }
 
 pub inside-less : (s : State) {T : ℕ} → s .left * 32 + 1 ≡ T → s .left * 32 < T
 inside-less s e = omega arith

@@ -8,8 +8,9 @@ use lib.ListN.{length}
 use Rattle.model.specs.Objects.{symbol, Stx, atom, cons}
 use Rattle.model.specs.Trees.{stx, fromStxs}
 use Rattle.model.specs.Steps.{after, parts2, identifier}
-use Rattle.model.specs.Expanding as m
-use Rattle.model.specs.Expanding.{variable, Env, expandLambda}
+use Rattle.model.specs.Meanings.{variable}
+use Rattle.model.specs.Expanding as rules
+use Rattle.model.specs.Expanding.{expandLambda}
 use Rattle.refusals.specs.declared.Refusal.the-variants.{NoRule}
 use Rattle.things.specs.Rep.{Rep}
 use Rattle.things.specs.Measuring.{Seen, SeenP}
@@ -27,8 +28,7 @@ use Rattle.forms.specs.Shapes.{Double, Identifies}
 use Rattle.forms.specs.declared.Two.{Two}
 use Rattle.forms.specs.declared.Two.the-variants as two
 use Rattle.forms.proofs.Shapes.{on-two, on-not-two, not-parts2, not-identifier, is-identifier}
-use Rattle.environment.specs.Meanings.{meant-variable, RepE}
-use Rattle.environment.proofs.Frame.{carryE}
+use Rattle.environment.specs.Meanings.{meant-variable}
 use Rattle.scoping.specs.Changing.{objects}
 use Rattle.scoping.specs.Fresh.{ShownBinder, ReadyBinder, boundOf, BindsFresh}
 use Rattle.scoping.proofs.Fresh.{bound-to}
@@ -36,7 +36,8 @@ use Rattle.scoping.specs.declared.Binder.{Binder}
 use Rattle.scoping.specs.declared.Bound.{Bound}
 use Rattle.scoping.specs.declared.Bound.the-variants as bounds
 use Rattle.expand.specs.Making.{ReadyThree, ThreeLists}
-use Rattle.expand.specs.Leaves.{around}
+use Rattle.expand.specs.Leaves.{Around, around, RepA}
+use Rattle.expand.specs.Values.{evaluation}
 use Rattle.expand.specs.InPlace.{furtherRule, nexts, onwardOf, ReadyScoped, scopedRule, Scoped}
 use Rattle.expand.specs.Cycle.{expansion, ReadyForm, ReadyFunction, ReadyAbstraction, ReadyOnward, abstractionRule, ExpandedOnward, ExpandedLambda, ExpandedFunction, ExpandedAbstraction}
 use Rattle.expand.specs.declared.Surroundings.{Surroundings}
@@ -46,7 +47,7 @@ use Rattle.expand.proofs.Leaves.{owes-one, owes-two}
 use Rattle.expand.proofs.InPlace.{leftOf, onward-less, onward-ready, onward-goes}
 use Rattle.expand.proofs.Rules.{function-split}
 use Rattle.table.specs.Sizes.{cellSize, twoCells, nodeSpare, tripleSpare}
-use Rattle.expand.proofs.Within.{within-later, within-paid}
+use Rattle.expand.proofs.Surrounding.{carryA, within-later, within-paid}
 use Rattle.expand.proofs.InPlace.{by-name}
 
 -- ---- lambda
@@ -117,7 +118,7 @@ module _ {st l : List ℕ} (s : State) {i head id body : ℕ} {at : Surroundings
   module _ {st1 l1 : List ℕ} {z : Bound} (v : BindsFresh (at .phase) st st1 l l1 s id z) where
     pub function-refused : {f : Stop} → z ≡ bounds.Refused f → ExpandedFunction at st st1 l l1 s i head id body (Refused f)
     function-refused e =
-        record { means = λ k qs h c x y g u w a b t. stops _ (function-split (expansion (at .entries)) (at .entries) (around g at) (stateOf s (storeOf st)) k h c x y ∙ then-no _ (on-refused (v .means c x a) (ap boundOf e))) }
+        record { means = λ k qs h c x y g u w a b t. stops _ (function-split (expansion (at .entries)) (evaluation (at .entries)) (at .entries) (around g at) (stateOf s (storeOf st)) k h c x y ∙ then-no _ (on-refused (v .means c x a) (ap boundOf e))) }
 
     module _ {o : Binder} (e : z ≡ bounds.Done o) where
       pub function-less : {T : ℕ} → s .left * 32 + 17 ≡ T → o .state .left * 32 + 16 < T
@@ -149,8 +150,8 @@ module _ {st l : List ℕ} (s : State) {i head id body : ℕ} {at : Surroundings
             means = λ k qs h c x y g u w a b t.
                 let j = bound-to v e c x a in
                 beyond 1 twoCells 2 1 (j .later) (owes-two (o .state)) (owes-one s) (omega arith) (omega arith)
-                (function-split (expansion (at .entries)) (at .entries) (around g at) (stateOf s (storeOf st)) k h c x y ∙ then-ok _ (j .is))
-                (f .means k qs h (j .value) x y g (carry u (j .later .kept) (j .later .grows)) (carry w (j .later .kept) (j .later .grows)) (j .shown) (carry b (j .later .kept) (j .later .grows)) (carryE t (j .later .kept) (j .later .grows)));
+                (function-split (expansion (at .entries)) (evaluation (at .entries)) (at .entries) (around g at) (stateOf s (storeOf st)) k h c x y ∙ then-ok _ (j .is))
+                (f .means k qs h (j .value) x y g (carry u (j .later .kept) (j .later .grows)) (carry w (j .later .kept) (j .later .grows)) (j .shown) (carry b (j .later .kept) (j .later .grows)) (carryA t (j .later .kept) (j .later .grows)));
           }
 
 -- ---- abstraction
@@ -171,7 +172,7 @@ abstraction-scoped-ready r =
     }
 
 module _ {at : Surroundings} {l l1 : List ℕ} {b : Binder} {body : ℕ} {x : Onward} (v : Scoped at l l1 (b .state) b 0 (b .at) body x) where
-  in-scope : (st : List ℕ) (k : m.Binder) (n : ℕ) (y : Stx) (g : Env) → ShownBinder n l b k → Rep l (b .state .top) body (stx y) → RepE l (b .state .top) (at .meanings) g
+  in-scope : (st : List ℕ) (k : rules.Binder) (n : ℕ) (y : Stx) (g : Around) → ShownBinder n l b k → Rep l (b .state .top) body (stx y) → RepA l (b .state .top) at g
       → Agrees (nexts at) 1 cellSize l l1 (b .state) (storeOf st) (scopedRule (around g at) k (variable (k .sets) n) y (stateOf (b .state) (storeOf st))) (onwardOf x)
   in-scope st k n y g p q t = v .means (storeOf st) k (variable (k .sets) n) y g (by-name p) (meant-variable (p .rep)) q t
 
@@ -183,7 +184,7 @@ module _ {at : Surroundings} {l l1 : List ℕ} {b : Binder} {body : ℕ} {x : On
     abstraction-less z = omega (arith, onward-less x (in-scope st (r .binder) (r .symb) (r .thing) (r .within .meant) (r .shown-binder) (r .shown-body) (r .within .known)))
 
   module _ {st st1 l2 : List ℕ} {a : Answer} (w : ExpandedOnward at st st1 l1 l2 x a) where
-    abstraction-goes : (k : m.Binder) (n : ℕ) (y : Stx) (g : Env) → ShownBinder n l b k → Rep l (b .state .top) body (stx y) → RepE l (b .state .top) (at .meanings) g
+    abstraction-goes : (k : rules.Binder) (n : ℕ) (y : Stx) (g : Around) → ShownBinder n l b k → Rep l (b .state .top) body (stx y) → RepA l (b .state .top) at g
         → Agrees objects 2 nodeSpare l l2 (b .state) (storeOf st1) (after (scopedRule (around g at) k (variable (k .sets) n) y (stateOf (b .state) (storeOf st))) (furtherRule (expansion (at .entries)))) (ended a)
     abstraction-goes k n y g p q t = onward-goes x (in-scope st k n y g p q t) w
 
@@ -192,7 +193,7 @@ module _ {at : Surroundings} {l l1 : List ℕ} {b : Binder} {body : ℕ} {x : On
     abstraction-refused e = record { means = λ c qs h k n y g u w2 p q t. stops _ (then-no _ (on-refused (abstraction-goes k n y g p q t) (ap ended e))) }
 
     module _ {o : Out} (e : a ≡ Done o) where
-      scoped-to : (k : m.Binder) (n : ℕ) (y : Stx) (g : Env) → ShownBinder n l b k → Rep l (b .state .top) body (stx y) → RepE l (b .state .top) (at .meanings) g
+      scoped-to : (k : rules.Binder) (n : ℕ) (y : Stx) (g : Around) → ShownBinder n l b k → Rep l (b .state .top) body (stx y) → RepA l (b .state .top) at g
           → Gave objects 2 nodeSpare l l2 (b .state) (storeOf st1) (after (scopedRule (around g at) k (variable (k .sets) n) y (stateOf (b .state) (storeOf st))) (furtherRule (expansion (at .entries)))) o
       scoped-to k n y g p q t = on-done (abstraction-goes k n y g p q t) (ap ended e)
 

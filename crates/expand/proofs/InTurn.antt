@@ -8,7 +8,7 @@ use Rattle.model.specs.Objects.{Stx, Stxs, nil, cons}
 use Rattle.model.specs.Trees.{stx, fromStxs}
 use Rattle.model.specs.Steps as m
 use Rattle.model.specs.Steps.{ok, after, inside}
-use Rattle.model.specs.Expanding.{Env, expandAll, expand}
+use Rattle.model.specs.Expanding.{expandAll, expand}
 use Rattle.model.specs.Scopes.{Scopes}
 use Rattle.store.specs.Sizes.{mostBindings, heldSize}
 use Rattle.store.specs.Words.{prunableOf}
@@ -32,13 +32,11 @@ use Rattle.things.proofs.Frame.{carry, carryP}
 use Rattle.things.proofs.Turning.{count-more}
 use Rattle.forms.proofs.Shapes.{nil-at, first-at}
 use Rattle.parse.proofs.InTurn.{linkable, turnable}
-use Rattle.environment.specs.Meanings.{RepE}
-use Rattle.environment.proofs.Frame.{carryE}
 use Rattle.scoping.specs.Changing.{objects}
 use Rattle.expand.specs.declared.Surroundings.{Surroundings}
-use Rattle.expand.specs.Leaves.{around, Within}
+use Rattle.expand.specs.Leaves.{Around, around, RepA, Within}
 use Rattle.expand.specs.Cycle.{ReadyToExpand, ReadyParts, ExpandedInside, ExpandedParts}
-use Rattle.expand.proofs.Within.{within-later}
+use Rattle.expand.proofs.Surrounding.{carryA, within-later}
 
 -- ps turned round, and then us
 unfoldable pub turnObjects : Stxs → Stxs → Stxs
@@ -55,11 +53,11 @@ abbrev pub handedOn : Stxs → Stxs → m.Step Stxs
 handedOn done us = λ y. ok (turnObjects done us) y
 
 -- the rule for the parts
-abbrev pub all : Surroundings → Env → Stxs → m.Step Stxs
+abbrev pub all : Surroundings → Around → Stxs → m.Step Stxs
 all at e ps = expandAll (λ x. inside (λ p. p) (expand (at .entries) (around e at) x)) ps
 
 -- `from` is left of the chain of ps, and `turned` is what the parts before it became, the last first
-pub record Half (at : Surroundings) (st st′ l : List ℕ) (s t : State) (from turned : ℕ) (ps : Stxs) (e : Env) : Type 0 where
+pub record Half (at : Surroundings) (st st′ l : List ℕ) (s t : State) (from turned : ℕ) (ps : Stxs) (e : Around) : Type 0 where
   pub rest : Stxs
   pub done : Stxs
   pub shown : RepP l (t .top) from (fromStxs rest)
@@ -74,7 +72,7 @@ pub record Going (at : Surroundings) (st l : List ℕ) (s : State) (c : ℕ) (st
   pub wide : length st′ ≡ length st
   pub few : t .bindings ≤ mostBindings
   pub spent : t .left ≤ s .left
-  pub means : (ps : Stxs) (e : Env) → RepP l (s .top) c (fromStxs ps) → RepE l (s .top) (at .meanings) e → Half at st st′ l′ s t from turned ps e
+  pub means : (ps : Stxs) (e : Around) → RepP l (s .top) c (fromStxs ps) → RepA l (s .top) at e → Half at st st′ l′ s t from turned ps e
 
 pub parts-start : {at : Surroundings} {st l : List ℕ} {s : State} {c : ℕ} → ReadyParts l st s c at → Going at st l s c st l s c 0
 unfolding turnObjects counts fromStxs
@@ -124,7 +122,7 @@ module _ {at : Surroundings} {st l : List ℕ} {s : State} {c : ℕ} (r : ReadyP
 
       module _ {st2 l2 : List ℕ} {p : Scopes} {a : Answer} (same : p ≡ prunableOf st1) (v : ExpandedInside at st1 st2 l1 l2 t p (x .head) a) where
         -- the set put is the one that is there
-        meant-inside : (z : Stx) (d : Env) → Rep l1 (t .top) (x .head) (stx z) → RepE l1 (t .top) (at .meanings) d
+        meant-inside : (z : Stx) (d : Around) → Rep l1 (t .top) (x .head) (stx z) → RepA l1 (t .top) at d
             → Agrees objects 1 twoCells l1 l2 t (storeOf st2) (inside (λ p. p) (expand (at .entries) (around d at) z) (stateOf t (storeOf st1))) (ended a)
         unfolding inside
         meant-inside z d w y = rw same at (v .means z d w y)
@@ -136,11 +134,11 @@ module _ {at : Surroundings} {st l : List ℕ} {s : State} {c : ℕ} (r : ReadyP
               let h = g .means ps d w y in
               let q = first-at (h .rest) (h .shown) n e in
               stops _ (h .whole ∙ ap (λ (z : Stxs). after (all at d z (stateOf t (storeOf st1))) (handedOn (h .done))) (q .is)
-              ∙ then-no _ (then-no _ (on-refused (meant-inside (q .first) d (q .cell .shown) (carryE y (g .kept) (g .grows))) (ap ended k))));
+              ∙ then-no _ (then-no _ (on-refused (meant-inside (q .first) d (q .cell .shown) (carryA y (g .kept) (g .grows))) (ap ended k))));
         }
 
         module _ {o : Out} (k : a ≡ Done o) where
-          gave : (z : Stx) (d : Env) → Rep l1 (t .top) (x .head) (stx z) → RepE l1 (t .top) (at .meanings) d
+          gave : (z : Stx) (d : Around) → Rep l1 (t .top) (x .head) (stx z) → RepA l1 (t .top) at d
               → Gave objects 1 twoCells l1 l2 t (storeOf st2) (inside (λ p. p) (expand (at .entries) (around d at) z) (stateOf t (storeOf st1))) o
           gave z d w y = on-done (meant-inside z d w y) (ap ended k)
 
@@ -173,7 +171,7 @@ module _ {at : Surroundings} {st l : List ℕ} {s : State} {c : ℕ} (r : ReadyP
                 means = λ ps env w b.
                     let h = g .means ps env w b in
                     let q = first-at (h .rest) (h .shown) n e in
-                    let j = gave (q .first) env (q .cell .shown) (carryE b (g .kept) (g .grows)) in
+                    let j = gave (q .first) env (q .cell .shown) (carryA b (g .kept) (g .grows)) in
                     let more = count-more (stx (j .value)) (fromStxs (h .done)) in
                     record {
                       rest = q .others;

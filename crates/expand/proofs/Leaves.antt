@@ -5,16 +5,14 @@ use Prim.Native.Nat.{ℕ, _+_, _-_, _*_, _≤_, _<_}
 use native.Mathlib.Omega.{arith}
 use lib.ListN.{length}
 use Rattle.model.specs.Objects.{Sets, symbol, Stx, atom, list, nil, cons, flipScope, pruneScopes}
-use Rattle.model.specs.Trees.{Tree, app, stx, tnil, tcons, fromStxs, asStx}
+use Rattle.model.specs.Trees.{Tree, stx, fromStxs, asStx}
 use Rattle.model.specs.Steps as ms
 use Rattle.model.specs.Steps.{ok, after, resolveAt, parts1, flipIn, prunableNow, pruneFrom}
-use Rattle.model.specs.Evaluating.{evaluate}
-use Rattle.model.specs.Parsing.{parse}
-use Rattle.model.specs.Expanding as m
+use Rattle.model.specs.Meanings as m
 use Rattle.model.specs.Expanding.{headMeaning, expandName, expandSyntax, orNoSyntax}
 use Rattle.refusals.specs.declared.Refusal.the-variants.{NoMeaning, NoRule, NoSyntax}
 use Rattle.model.specs.Scopes.{Scopes}
-use Rattle.store.specs.Words.{bindsOf, prunableOf}
+use Rattle.store.specs.Words.{prunableOf}
 use Rattle.table.specs.Tags.{listTag}
 use Rattle.table.specs.Words.{getNode}
 use Rattle.table.specs.declared.Node.{Node}
@@ -24,18 +22,15 @@ use Rattle.things.proofs.Frame.{below, carry}
 use Rattle.things.proofs.ByTag.{tag-is, not-syntax}
 use Rattle.store.specs.declared.rivals.Rivals.{Rivals}
 use Rattle.steps.specs.States.{stopOf, ambiguousOf, Store, storeOf, noStore, stateOf}
-use Rattle.steps.specs.Agreement as agr
 use Rattle.steps.specs.Agreement.{Later, ended, Gave, Agrees, gives, stops}
 use Rattle.steps.specs.declared.State.{State}
 use Rattle.steps.specs.declared.Stop.{Stop}
 use Rattle.steps.specs.declared.Out.{Out}
 use Rattle.steps.specs.declared.Answer.{Answer}
 use Rattle.steps.specs.declared.Answer.the-variants.{Done, Refused}
-use Rattle.steps.proofs.Laws.{then-ok, then-no, later-refl, room-later, on-done, on-refused, since}
-use Rattle.parse.specs.Shown.{trees}
-use Rattle.parse.specs.Parsing as pp
-use Rattle.parse.specs.Parsing.{unpaid, Parsed}
-use Rattle.evaluate.specs.Evaluation.{ReadyOne, Evaluates, AppliesValue}
+use Rattle.steps.proofs.Laws.{then-ok, then-no, later-refl, on-done, on-refused}
+use Rattle.parse.specs.Parsing.{unpaid}
+use Rattle.stops.specs.Stops.{KnownZ}
 use Rattle.forms.specs.Shapes.{Single}
 use Rattle.forms.specs.declared.One.{One}
 use Rattle.forms.specs.declared.One.the-variants as one
@@ -43,16 +38,14 @@ use Rattle.forms.proofs.Shapes.{on-one, on-not-one, not-parts1}
 use Rattle.environment.specs.Meanings.{Known, MeansAt}
 use Rattle.environment.specs.declared.Meaning.{Meaning}
 use Rattle.environment.specs.declared.Meaning.the-variants as meant
-use Rattle.environment.proofs.Laws.{on-lambda, on-let-syntax, on-quote, on-syntax, on-variable, on-macro, on-unknown, on-meaning-unclear, head-means, head-unclear}
+use Rattle.environment.proofs.Laws.{on-lambda, on-let-syntax, on-quote, on-syntax, on-variable, on-macro, on-unknown, on-stopped, on-meaning-unclear, head-means, head-unclear}
 use Rattle.scoping.specs.Changing.{objects, ReadyObject, changeRule, Changes}
 use Rattle.steps.proofs.Laws.{after-after}
-use Rattle.scoping.proofs.Fresh.{binds-length}
 use Rattle.expand.specs.Making.{ReadyTwo, TwoLists}
-use Rattle.expand.specs.Leaves.{around, ReadyName, nameRule, ExpandedName, ReadyTail, quoteRule, ExpandedQuote, ExpandedSyntax, ReadyPruned, prunedRule, Pruned, ReadyValue, valueRule, Values, ReadyBack, backRule, Backs, ReadyTranscribed, transcribeRule, Transcribes}
+use Rattle.expand.specs.Leaves.{around, ReadyName, nameRule, ExpandedName, ReadyTail, quoteRule, ExpandedQuote, ExpandedSyntax, ReadyPruned, prunedRule, Pruned, ReadyBack, backRule, Backs}
 use Rattle.expand.specs.declared.Surroundings.{Surroundings}
-use Rattle.expand.proofs.Keeping.{evaluate-keeps}
 use Rattle.expand.proofs.Agreeing.{Owed, beyond}
-use Rattle.table.specs.Sizes.{twoCells, nodeSize, nodeSpare, unitSize}
+use Rattle.table.specs.Sizes.{twoCells, nodeSize, nodeSpare}
 use Rattle.store.specs.Sizes.{bindingSize}
 
 -- an entry that makes nothing
@@ -73,7 +66,7 @@ owes-two s = record { top = refl; left = omega arith }
 
 -- ---- an identifier
 
-name-split : (here : m.Surroundings) (c : Sets) (x : ℕ) (y : ms.State) → nameRule here c x y ≡ after (headMeaning (here .phase) (here .meanings) (atom c (symbol x)) y) expandName
+name-split : (here : m.Surroundings) (c : Sets) (x : ℕ) (y : ms.State) → nameRule here c x y ≡ after (headMeaning here (atom c (symbol x)) y) expandName
 unfolding nameRule headMeaning
 name-split here c x y = sym (after-after (resolveAt (here .phase) c x y) _ _)
 
@@ -84,22 +77,26 @@ module _ {l st : List ℕ} (s : State) {i : ℕ} {at : Surroundings} (r : ReadyN
 
   pub name-known : Known l (at .meanings)
   unfolding unpaid
-  name-known = record { top = s .top; thing = r .within .meant; shown = r .within .known; inside = omega (arith, r .within .room .fits); small = r .within .room .small }
+  name-known = record { top = s .top; thing = r .within .meant .meanings; shown = r .within .known .meant; inside = omega (arith, r .within .room .fits); small = r .within .room .small }
+
+  pub name-stops : KnownZ l (at .stops)
+  unfolding unpaid
+  name-stops = record { top = s .top; things = r .within .meant .stops; shown = r .within .known .stopped; inside = omega (arith, r .within .room .fits); small = r .within .room .small }
 
   pub name-held : s .bindings * bindingSize ≤ length st
   unfolding unpaid
   name-held = omega (arith, r .within .held .few, r .within .held .wide)
 
-  module _ {w : Meaning} (p : MeansAt (at .phase) st (s .bindings) l i (at .meanings) w) where
+  module _ {w : Meaning} (p : MeansAt (at .phase) st (s .bindings) l i (at .meanings) (at .stops) w) where
     pub name-variable : {v : ℕ} → w ≡ meant.Variable v → ExpandedName at st l s i (Done (record { at = v; state = s }))
     unfolding expandName unpaid
     name-variable z =
         record {
           means = λ c x e u k.
-              let q = on-variable (p .means (s .top) (atom c (symbol x)) e u k) z in
+              let q = on-variable (p .means (s .top) (atom c (symbol x)) (e .meanings) (e .stops) u (k .meant) (k .stopped)) z in
               gives _ (record {
                 value = atom (q .sets) (symbol (q .symb));
-                is = name-split (around e at) c x (stateOf s (storeOf st)) ∙ then-ok _ (head-means (at .phase) e (stateOf s (storeOf st)) (atom c (symbol x)) (q .is));
+                is = name-split (around e at) c x (stateOf s (storeOf st)) ∙ then-ok _ (head-means (at .phase) (e .meanings) (e .stops) (stateOf s (storeOf st)) (atom c (symbol x)) (q .is));
                 shown = record { rep = q .shown; few = r .within .held .few };
                 later = unmade l s;
               });
@@ -108,36 +105,41 @@ module _ {l st : List ℕ} (s : State) {i : ℕ} {at : Surroundings} (r : ReadyN
     pub name-unknown : {r : Answer} → w ≡ meant.Unknown → r ≡ Refused (stopOf NoMeaning s) → ExpandedName at st l s i r
     unfolding expandName
     name-unknown z same =
-        rw same (record { means = λ c x e u k. stops _ (name-split (around e at) c x (stateOf s (storeOf st)) ∙ then-ok _ (head-means (at .phase) e (stateOf s (storeOf st)) (atom c (symbol x)) (on-unknown (p .means (s .top) (atom c (symbol x)) e u k) z))) })
+        rw same (record { means = λ c x e u k. stops _ (name-split (around e at) c x (stateOf s (storeOf st)) ∙ then-ok _ (head-means (at .phase) (e .meanings) (e .stops) (stateOf s (storeOf st)) (atom c (symbol x)) (on-unknown (p .means (s .top) (atom c (symbol x)) (e .meanings) (e .stops) u (k .meant) (k .stopped)) z))) })
 
     pub name-unclear : {r : Answer} {v : Rivals} → w ≡ meant.Unclear v → r ≡ Refused (ambiguousOf v s) → ExpandedName at st l s i r
     name-unclear z same =
-        rw same (record { means = λ c x e u k. stops _ (name-split (around e at) c x (stateOf s (storeOf st)) ∙ then-no _ (head-unclear (at .phase) e (stateOf s (storeOf st)) (atom c (symbol x)) (on-meaning-unclear (p .means (s .top) (atom c (symbol x)) e u k) z))) })
+        rw same (record { means = λ c x e u k. stops _ (name-split (around e at) c x (stateOf s (storeOf st)) ∙ then-no _ (head-unclear (at .phase) (e .meanings) (e .stops) (stateOf s (storeOf st)) (atom c (symbol x)) (on-meaning-unclear (p .means (s .top) (atom c (symbol x)) (e .meanings) (e .stops) u (k .meant) (k .stopped)) z))) })
 
     pub name-lambda : {r : Answer} → w ≡ meant.Lambda → r ≡ Refused (stopOf NoRule s) → ExpandedName at st l s i r
     unfolding expandName
     name-lambda z same =
-        rw same (record { means = λ c x e u k. stops _ (name-split (around e at) c x (stateOf s (storeOf st)) ∙ then-ok _ (head-means (at .phase) e (stateOf s (storeOf st)) (atom c (symbol x)) (on-lambda (p .means (s .top) (atom c (symbol x)) e u k) z))) })
+        rw same (record { means = λ c x e u k. stops _ (name-split (around e at) c x (stateOf s (storeOf st)) ∙ then-ok _ (head-means (at .phase) (e .meanings) (e .stops) (stateOf s (storeOf st)) (atom c (symbol x)) (on-lambda (p .means (s .top) (atom c (symbol x)) (e .meanings) (e .stops) u (k .meant) (k .stopped)) z))) })
 
     pub name-let-syntax : {r : Answer} → w ≡ meant.LetSyntax → r ≡ Refused (stopOf NoRule s) → ExpandedName at st l s i r
     unfolding expandName
     name-let-syntax z same =
-        rw same (record { means = λ c x e u k. stops _ (name-split (around e at) c x (stateOf s (storeOf st)) ∙ then-ok _ (head-means (at .phase) e (stateOf s (storeOf st)) (atom c (symbol x)) (on-let-syntax (p .means (s .top) (atom c (symbol x)) e u k) z))) })
+        rw same (record { means = λ c x e u k. stops _ (name-split (around e at) c x (stateOf s (storeOf st)) ∙ then-ok _ (head-means (at .phase) (e .meanings) (e .stops) (stateOf s (storeOf st)) (atom c (symbol x)) (on-let-syntax (p .means (s .top) (atom c (symbol x)) (e .meanings) (e .stops) u (k .meant) (k .stopped)) z))) })
 
     pub name-quote : {r : Answer} → w ≡ meant.Quote → r ≡ Refused (stopOf NoRule s) → ExpandedName at st l s i r
     unfolding expandName
     name-quote z same =
-        rw same (record { means = λ c x e u k. stops _ (name-split (around e at) c x (stateOf s (storeOf st)) ∙ then-ok _ (head-means (at .phase) e (stateOf s (storeOf st)) (atom c (symbol x)) (on-quote (p .means (s .top) (atom c (symbol x)) e u k) z))) })
+        rw same (record { means = λ c x e u k. stops _ (name-split (around e at) c x (stateOf s (storeOf st)) ∙ then-ok _ (head-means (at .phase) (e .meanings) (e .stops) (stateOf s (storeOf st)) (atom c (symbol x)) (on-quote (p .means (s .top) (atom c (symbol x)) (e .meanings) (e .stops) u (k .meant) (k .stopped)) z))) })
 
     pub name-syntax : {r : Answer} → w ≡ meant.Syntax → r ≡ Refused (stopOf NoRule s) → ExpandedName at st l s i r
     unfolding expandName
     name-syntax z same =
-        rw same (record { means = λ c x e u k. stops _ (name-split (around e at) c x (stateOf s (storeOf st)) ∙ then-ok _ (head-means (at .phase) e (stateOf s (storeOf st)) (atom c (symbol x)) (on-syntax (p .means (s .top) (atom c (symbol x)) e u k) z))) })
+        rw same (record { means = λ c x e u k. stops _ (name-split (around e at) c x (stateOf s (storeOf st)) ∙ then-ok _ (head-means (at .phase) (e .meanings) (e .stops) (stateOf s (storeOf st)) (atom c (symbol x)) (on-syntax (p .means (s .top) (atom c (symbol x)) (e .meanings) (e .stops) u (k .meant) (k .stopped)) z))) })
 
     pub name-macro : {v : ℕ} {r : Answer} → w ≡ meant.Macro v → r ≡ Refused (stopOf NoRule s) → ExpandedName at st l s i r
     unfolding expandName
     name-macro z same =
-        rw same (record { means = λ c x e u k. stops _ (name-split (around e at) c x (stateOf s (storeOf st)) ∙ then-ok _ (head-means (at .phase) e (stateOf s (storeOf st)) (atom c (symbol x)) (on-macro (p .means (s .top) (atom c (symbol x)) e u k) z .is))) })
+        rw same (record { means = λ c x e u k. stops _ (name-split (around e at) c x (stateOf s (storeOf st)) ∙ then-ok _ (head-means (at .phase) (e .meanings) (e .stops) (stateOf s (storeOf st)) (atom c (symbol x)) (on-macro (p .means (s .top) (atom c (symbol x)) (e .meanings) (e .stops) u (k .meant) (k .stopped)) z .is))) })
+
+    pub name-stopped : {r : Answer} → w ≡ meant.Stopped → r ≡ Refused (stopOf NoRule s) → ExpandedName at st l s i r
+    unfolding expandName
+    name-stopped z same =
+        rw same (record { means = λ c x e u k. stops _ (name-split (around e at) c x (stateOf s (storeOf st)) ∙ then-ok _ (head-means (at .phase) (e .meanings) (e .stops) (stateOf s (storeOf st)) (atom c (symbol x)) (on-stopped (p .means (s .top) (atom c (symbol x)) (e .meanings) (e .stops) u (k .meant) (k .stopped)) z))) })
 
 -- ---- quote and syntax
 
@@ -224,46 +226,6 @@ module _ {l : List ℕ} (s : State) {i head x : ℕ} (r : ReadyPruned l (unpaid 
                 beyond 1 twoCells 2 1 (j .later) (owes-two (o .state)) (owes-one s) (omega arith) (omega arith) (then-ok _ (j .is)) t;
           }
 
--- ---- values
-
-few-after : (s : State) (o : Out) (st : List ℕ) (d : ℕ) (t : Tree) {v : Tree} → s .bindings ≤ 512 → evaluate d t (stateOf s (storeOf st)) ≡ ok v (stateOf (o .state) (storeOf st)) → o .state .bindings ≤ 512
-few-after s o st d t {v} h e =
-    let k : bindsOf st (o .state .bindings) ≡ bindsOf st (s .bindings) = evaluate-keeps d t .kept (stateOf s (storeOf st)) (stateOf (o .state) (storeOf st)) v e in
-    let n : length (bindsOf st (o .state .bindings)) ≡ length (bindsOf st (s .bindings)) = ap length k in
-    omega (arith, n, binds-length st (o .state .bindings), binds-length st (s .bindings))
-
-pub value-parse : {l st : List ℕ} {s : State} {i : ℕ} → ReadyValue l st s i → pp.ReadyToParse l st s i
-value-parse r = record { thing = r .thing; shown = r .shown; room = r .room; held = r .held }
-
-module _ {entries ph : ℕ} {st l l1 : List ℕ} {s : State} {i : ℕ} {a : Answer} (v : Parsed entries ph st l l1 s i a) where
-  pub value-refused : {f : Stop} → a ≡ Refused f → Values entries ph st l l1 s i (Refused f)
-  unfolding valueRule
-  value-refused e = record { means = λ x w. stops _ (then-no _ (on-refused (v .means x w) (ap ended e))) }
-
-  module _ {o : Out} (e : a ≡ Done o) where
-    parsed-to : (x : Stx) → Rep l (s .top) i (stx x) → Gave trees 1 twoCells l l1 s (storeOf st) (parse entries ph x (stateOf s (storeOf st))) o
-    parsed-to x w = on-done (v .means x w) (ap ended e)
-
-    pub value-evaluate : ReadyValue l st s i → length l1 ≡ length l → agr.Ready Rep l1 (o .state) (o .at)
-    value-evaluate r len =
-        let g = parsed-to (r .thing) (r .shown) in
-        record { thing = g .value; shown = g .shown .rep; room = room-later (r .room) (g .later) len }
-
-    -- with what is known of bindings
-    as-tree : (t : Tree) {s1 : State} {l2 : List ℕ} {q : agr.Ended Out} → s1 .bindings ≤ 512
-        → Agrees (agr.placed Rep) 1 unitSize l1 l2 s1 (storeOf st) (evaluate entries t (stateOf s1 (storeOf st))) q → Agrees trees 1 unitSize l1 l2 s1 (storeOf st) (evaluate entries t (stateOf s1 (storeOf st))) q
-    as-tree t {s1} h (gives p g) = gives p (record { value = g .value; is = g .is; shown = record { rep = g .shown; few = few-after s1 p st entries t h (g .is) }; later = g .later })
-    as-tree t h (stops f g) = stops f g
-
-    pub value-done : {l2 : List ℕ} {q : Answer} → Evaluates entries l1 l2 (o .state) (o .at) q → Values entries ph st l l2 s i q
-    unfolding valueRule
-    value-done {l2} {q} d =
-        record {
-          means = λ x w.
-              let g = parsed-to x w in
-              since 1 twoCells (g .later) (omega arith) (omega arith) (then-ok _ (g .is)) (as-tree (g .value) (g .shown .few) (d .means (storeOf st) (g .value) (g .shown .rep)));
-        }
-
 -- ---- back from a macro's use
 
 record SyntaxIs (t : Tree) : Type 0 where
@@ -295,38 +257,10 @@ module _ {l : List ℕ} {s : State} {i : ℕ} {o : Node} (e : o ≡ getNode l i)
     unfolding backRule orNoSyntax asStx flipIn changeRule
     back-done ph k v = record { means = λ b t w. let q = is-syntax w e h in rw (q .is) (v .means b (q .it) (rw (q .is) at w)) }
 
--- ---- a macro's value applied
-
-pub apply-ready : {l : List ℕ} {s : State} {v form : ℕ} → ReadyTranscribed l s v form → ReadyOne l s v form
-apply-ready r = record { value = r .value; thing = stx (r .thing); shown = r .shown; given = r .shown-form; room = r .room }
-
-module _ {entries : ℕ} {l l1 : List ℕ} {s : State} {v form : ℕ} {a : Answer} (d : AppliesValue entries l l1 s v form a) where
-  pub apply-refused : {ph k : ℕ} {f : Stop} → a ≡ Refused f → Transcribes entries ph k l l1 s v form (Refused f)
-  unfolding transcribeRule
-  apply-refused e = record { means = λ b t x u w. stops _ (then-no _ (on-refused (d .means b t (stx x) u w) (ap ended e))) }
-
-  module _ {o : Out} (e : a ≡ Done o) where
-    applied-to : (b : Store) (t : Tree) (x : Stx) → Rep l (s .top) v t → Rep l (s .top) form (stx x) → Gave (agr.placed Rep) 1 unitSize l l1 s b (evaluate entries (app t (tcons (stx x) tnil)) (stateOf s b)) o
-    applied-to b t x u w = on-done (d .means b t (stx x) u w) (ap ended e)
-
-    pub apply-back : ReadyTranscribed l s v form → length l1 ≡ length l → ReadyBack l1 (o .state) (o .at)
-    apply-back r len =
-        let g = applied-to (storeOf []) (r .value) (r .thing) (r .shown) (r .shown-form) in
-        record {
-          thing = g .value;
-          shown = g .shown;
-          room = room-later (r .room) (g .later) len;
-          few = few-after s o [] entries (app (r .value) (tcons (stx (r .thing)) tnil)) (r .few) (g .is);
-        }
-
-    pub apply-done : {ph k : ℕ} {l2 : List ℕ} {q : Answer} → Backs ph k l1 l2 (o .state) (o .at) q → Transcribes entries ph k l l2 s v form q
-    unfolding transcribeRule
-    apply-done f =
-        record { means = λ b t x u w. let g = applied-to b t x u w in since 1 nodeSpare (g .later) (omega arith) (omega arith) (then-ok _ (g .is)) (f .means b (g .value) (g .shown)) }
-
 pub ruleset laws = (
   name-seen,
   name-known,
+  name-stops,
   name-held,
   name-variable,
   name-unknown,
@@ -336,6 +270,7 @@ pub ruleset laws = (
   name-quote,
   name-syntax,
   name-macro,
+  name-stopped,
   tail-seen,
   quote-shape,
   quote-is,
@@ -346,16 +281,8 @@ pub ruleset laws = (
   prune-refused,
   prune-two,
   prune-done,
-  value-parse,
-  value-refused,
-  value-evaluate,
-  value-done,
   back-inside,
   back-none,
   back-ready,
   back-done,
-  apply-ready,
-  apply-refused,
-  apply-back,
-  apply-done,
 )

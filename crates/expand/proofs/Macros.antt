@@ -1,6 +1,6 @@
 -- (let-syntax id rhs body): one law for each way through it.
 use mathlib.Core.Path.{_≡_, sym, ap, _∙_}
-use mathlib.Core.List.{List}
+use mathlib.Core.List.{List, []}
 use mathlib.Core.Bool.{Bool, true, false}
 use Prim.Native.Nat.{ℕ, _+_, _-_, _*_, _^_, _≤_, _<_}
 use native.Mathlib.Omega.{arith}
@@ -12,8 +12,9 @@ use Rattle.model.specs.Objects.{Stx}
 use Rattle.model.specs.Trees.{stx, fromStxs}
 use Rattle.model.specs.Scopes.{Scopes, noScopes}
 use Rattle.model.specs.Steps.{after, parts3, identifier, inside}
-use Rattle.model.specs.Expanding as m
-use Rattle.model.specs.Expanding.{ofRightHandSide, Env, coreOnly, expandLetSyntax, expand}
+use Rattle.model.specs.Meanings.{coreOnly}
+use Rattle.model.specs.Expanding as rules
+use Rattle.model.specs.Expanding.{ofRightHandSide, expandLetSyntax, expand}
 use Rattle.refusals.specs.declared.Refusal.the-variants.{NoRule, NoPhase}
 use Rattle.things.specs.Rep.{Rep}
 use Rattle.things.specs.Measuring.{Seen, SeenP}
@@ -31,15 +32,16 @@ use Rattle.forms.specs.Shapes.{Triple, Identifies}
 use Rattle.forms.specs.declared.Three.{Three}
 use Rattle.forms.specs.declared.Three.the-variants as three
 use Rattle.forms.proofs.Shapes.{on-three, on-not-three, not-parts3, not-identifier, is-identifier}
+use Rattle.stops.specs.Stops.{no-stops}
 use Rattle.environment.specs.Meanings.{is-core}
-use Rattle.environment.proofs.Frame.{carryE}
 use Rattle.scoping.specs.Changing.{objects}
 use Rattle.scoping.specs.Fresh.{ReadyBinder, boundOf, BindsFresh}
 use Rattle.scoping.proofs.Fresh.{bound-to}
 use Rattle.scoping.specs.declared.Binder.{Binder}
 use Rattle.scoping.specs.declared.Bound.{Bound}
 use Rattle.scoping.specs.declared.Bound.the-variants as bounds
-use Rattle.expand.specs.Leaves.{around}
+use Rattle.expand.specs.Leaves.{Around, around, RepA}
+use Rattle.expand.specs.Values.{evaluation}
 use Rattle.expand.specs.InPlace.{nexts, onwardOf, ReadyDefined, definedRule, Defined, rhsRule, bindingRule}
 use Rattle.expand.specs.Cycle.{expansion, ReadyToExpand, ReadyLet, ReadyOnward, ReadyBinding, ReadyRhs, ExpandedInside, ExpandedOnward, ExpandedLetSyntax, OnwardBinding, OnwardRhs}
 use Rattle.expand.specs.declared.Surroundings.{Surroundings}
@@ -50,7 +52,7 @@ use Rattle.expand.proofs.Leaves.{owes-none, owes-one}
 use Rattle.expand.proofs.InPlace.{leftOf, onward-less, onward-ready, onward-goes}
 use Rattle.expand.proofs.Rules.{binding-split}
 use Rattle.table.specs.Sizes.{cellSize, twoCells}
-use Rattle.expand.proofs.Within.{within-later, within-paid}
+use Rattle.expand.proofs.Surrounding.{carryA, within-later, within-paid}
 use Rattle.expand.proofs.InPlace.{by-name}
 
 -- ---- let-syntax
@@ -91,7 +93,7 @@ module _ {st l : List ℕ} (s : State) {tail : ℕ} {at : Surroundings} where
               record { binder = n .sets; symb = n .symb; thing = q .second; object = q .third; shown = rw (n .is) at (q .shown); shown-right = q .shown-second; shown-body = q .shown-third; within = within-paid s (r .within) }
 
           module _ {st1 l1 : List ℕ} {x : Onward} (v : OnwardBinding at st st1 l l1 s a b c x) where
-            let-inside : (r : ReadyBinding l st s a b c at) → Agrees (nexts at) 1 cellSize l l1 s (storeOf st1) (bindingRule (expansion (at .entries)) (at .entries) (around (r .within .meant) at) (r .binder) (r .symb) (r .thing) (r .object) (stateOf s (storeOf st))) (onwardOf x)
+            let-inside : (r : ReadyBinding l st s a b c at) → Agrees (nexts at) 1 cellSize l l1 s (storeOf st1) (bindingRule (expansion (at .entries)) (evaluation (at .entries)) (at .entries) (around (r .within .meant) at) (r .binder) (r .symb) (r .thing) (r .object) (stateOf s (storeOf st))) (onwardOf x)
             let-inside r = v .means (r .binder) (r .symb) (r .thing) (r .object) (r .within .meant) (r .shown) (r .shown-right) (r .shown-body) (r .within .known)
 
             pub let-next-ready : ReadyLet l st (unpaid s) tail at → length l1 ≡ length l → length st1 ≡ length st → ReadyOnward l1 st1 x at
@@ -108,7 +110,7 @@ module _ {st l : List ℕ} (s : State) {tail : ℕ} {at : Surroundings} where
                       let q = on-three (h .means (s .top) ps w) e in
                       let n = is-identifier (q .first) (sym (f .means (s .top) (q .first) (q .shown)) ∙ t) in
                       let y = onward-goes x (v .means (n .sets) (n .symb) (q .second) (q .third) g (rw (n .is) at (q .shown)) (q .shown-second) (q .shown-third) k) p in
-                      rw (q .is, n .is) (beyond 1 twoCells 0 1 (later-refl l s) (owes-none s) (owes-one s) (omega arith) (omega arith) (binding-split (expansion (at .entries)) (at .entries) (around g at) (stateOf s (storeOf st)) (n .sets) (n .symb) (q .second) (q .third)) y);
+                      rw (q .is, n .is) (beyond 1 twoCells 0 1 (later-refl l s) (owes-none s) (owes-one s) (omega arith) (omega arith) (binding-split (expansion (at .entries)) (evaluation (at .entries)) (at .entries) (around g at) (stateOf s (storeOf st)) (n .sets) (n .symb) (q .second) (q .third)) y);
                 }
 
 -- ---- binding
@@ -146,7 +148,7 @@ module _ {st l : List ℕ} {s : State} {id right body : ℕ} {at : Surroundings}
             means = λ c x u y g a b w k.
                 let j = bound-to v e c x a in
                 since 1 cellSize (j .later) (omega arith) (omega arith) (then-ok _ (j .is))
-                (f .means (j .value) u y g (by-name (j .shown)) (carry b (j .later .kept) (j .later .grows)) (carry w (j .later .kept) (j .later .grows)) (carryE k (j .later .kept) (j .later .grows)));
+                (f .means (j .value) u y g (by-name (j .shown)) (carry b (j .later .kept) (j .later .grows)) (carry w (j .later .kept) (j .later .grows)) (carryA k (j .later .kept) (j .later .grows)));
           }
 
 -- ---- the right-hand side
@@ -161,23 +163,29 @@ rhs-phase {st} {b = b} {at = at} h same =
 
 -- of the right-hand side
 abbrev aboveOf : Surroundings → Surroundings
-aboveOf at = record { entries = at .entries; phase = at .phase + 1; meanings = 0 }
+aboveOf at = record { entries = at .entries; phase = at .phase + 1; meanings = 0; stops = 0 }
+
+abbrev bare : Around
+bare = record { meanings = coreOnly; stops = [] }
+
+bare-known : {l : List ℕ} {top : ℕ} (at : Surroundings) → RepA l top (aboveOf at) bare
+bare-known at = record { meant = is-core; stopped = no-stops }
 
 module _ {st l : List ℕ} {s : State} {right : ℕ} (at : Surroundings) (h : at .phase < 2) {p : Scopes} (f : p ≡ noScopes) {st1 l1 : List ℕ} {a : Answer} (v : ExpandedInside (aboveOf at) st st1 l l1 s p right a) where
-  above : (g : Env) (u : Stx) → Rep l (s .top) right (stx u) → Agrees objects 1 twoCells l l1 s (storeOf st1) (inside (λ q. noScopes) (expand (at .entries) (ofRightHandSide (around g at)) u) (stateOf s (storeOf st))) (ended a)
-  above g u w = rw f at (v .means u coreOnly w is-core)
+  above : (g : Around) (u : Stx) → Rep l (s .top) right (stx u) → Agrees objects 1 twoCells l l1 s (storeOf st1) (inside (λ q. noScopes) (expand (at .entries) (ofRightHandSide (around g at)) u) (stateOf s (storeOf st))) (ended a)
+  above g u w = rw f at (v .means u bare w (bare-known at))
 
-  starts : (g : Env) (k : m.Binder) (u y : Stx) → rhsRule (expansion (at .entries)) (at .entries) (around g at) k u y (stateOf s (storeOf st))
-      ≡ after (inside (λ q. noScopes) (expand (at .entries) (ofRightHandSide (around g at)) u) (stateOf s (storeOf st))) (λ t. definedRule (at .entries) (around g at) k t y)
+  starts : (g : Around) (k : rules.Binder) (u y : Stx) → rhsRule (expansion (at .entries)) (evaluation (at .entries)) (at .entries) (around g at) k u y (stateOf s (storeOf st))
+      ≡ after (inside (λ q. noScopes) (expand (at .entries) (ofRightHandSide (around g at)) u) (stateOf s (storeOf st))) (λ t. definedRule (evaluation (at .entries)) (at .entries) (around g at) k t y)
   unfolding rhsRule lastPhase
   starts g k u y = then-ok _ (unless-ok ref.noPhase (stateOf s (storeOf st)) (le-leb (at .phase + 1) 2 (omega arith)))
 
-  right-to : {o : Out} → a ≡ Done o → (g : Env) (u : Stx) → Rep l (s .top) right (stx u) → Gave objects 1 twoCells l l1 s (storeOf st1) (inside (λ q. noScopes) (expand (at .entries) (ofRightHandSide (around g at)) u) (stateOf s (storeOf st))) o
+  right-to : {o : Out} → a ≡ Done o → (g : Around) (u : Stx) → Rep l (s .top) right (stx u) → Gave objects 1 twoCells l l1 s (storeOf st1) (inside (λ q. noScopes) (expand (at .entries) (ofRightHandSide (around g at)) u) (stateOf s (storeOf st))) o
   right-to e g u w = on-done (above g u w) (ap ended e)
 
 module _ {st l : List ℕ} {b : Binder} {right body : ℕ} {at : Surroundings} (h : at .phase < 2) where
   pub rhs-expand-ready : ReadyRhs l st b right body at → ReadyToExpand l st (b .state) right (aboveOf at)
-  rhs-expand-ready r = record { thing = r .thing; shown = r .shown; within = record { meant = coreOnly; known = is-core; room = r .within .room; held = r .within .held } }
+  rhs-expand-ready r = record { thing = r .thing; shown = r .shown; within = record { meant = bare; known = bare-known at; room = r .within .room; held = r .within .held } }
 
   module _ {p : Scopes} (f : p ≡ noScopes) {st1 l1 : List ℕ} {a : Answer} (v : ExpandedInside (aboveOf at) st st1 l l1 (b .state) p right a) where
     pub rhs-refused : {q : Stop} → a ≡ Refused q → OnwardRhs at st st1 l l1 b right body (onward.Refused q)
@@ -199,13 +207,16 @@ module _ {st l : List ℕ} {b : Binder} {right body : ℕ} {at : Surroundings} (
             low = omega arith;
           }
 
-      pub rhs-defined : {l2 : List ℕ} {q : Onward} → Defined at st1 l1 l2 (o .state) b (o .at) body q → OnwardRhs at st st1 l l2 b right body q
+      pub rhs-less : {T : ℕ} → ReadyRhs l st b right body at → b .state .left * 32 + 18 ≡ T → o .state .left * 32 + 2 < T
+      rhs-less r z = omega (arith, right-to at h f v e (r .within .meant) (r .thing) (r .shown) .later .spent)
+
+      pub rhs-defined : {st2 l2 : List ℕ} {q : Onward} → Defined at st1 st2 l1 l2 (o .state) b (o .at) body q → OnwardRhs at st st2 l l2 b right body q
       rhs-defined c =
           record {
             means = λ n u y g d w z k.
                 let j = right-to at h f v e g u w in
                 since 1 cellSize (j .later) (omega arith) (omega arith) (starts at h f v g n u y ∙ then-ok _ (j .is))
-                (c .means n (j .value) y g d (j .shown .rep) (carry z (j .later .kept) (j .later .grows)) (carryE k (j .later .kept) (j .later .grows)));
+                (c .means n (j .value) y g d (j .shown .rep) (carry z (j .later .kept) (j .later .grows)) (carryA k (j .later .kept) (j .later .grows)));
           }
 
 pub ruleset laws = (
@@ -227,5 +238,6 @@ pub ruleset laws = (
   rhs-expand-ready,
   rhs-refused,
   rhs-defined-ready,
+  rhs-less,
   rhs-defined,
 )

@@ -57,25 +57,24 @@ relisted e s =
 module _ {l : List ℕ} {top a b : ℕ} (r : Chainable l top a b) where
   pub chain-second : Linkable l top b 0
   chain-second =
-      record { thing = stx (r .second); others = tnil; shown = r .shown-second; shown-others = is-none; room = record { fits = omega (arith, r .room .fits); small = r .room .small; low = r .room .low } }
+      record { thing = r .second; others = tnil; shown = r .shown-second; shown-others = is-none; room = record { fits = omega (arith, r .room .fits); small = r .room .small; low = r .room .low } }
 
   pub chain-first : {l1 : List ℕ} {m : Made} → Linked l l1 top b 0 (m .at) (m .top) → length l1 ≡ length l → Linkable l1 (m .top) a (m .at)
   chain-first k len =
       record {
-        thing = stx (r .first);
-        others = tcons (stx (r .second)) tnil;
+        thing = r .first;
+        others = tcons (r .second) tnil;
         shown = carry (r .shown) (k .kept) (omega (arith, k .grows));
-        shown-others = k .means (stx (r .second)) tnil (r .shown-second) is-none;
+        shown-others = k .means (r .second) tnil (r .shown-second) is-none;
         room = record { fits = omega (arith, r .room .fits, k .grows, len); small = omega (arith, r .room .small, len); low = omega (arith, r .room .low, k .grows) };
       }
 
 pub chained : {l l1 l2 : List ℕ} {top a b : ℕ} {m n : Made} → Linked l l1 top b 0 (m .at) (m .top) → Linked l1 l2 (m .top) a (m .at) (n .at) (n .top) → Chained l l2 top a b (n .at) (n .top)
-unfolding fromStxs
 chained {l} {l1} {l2} {top} {m = m} k j =
     record {
       kept = same-trans top (m .top) l l1 l2 (omega (arith, k .grows)) (k .kept) (j .kept);
       grows = omega (arith, k .grows, j .grows);
-      means = λ x y u w. j .means (stx x) (tcons (stx y) tnil) (carry u (k .kept) (omega (arith, k .grows))) (k .means (stx y) tnil w is-none);
+      means = λ t y u w. j .means t (tcons y tnil) (carry u (k .kept) (omega (arith, k .grows))) (k .means y tnil w is-none);
     }
 
 -- ---- a list of new parts
@@ -114,7 +113,7 @@ module _ {l : List ℕ} {s : State} {i c : ℕ} (r : ReadyList l s i c) where
 
 module _ {l : List ℕ} {s : State} {i a c : ℕ} (r : ReadyTwo l s i a c) where
   pub two-chain : Chainable l (s .top) a c
-  two-chain = record { first = r .first; second = r .second; shown = r .shown-first; shown-second = r .shown-second; room = record { fits = omega (arith, r .free); small = r .room .small; low = r .room .low } }
+  two-chain = record { first = stx (r .first); second = stx (r .second); shown = r .shown-first; shown-second = r .shown-second; room = record { fits = omega (arith, r .free); small = r .room .small; low = r .room .low } }
 
   module _ {l1 : List ℕ} {m : Made} (k : Chained l l1 (s .top) a c (m .at) (m .top)) where
     pub two-relist : length l1 ≡ length l → Relistable l1 (m .top) i
@@ -128,14 +127,14 @@ module _ {l : List ℕ} {s : State} {i a c : ℕ} (r : ReadyTwo l s i a c) where
 
     pub two-made : {l2 : List ℕ} {n : Made} {z : State} → Relisted l1 l2 (m .top) i (m .at) (n .at) (n .top) → z ≡ raisedTo (n .top) s
         → TwoLists l l2 s i a c (Done (record { at = n .at; state = z }))
-    unfolding unpaid
+    unfolding unpaid fromStxs
     two-made {l2} {n} d e =
         record {
           means = λ b f qs x y u v w.
               rw e (gives (record { at = n .at; state = raisedTo (n .top) s }) (record {
                 value = list f (cons x (cons y nil));
                 is = refl;
-                shown = record { rep = d .means f qs (cons x (cons y nil)) (carry u (k .kept) (omega (arith, k .grows))) (k .means x y v w); few = r .few };
+                shown = record { rep = d .means f qs (cons x (cons y nil)) (carry u (k .kept) (omega (arith, k .grows))) (k .means (stx x) (stx y) v w); few = r .few };
                 later = record {
                   kept = same-trans (s .top) (m .top) l l1 l2 (omega (arith, k .grows)) (k .kept) (d .kept);
                   grows = omega (arith, k .grows, d .grows);
@@ -149,23 +148,24 @@ module _ {l : List ℕ} {s : State} {i a c : ℕ} (r : ReadyTwo l s i a c) where
 
 module _ {l : List ℕ} {s : State} {i a c f : ℕ} (r : ReadyThree l s i a c f) where
   pub three-chain : Chainable l (s .top) c f
-  three-chain = record { first = r .second; second = r .third; shown = r .shown-second; shown-second = r .shown-third; room = record { fits = omega (arith, r .free); small = r .room .small; low = r .room .low } }
+  three-chain = record { first = stx (r .second); second = stx (r .third); shown = r .shown-second; shown-second = r .shown-third; room = record { fits = omega (arith, r .free); small = r .room .small; low = r .room .low } }
 
   module _ {l1 : List ℕ} {m : Made} (k : Chained l l1 (s .top) c f (m .at) (m .top)) where
     pub three-link : length l1 ≡ length l → Linkable l1 (m .top) a (m .at)
+    unfolding fromStxs
     three-link len =
         record {
           thing = stx (r .first);
           others = fromStxs (cons (r .second) (cons (r .third) nil));
           shown = carry (r .shown-first) (k .kept) (omega (arith, k .grows));
-          shown-others = k .means (r .second) (r .third) (r .shown-second) (r .shown-third);
+          shown-others = k .means (stx (r .second)) (stx (r .third)) (r .shown-second) (r .shown-third);
           room = record { fits = omega (arith, r .free, k .grows, len); small = omega (arith, r .room .small, len); low = omega (arith, r .room .low, k .grows) };
         }
 
     module _ {l2 : List ℕ} {n : Made} (j : Linked l1 l2 (m .top) a (m .at) (n .at) (n .top)) {t : State} (e : t ≡ raisedTo (n .top) s) where
       linked-parts : (x y z : Stx) → Rep l (s .top) a (stx x) → Rep l (s .top) c (stx y) → Rep l (s .top) f (stx z) → RepP l2 (n .top) (n .at) (fromStxs (cons x (cons y (cons z nil))))
       unfolding fromStxs
-      linked-parts x y z u v w = j .means (stx x) (fromStxs (cons y (cons z nil))) (carry u (k .kept) (omega (arith, k .grows))) (k .means y z v w)
+      linked-parts x y z u v w = j .means (stx x) (fromStxs (cons y (cons z nil))) (carry u (k .kept) (omega (arith, k .grows))) (k .means (stx y) (stx z) v w)
 
       below-kept : Same (s .top) l l2
       below-kept = same-trans (s .top) (m .top) l l1 l2 (omega (arith, k .grows)) (k .kept) (j .kept)

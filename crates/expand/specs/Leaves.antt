@@ -1,36 +1,50 @@
 -- What the functions that expand no part ask and give.
 use mathlib.Core.List.{List}
 use Prim.Native.Nat.{ℕ, _≤_}
+use Rattle.model.specs.Scopes.{add}
 use Rattle.model.specs.Objects.{Sets, symbol, Stx, atom, list, Stxs, nil, cons}
-use Rattle.model.specs.Trees.{Tree, stx, app, tnil, tcons, fromStxs, asStx}
-use Rattle.model.specs.Steps.{Step, _>>=_, _>>_, done, resolveAt, parts1, flipIn, prunableNow, pruneFrom}
-use Rattle.model.specs.Evaluating.{evaluate}
-use Rattle.model.specs.Parsing.{parse}
-use Rattle.model.specs.Expanding as m
-use Rattle.model.specs.Expanding.{Env, meaning, expandName, expandSyntax, orNoSyntax}
+use Rattle.model.specs.Trees.{Tree, stx, fromStxs, asStx}
+use Rattle.model.specs.Steps.{Step, _>>=_, _>>_, done, resolveAt, parts1, flipIn, prunableNow, pruneFrom, useScope}
+use Rattle.model.specs.Meanings as m
+use Rattle.model.specs.Meanings.{Env, meaningAmong}
+use Rattle.model.specs.Expanding.{expandName, expandSyntax, orNoSyntax}
 use Rattle.store.specs.Sizes.{mostBindings}
+use Rattle.store.specs.Words.{prunableOf, usesOf, Carries}
 use Rattle.steps.specs.States.{Store, storeOf, Held, stateOf, Room}
 use Rattle.steps.specs.Agreement.{ended, Agrees}
 use Rattle.steps.specs.declared.State.{State}
 use Rattle.steps.specs.declared.Answer.{Answer}
 use Rattle.things.specs.Rep.{Rep, RepP}
-use Rattle.parse.specs.Shown.{trees}
 use Rattle.parse.specs.Parsing.{unpaid}
+use Rattle.stops.specs.Stops.{RepZ}
 use Rattle.environment.specs.Meanings.{RepE}
 use Rattle.scoping.specs.Changing.{objects}
+use Rattle.scoping.specs.Fresh.{Marked, markRule, marks, markingOf}
+use Rattle.scoping.specs.declared.Marking.{Marking}
 use Rattle.expand.specs.declared.Surroundings.{Surroundings}
 use Rattle.table.specs.Sizes.{twoCells, nodeSpare}
 
 -- ---- where an object is expanded
 
--- with these meanings
-abbrev pub around : Env → Surroundings → m.Surroundings
-around e at = record { phase = at .phase; meanings = e }
+-- what names mean there, and which are stopped
+pub record Around : Type 0 where
+  pub meanings : Env
+  pub stops : List ℕ
 
--- meanings, room and the store where an object is expanded
+abbrev pub around : Around → Surroundings → m.Surroundings
+around e at = record { phase = at .phase; meanings = e .meanings; stops = e .stops }
+
+pub record RepAround (l : List ℕ) (top i z : ℕ) (e : Around) : Type 0 where
+  pub meant : RepE l top i (e .meanings)
+  pub stopped : RepZ l top z (e .stops)
+
+abbrev pub RepA : List ℕ → ℕ → Surroundings → Around → Type 0
+RepA l top at e = RepAround l top (at .meanings) (at .stops) e
+
+-- meanings and stops, room and the store where an object is expanded
 pub record Within (l st : List ℕ) (s : State) (at : Surroundings) : Type 0 where
-  pub meant : Env
-  pub known : RepE l (s .top) (at .meanings) meant
+  pub meant : Around
+  pub known : RepA l (s .top) at meant
   pub room : Room l s
   pub held : Held st s
 
@@ -43,13 +57,13 @@ pub record ReadyName (l st : List ℕ) (s : State) (i : ℕ) (at : Surroundings)
   pub within : Within l st s at
 
 unfoldable pub nameRule : m.Surroundings → Sets → ℕ → Step Stx
-unfolding resolveAt meaning expandName
+unfolding resolveAt meaningAmong expandName
 nameRule here c x = do
   n ← resolveAt (here .phase) c x
-  expandName (meaning n (here .meanings))
+  expandName (meaningAmong n (here .meanings) (here .stops))
 
 pub record ExpandedName (at : Surroundings) (st l : List ℕ) (s : State) (i : ℕ) (r : Answer) : Type 0 where
-  pub means : (c : Sets) (x : ℕ) (e : Env) → Rep l (s .top) i (stx (atom c (symbol x))) → RepE l (s .top) (at .meanings) e
+  pub means : (c : Sets) (x : ℕ) (e : Around) → Rep l (s .top) i (stx (atom c (symbol x))) → RepA l (s .top) at e
       → Agrees objects 1 twoCells l l (unpaid s) (storeOf st) (nameRule (around e at) c x (stateOf s (storeOf st))) (ended r)
 
 -- ---- quote and syntax: a list, and its parts after the head
@@ -98,22 +112,23 @@ pub record Pruned (ph : ℕ) (st l l′ : List ℕ) (s : State) (i head x : ℕ)
   pub means : (k : Sets) (qs : Stxs) (h y : Stx) → Rep l (s .top) i (stx (list k qs)) → Rep l (s .top) head (stx h) → Rep l (s .top) x (stx y)
       → Agrees objects 1 twoCells l l′ (unpaid s) (storeOf st) (prunedRule ph k h y (stateOf s (storeOf st))) (ended r)
 
--- ---- values
+-- ---- a macro's use
 
-pub record ReadyValue (l st : List ℕ) (s : State) (i : ℕ) : Type 0 where
-  pub thing : Stx
-  pub shown : Rep l (s .top) i (stx thing)
-  pub room : Room l s
-  pub held : Held st s
+pub record UsesScope (k : ℕ) (st st′ : List ℕ) : Type 0 where
+  pub carries : Carries (add k (prunableOf st)) (add k (usesOf st)) st st′
 
-unfoldable pub valueRule : ℕ → ℕ → Stx → Step Tree
-unfolding parse evaluate
-valueRule d ph x = do
-  t ← parse d ph x
-  evaluate d t
+-- the form marked, and its use scope carried
+unfoldable pub usedRule : ℕ → Stx → Step Marked
+unfolding markRule useScope
+usedRule ph x = do
+  k ← markRule ph x
+  useScope (k .uses)
+  done k
 
-pub record Values (entries ph : ℕ) (st l l′ : List ℕ) (s : State) (i : ℕ) (r : Answer) : Type 0 where
-  pub means : (x : Stx) → Rep l (s .top) i (stx x) → Agrees trees 1 twoCells l l′ s (storeOf st) (valueRule entries ph x (stateOf s (storeOf st))) (ended r)
+pub record MarksUse (ph : ℕ) (st st′ l l′ : List ℕ) (s : State) (i : ℕ) (r : Marking) : Type 0 where
+  pub means : (x : Stx) → Rep l (s .top) i (stx x) → Agrees marks 1 nodeSpare l l′ s (storeOf st′) (usedRule ph x (stateOf s (storeOf st))) (markingOf r)
+
+-- what it evaluated to
 
 pub record ReadyBack (l : List ℕ) (s : State) (i : ℕ) : Type 0 where
   pub thing : Tree
@@ -129,21 +144,3 @@ backRule ph k r = do
 
 pub record Backs (ph k : ℕ) (l l′ : List ℕ) (s : State) (i : ℕ) (r : Answer) : Type 0 where
   pub means : (b : Store) (t : Tree) → Rep l (s .top) i t → Agrees objects 1 nodeSpare l l′ s b (backRule ph k t (stateOf s b)) (ended r)
-
-pub record ReadyTranscribed (l : List ℕ) (s : State) (v form : ℕ) : Type 0 where
-  pub value : Tree
-  pub thing : Stx
-  pub shown : Rep l (s .top) v value
-  pub shown-form : Rep l (s .top) form (stx thing)
-  pub room : Room l s
-  pub few : s .bindings ≤ mostBindings
-
-unfoldable pub transcribeRule : ℕ → ℕ → ℕ → Tree → Stx → Step Stx
-unfolding evaluate backRule
-transcribeRule d ph k v x = do
-  r ← evaluate d (app v (tcons (stx x) tnil))
-  backRule ph k r
-
-pub record Transcribes (entries ph k : ℕ) (l l′ : List ℕ) (s : State) (v form : ℕ) (r : Answer) : Type 0 where
-  pub means : (b : Store) (t : Tree) (x : Stx) → Rep l (s .top) v t → Rep l (s .top) form (stx x)
-      → Agrees objects 1 nodeSpare l l′ s b (transcribeRule entries ph k t x (stateOf s b)) (ended r)

@@ -4,7 +4,7 @@ use mathlib.Core.List.{List}
 use Prim.Native.Nat.{ℕ, _+_, _≤_}
 use lib.ListN.{length}
 use Rattle.model.specs.Objects.{Sets, Stx, list, Stxs, nil, cons}
-use Rattle.model.specs.Trees.{stx, fromStxs}
+use Rattle.model.specs.Trees.{Tree, stx, tnil, tcons, fromStxs}
 use Rattle.model.specs.Steps.{ok, made}
 use Rattle.table.specs.Words.{Same}
 use Rattle.things.specs.Rep.{Rep, RepP}
@@ -30,16 +30,16 @@ pub record Relisted (l l′ : List ℕ) (top i c at top′ : ℕ) : Type 0 where
   pub means : (k : Sets) (qs ps : Stxs) → Rep l top i (stx (list k qs)) → RepP l top c (fromStxs ps) → Rep l′ top′ at (stx (list k ps))
 
 pub record Chainable (l : List ℕ) (top a b : ℕ) : Type 0 where
-  pub first : Stx
-  pub second : Stx
-  pub shown : Rep l top a (stx first)
-  pub shown-second : Rep l top b (stx second)
+  pub first : Tree
+  pub second : Tree
+  pub shown : Rep l top a first
+  pub shown-second : Rep l top b second
   pub room : Roomy l top twoCells
 
 pub record Chained (l l′ : List ℕ) (top a b at top′ : ℕ) : Type 0 where
   pub kept : Same top l l′
   pub grows : top′ ≡ top + twoCells
-  pub means : (x y : Stx) → Rep l top a (stx x) → Rep l top b (stx y) → RepP l′ top′ at (fromStxs (cons x (cons y nil)))
+  pub means : (t u : Tree) → Rep l top a t → Rep l top b u → RepP l′ top′ at (tcons t (tcons u tnil))
 
 -- the list i, new parts, and room for a node
 pub record ReadyList (l : List ℕ) (s : State) (i c : ℕ) : Type 0 where

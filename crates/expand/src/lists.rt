@@ -24,7 +24,7 @@ pub fn relist(table: &mut [u32], top: u32, i: u32, c: u32) -> Made
     )
 }
 
-// The chain of two objects.
+// The chain of two things.
 pub fn chain(table: &mut [u32], top: u32, a: u32, b: u32) -> Made
     requires { ⌜ Chainable (now table) top a b ⌝ }
     ensures { λ r. ⌜ Chained (now (table .entry)) (now (table .exit)) top a b (r .at) (r .top) ⌝ }

@@ -7,7 +7,7 @@ use refusals::Refusal;
 use steps::Answer;
 use steps::Out;
 use steps::State;
-use store::prunable;
+use store::carried;
 ghost use Prim.Native.Nat.{_≤_};
 ghost use lib.ListN.{length};
 ghost use Rattle.store.specs.Sizes.{heldSize};
@@ -19,7 +19,7 @@ pub fn reference(table: &[u32], store: &[u64], s: State, i: u32, at: Surrounding
     requires { ⌜ ReadyName (now table) (now store) (unpaid s) i at ⌝ }
     ensures { λ r. ⌜ ExpandedName at (now (store .entry)) (now (table .entry)) s i r ⌝ }
 {
-    match environment::meaning_of(table, store, s.bindings, i, at.phase, at.meanings) {
+    match environment::meaning_of(table, store, s.bindings, i, at.phase, at.meanings, at.stops) {
         Meaning::Variable(v) => Answer::Done(Out { at: v, state: s }),
         Meaning::Unknown => s.refuse(Refusal::NoMeaning),
         Meaning::Unclear(rivals) => s.ambiguous(rivals),
@@ -28,6 +28,7 @@ pub fn reference(table: &[u32], store: &[u64], s: State, i: u32, at: Surrounding
         Meaning::Quote => s.refuse(Refusal::NoRule),
         Meaning::Syntax => s.refuse(Refusal::NoRule),
         Meaning::Macro(_) => s.refuse(Refusal::NoRule),
+        Meaning::Stopped => s.refuse(Refusal::NoRule),
     }
 }
 
@@ -73,7 +74,8 @@ pub fn pruned(
     requires { ⌜ ReadyPruned (now table) (unpaid s) i head x × (heldSize ≤ length (now store)) ⌝ }
     ensures { λ r. ⌜ Pruned phase (now (store .entry)) (now (table .entry)) (now (table .exit)) s i head x r ⌝ }
 {
-    let set = prunable::get(store);
+    let now = carried::get(store);
+    let set = now.prunable;
     match scoping::prune_from(table, s, x, phase, set) {
         Answer::Refused(f) => Answer::Refused(f),
         Answer::Done(o) => {
