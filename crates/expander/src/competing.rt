@@ -6,7 +6,7 @@ use crate::showing;
 use finish::Ending;
 use jobs::expanding;
 use meirhuppa::limits;
-use store::prunable;
+use store::carried;
 use store::rivals::Rivals;
 ghost use Prim.Native.Nat.{_≤_};
 ghost use lib.ListN.{length};
@@ -36,7 +36,7 @@ fn print_with(image: &[u8], store: &mut [u64], table: &mut [u32], out: &mut [u8]
 
 // For an image whose expansion stops at code 6.
 pub fn print(image: &[u8]) {
-    let mut store = [0u64; prunable::HELD];
+    let mut store = [0u64; carried::HELD];
     let mut table = [0u32; line::WORDS];
     let mut out = [0u8; limits::MOST_IMAGE];
     print_with(image, &mut store, &mut table, &mut out);

@@ -33,7 +33,7 @@ use Rattle.roots.proofs.Spans.{tree-small}
 use Rattle.roots.proofs.Whole.{tree-refused, tree-read}
 use Rattle.store.specs.Words.{bindsFrom, bindsOf}
 use Rattle.image.specs.declared.Judged.the-variants as judged
-use Rattle.image.specs.Judging.{readOwned, treeKind, Good, Judges}
+use Rattle.image.specs.Judging.{readOwned, treeKind, Good, JudgesTree}
 use Rattle.image.proofs.Answers.{bad-image, too-long, good-image}
 use Rattle.image.proofs.BehindHeads.{then-whole}
 use Rattle.image.proofs.Heads.{bytes-of, image-short, HeadHere, head-here, head-fault, name-count, scope-count, symbol-count, names-from, names-to, scopes-to, headed-by, headed-words, behind-head}
@@ -79,8 +79,8 @@ module _ (s : List ℕ) (known : (i : ℕ) → Fits w8 (getD s i 0)) (short : le
   unfolding readTreeImage
   head-refused e = rw (head-fault 2 s a e)
 
-  pub head-stops : {f : Refusal} → q ≡ hd.Fault f → Judges treeKind s [] (judged.Fault f)
-  head-stops {f} e = bad-image treeKind s [] (image-short readOwned s short ∙ owned-stops s (head-refused e))
+  pub head-stops : {f : Refusal} → q ≡ hd.Fault f → JudgesTree s (judged.Fault f)
+  head-stops {f} e = record { judges = λ st. bad-image treeKind s st (image-short readOwned s short ∙ owned-stops s (head-refused e)) }
 
   module _ {h : Head} {c : Cursor} (e : q ≡ hd.Read h c) where
     pub H : HeadHere 2 s h (c .at)
@@ -104,8 +104,8 @@ module _ (s : List ℕ) (known : (i : ℕ) → Fits w8 (getD s i 0)) (short : le
           let g : thenEnd (readTree 64 (H .head) 0) (drop (c .at) s) ≡ fault (refusalOf f) = tree-refused (H .head) few 64 0 (c .at) (drop (c .at) s) measured d in
           from-head ∙ ap (kept (imageOf (H .head))) g
 
-      pub root-stops : {f : Refusal} → x ≡ tree.Fault f → Judges treeKind s [] (judged.Fault f)
-      root-stops {f} d = bad-image treeKind s [] (image-short readOwned s short ∙ owned-stops s (root-refused d))
+      pub root-stops : {f : Refusal} → x ≡ tree.Fault f → JudgesTree s (judged.Fault f)
+      root-stops {f} d = record { judges = λ st. bad-image treeKind s st (image-short readOwned s short ∙ owned-stops s (root-refused d)) }
 
       module _ {y : Extent} {past : Cursor} (d : x ≡ tree.Read y past) where
         K : Kept (extentOf []) (thenEnd (readTree 64 (H .head) 0) (drop (c .at) s)) y (drop (past .at - c .at) (drop (c .at) s))
@@ -143,12 +143,12 @@ module _ (s : List ℕ) (known : (i : ℕ) → Fits w8 (getD s i 0)) (short : le
         one-byte : 2 < 128
         one-byte = omega arith
 
-        pub unowned : y .owned ≡ false → Judges treeKind s [] (judged.Fault refusal.Unowned)
-        unowned o = bad-image treeKind s [] (image-short readOwned s short ∙ owned-not s all-read (sym owned-is ∙ o))
+        pub unowned : y .owned ≡ false → JudgesTree s (judged.Fault refusal.Unowned)
+        unowned o = record { judges = λ st. bad-image treeKind s st (image-short readOwned s short ∙ owned-not s all-read (sym owned-is ∙ o)) }
 
-        good : y .owned ≡ true → Good treeKind s [] (record { front = record { head = h; end = c .at }; root = c .at; size = y .size; bindings = 0 })
+        good : (st : List ℕ) → y .owned ≡ true → Good treeKind s st (record { front = record { head = h; end = c .at }; root = c .at; size = y .size; bindings = 0 })
         unfolding mostNesting bindsOf bindsFrom
-        good o = record {
+        good st o = record {
           image = imageOf (H .head) root;
           reads = image-short readOwned s short ∙ owned-goes s all-read (sym owned-is ∙ o);
           bytes = bytes-of s known;
@@ -168,8 +168,11 @@ module _ (s : List ℕ) (known : (i : ℕ) → Fits w8 (getD s i 0)) (short : le
           size-to = size-to;
         }
 
-        pub all-good : y .owned ≡ true → Judges treeKind s [] (judged.Good (record { front = record { head = h; end = c .at }; root = c .at; size = y .size; bindings = 0 }))
+        pub all-good : y .owned ≡ true → JudgesTree s (judged.Good (record { front = record { head = h; end = c .at }; root = c .at; size = y .size; bindings = 0 }))
         unfolding good
-        all-good o = good-image treeKind s [] (good o) (H .reads)
+        all-good o = record { judges = λ st. good-image treeKind s st (good st o) (H .reads) }
 
-pub ruleset tree-image-laws = (too-long, head-stops, root-stops, unowned, all-good)
+pub tree-long : (s : List ℕ) → 65536 < length s → JudgesTree s (judged.Fault refusal.OverLimit)
+tree-long s h = record { judges = λ st. too-long treeKind s st h }
+
+pub ruleset tree-image-laws = (tree-long, head-stops, root-stops, unowned, all-good)

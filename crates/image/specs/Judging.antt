@@ -110,3 +110,7 @@ pub record Good {A : Type 0} (K : Kind A) (s l : List ℕ) (j : Judgement) : Typ
 pub record Judges {A : Type 0} (K : Kind A) (s l : List ℕ) (r : Judged) : Type 0 where
   pub is : readImage (K .whole) s ≡ judgedAs K s l r
   pub good : (j : Judgement) → r ≡ judged.Good j → Good K s l j
+
+-- a tree's image has no bindings: whatever is in the store
+pub record JudgesTree (s : List ℕ) (r : Judged) : Type 0 where
+  pub judges : (l : List ℕ) → Judges treeKind s l r

@@ -10,9 +10,8 @@ use refusals::Refusal;
 use roots::TreeRead;
 ghost use Prim.Native.Nat.{_+_, _≤_};
 ghost use lib.ListN.{length};
-ghost use mathlib.Core.List.{[]};
 ghost use Rattle.store.specs.Sizes.{storeSize};
-ghost use Rattle.image.specs.Judging.{BehindHead, syntaxKind, treeKind, Judges};
+ghost use Rattle.image.specs.Judging.{BehindHead, syntaxKind, Judges, JudgesTree};
 ghost use Rattle.numbers.specs.Limits.{mostImage};
 ghost use Rattle.scopes.specs.Sets.{setScopes};
 ghost use Rattle.words.specs.Section.{mostWords};
@@ -81,7 +80,7 @@ pub fn judge_syntax(image: &[u8], store: &mut [u64]) -> Judged
 
 // A tree image, each variable of which has an enclosing function of its name.
 pub fn judge_tree(image: &[u8]) -> Judged
-    ensures { λ r. ⌜ Judges treeKind (now (image .entry)) [] r ⌝ }
+    ensures { λ r. ⌜ JudgesTree (now (image .entry)) r ⌝ }
 {
     if MOST_IMAGE < image.len() {
         return Judged::Fault(Refusal::OverLimit);

@@ -1,7 +1,7 @@
 -- From the image to the work on its root, for every job, by the tests that the code makes.
 use Prim.Native.Nat.{ℕ, _+_, _-_, _≤_}
-use mathlib.Core.Path.{_≡_, sym, ap, _∙_, subst}
-use mathlib.Core.List.{List}
+use mathlib.Core.Path.{_≡_, refl, sym, ap, _∙_, subst}
+use mathlib.Core.List.{List, [], _∷_}
 use native.Mathlib.Omega.{arith}
 use lib.ListN.{length}
 use Rattle.model.specs.Scopes.{noScopes}
@@ -14,7 +14,8 @@ use Rattle.model.specs.Jobs.{withImage, worked, start}
 use Rattle.refusals.specs.Refusing.{refusalOf}
 use Rattle.refusals.specs.declared.Refusal.{Refusal}
 use Rattle.table.specs.Lending.{Lent}
-use Rattle.store.specs.Words.{bindsOf}
+use Rattle.store.specs.Words.{bindsOf, prunableOf, usesOf}
+use Rattle.scopes.specs.Sets.{wordsFrom}
 use Rattle.store.specs.Rivalry.{rivalsOf}
 use Rattle.steps.specs.declared.State.{State}
 use Rattle.steps.specs.declared.Stop.{Stop}
@@ -26,12 +27,12 @@ use Rattle.head.specs.declared.Head.{Head}
 use Rattle.image.specs.declared.Judgement.{Judgement}
 use Rattle.image.specs.declared.Judged.{Judged}
 use Rattle.image.specs.declared.Judged.the-variants as judged
-use Rattle.image.specs.Judging.{Kind, judgedAs, Good, Judges}
+use Rattle.image.specs.Judging.{Kind, judgedAs, Good, Judges, treeKind, JudgesTree}
 use Rattle.finish.specs.declared.Ending.{Ending}
 use Rattle.finish.specs.declared.Ending.the-variants as ending
 use Rattle.finish.specs.Ends.{EndsAs}
 use Rattle.finish.proofs.Ends.{ends-refused, ends-stopped}
-use Rattle.jobs.specs.Working.{Job, jobEnding, begun, opening, Loaded}
+use Rattle.jobs.specs.Working.{Job, Empty, evaluating, jobEnding, begun, opening, Loaded}
 
 module _ {A B : Type 0} (J : Job A B) (image : List ℕ) (budget room : ℕ) where
   -- the rules' work on an image that was read
@@ -47,8 +48,8 @@ module _ {A B : Type 0} (J : Job A B) (image : List ℕ) (budget room : ℕ) whe
     start-is : start budget (g .image) ≡ stateOf (begun j budget) (opening st)
     unfolding start
     start-is =
-        ap (λ (x : List Bind). record { left = budget; names = g .image .head .names; scopes = g .image .head .scopes; binds = x; prunable = noScopes }) (sym (g .binds-are))
-        ∙ ap (λ (x : Head). record { left = budget; names = x .names; scopes = x .scopes; binds = bindsOf st (j .bindings); prunable = noScopes }) (sym (g .head-is))
+        ap (λ (x : List Bind). record { left = budget; names = g .image .head .names; scopes = g .image .head .scopes; binds = x; prunable = noScopes; uses = noScopes }) (sym (g .binds-are))
+        ∙ ap (λ (x : Head). record { left = budget; names = x .names; scopes = x .scopes; binds = bindsOf st (j .bindings); prunable = noScopes; uses = noScopes }) (sym (g .head-is))
 
     -- with the code's charge
     charged : jobEnding J budget room image
@@ -97,3 +98,22 @@ module _ (j : Judgement) (budget : ℕ) {q : Charged} (c : q ≡ chargeOf (j .si
   paid-sum i = let p = charge-went (j .size) _ c i in let k = ap (λ (x : State). x .left) (p .is) in omega (arith, p .enough)
 
 pub ruleset charging-laws = (image-refused, unpaid-left, unpaid-ends, paid-loaded, paid-sum)
+
+-- ---- of a tree's image, which has no bindings: whatever is in the store
+
+pub tree-refused : {image : List ℕ} {r : Judged} {f : Refusal} (budget : ℕ) (out : List ℕ) → JudgesTree image r → r ≡ judged.Fault f → EndsAs (jobEnding evaluating budget (length out) image) out out (ending.Refused f 0)
+tree-refused budget out w e = image-refused evaluating [] budget out (w .judges []) e
+
+module _ (j : Judgement) (budget : ℕ) {q : Charged} (c : q ≡ chargeOf (j .size) (begun j budget)) {image : List ℕ} {r : Judged} (w : JudgesTree image r) (e : r ≡ judged.Good j) where
+  pub tree-unpaid-ends : {f : Stop} {x : Ending} (out : List ℕ) → q ≡ Refused f → x ≡ ending.Stopped (f .refusal) (f .rivals) (budget - f .left) → EndsAs (jobEnding evaluating budget (length out) image) out out x
+  tree-unpaid-ends out i y = unpaid-ends j budget c evaluating [] (w .judges []) e out i y
+
+  pub tree-paid-loaded : {st l : List ℕ} {s : State} → Lent l budget → q ≡ Paid s → Loaded treeKind image st j l s
+  tree-paid-loaded {st} n i = paid-loaded j budget c (w .judges st) e n i
+
+-- a store of one word, 0
+pub nothing-carried : Empty (0 ∷ [])
+unfolding prunableOf usesOf wordsFrom
+nothing-carried = record { prunable = refl; uses = refl }
+
+pub ruleset tree-charging-laws = (nothing-carried, tree-refused, unpaid-left, tree-unpaid-ends, tree-paid-loaded, paid-sum)

@@ -14,7 +14,8 @@ use Rattle.model.specs.Competing.{noRivals}
 use Rattle.model.specs.Reading.{Read, got, fault, next, need, Image, readTreeImage, readImage}
 use Rattle.model.specs.Writing.{treeImageBytes, syntaxBytes}
 use Rattle.model.specs.Steps.{after, charge}
-use Rattle.model.specs.Evaluating.{evaluate}
+use Rattle.model.specs.Meanings.{nowhere}
+use Rattle.model.specs.Expanding.{evaluate}
 use Rattle.model.specs.Jobs as m
 use Rattle.model.specs.Jobs.{atPhase, withImage, worked, start, closed, evaluateRoot, evaluateEnding, parseRoot, parseEnding, expandRoot, expandEnding}
 use Rattle.refusals.specs.declared.Refusal.the-variants as refusal
@@ -31,7 +32,7 @@ unfolding jobEnding evaluateEnding readImage readOwned withImage evaluateRoot mo
 evaluate-is image budget room = go (leb (length image) mostImage) (readTreeImage image)
   where
     W : Image Tree → m.Ending
-    W i = worked budget (after (charge (loadSize (i .root)) (start budget i)) (λ u. evaluate 128 (i .root))) (writes (λ b. treeImages) budget room (i .head))
+    W i = worked budget (after (charge (loadSize (i .root)) (start budget i)) (λ u. evaluate 128 nowhere (i .root))) (writes (λ b. treeImages) budget room (i .head))
 
     owned : (i : Image Tree) (t : List ℕ) (b : Bool) → withImage (next (need unowned b t) (λ x u. got i u)) W ≡ (if b then W i else m.refused unowned noRivals 0)
     owned i t true = refl

@@ -4,24 +4,22 @@ use mathlib.Core.Path.{_≡_, refl, sym, ap, _∙_, subst}
 use mathlib.Core.List.{List, []}
 use native.Mathlib.Omega.{arith}
 use lib.ListN.{length, drop}
-use Rattle.model.specs.Scopes.{Scopes}
+use Rattle.model.specs.Scopes.{noScopes}
 use Rattle.model.specs.Objects.{Stx}
 use Rattle.model.specs.Trees.{Tree, stx, loadSize}
 use Rattle.model.specs.Steps as m
 use Rattle.model.specs.Steps.{Step, carrying}
-use Rattle.model.specs.Evaluating.{evaluate}
+use Rattle.model.specs.Meanings.{ofRoot, coreOnly, nowhere}
 use Rattle.model.specs.Parsing.{parse}
-use Rattle.model.specs.Expanding.{ofRoot, expand, coreOnly}
+use Rattle.model.specs.Expanding.{evaluate, expand}
 use Rattle.laws.proofs.Units.{NoRise, evaluate-no-rise, parse-no-rise, expand-no-rise, names-after, left-after-refusal}
-use Rattle.scopes.specs.Sets.{wordsFrom}
 use Rattle.store.specs.Sizes.{heldSize}
-use Rattle.store.specs.Words.{prunableOf, Prunes}
+use Rattle.store.specs.Words.{bindsOf, Carries}
 use Rattle.steps.specs.declared.State.{State}
 use Rattle.steps.specs.declared.Out.{Out}
 use Rattle.steps.specs.declared.Answer.{Answer}
 use Rattle.steps.specs.declared.Answer.the-variants.{Done, Refused}
 use Rattle.steps.specs.States.{Store, storeOf, stateOf, raisedTo, Room}
-use Rattle.steps.specs.Agreement as agreement
 use Rattle.steps.specs.Agreement.{ended, Agrees}
 use Rattle.steps.proofs.Laws.{room-later, on-done, on-refused}
 use Rattle.table.specs.Sizes.{twoCells}
@@ -34,18 +32,22 @@ use Rattle.builder.specs.Building as built
 use Rattle.builder.specs.Building.{Builds}
 use Rattle.builder.specs.declared.Built.{Built}
 use Rattle.builder.proofs.Sizes.{load-stx, load-some}
-use Rattle.evaluate.specs.Evaluation.{Evaluates}
+use Rattle.stops.specs.Stops.{no-stops}
+use Rattle.environment.specs.declared.Place.{Place}
+use Rattle.environment.specs.Places.{is-nowhere}
 use Rattle.parse.specs.Shown.{ShownTree}
 use Rattle.parse.specs.Parsing as parsing
 use Rattle.parse.specs.Parsing.{Parsed}
 use Rattle.expand.specs.declared.Surroundings.{Surroundings}
 use Rattle.expand.specs.Cycle as expanding
 use Rattle.expand.specs.Cycle.{Expanded}
+use Rattle.expand.specs.Evaluation.{ReadyToEvaluate, Evaluates}
+use Rattle.expand.specs.Leaves.{Around}
 use Rattle.expand.proofs.Carried.{put-state}
 use Rattle.image.specs.declared.Judgement.{Judgement}
 use Rattle.image.specs.Judging.{Kind, syntaxKind, treeKind, Good}
 use Rattle.jobs.specs.Working as w
-use Rattle.jobs.specs.Working.{opening, Loaded, itself, cameTo, Worked, FewBindings}
+use Rattle.jobs.specs.Working.{opening, Empty, Loaded, itself, cameTo, Worked, FewBindings}
 
 -- ---- any root: building it, and what the work on it came to
 
@@ -99,9 +101,14 @@ module _ {B : Type 0} (thing : B → Tree) (Shows : List ℕ → Out → B → T
       }
   agreed s b st′ (Refused f) fits same g = let y = on-refused g refl in record { is = y; within = left-after-refusal work calm _ _ _ y }
 
+-- ---- what is in the store at the start
+
+nothing-there : {st : List ℕ} (s : State) → Empty st → stateOf s (storeOf st) ≡ stateOf s (opening st)
+nothing-there {st} s none = λ i. record { left = s .left; names = s .names; scopes = s .scopes; binds = bindsOf st (s .bindings); prunable = (none .prunable) i; uses = (none .uses) i }
+
 -- ---- a tree, evaluated
 
-module _ {image : List ℕ} {j : Judgement} {l : List ℕ} {s : State} (d : Loaded treeKind image [] j l s) where
+module _ {image st : List ℕ} {j : Judgement} {l : List ℕ} {s : State} (d : Loaded treeKind image st j l s) where
   tree-reads : TreeRead (j .front .head .scopes) (drop (j .root) image) (d .good .image .root) []
   tree-reads = tree-read _ (d .good .image .head) 0 (ap (λ (y : Head). y .scopes) (sym (d .good .head-is))) (d .good .root-reads)
 
@@ -115,26 +122,42 @@ module _ {image : List ℕ} {j : Judgement} {l : List ℕ} {s : State} (d : Load
     tree-room : Room l′ (raisedTo (b .top) s)
     tree-room = room d (d .good .image .root) tree-reads (d .good .size-is) v same
 
-    pub tree-ready : agreement.Ready Rep l′ t (b .at)
-    tree-ready = subst (λ (z : State). agreement.Ready Rep l′ z (b .at)) (sym te) (record { thing = d .good .image .root; shown = tree-shown; room = tree-room })
+    module _ {place : Place} (no-use : place .intro .0 ≡ 0) where
+      pub tree-ready : ReadyToEvaluate l′ st t (b .at) place
+      tree-ready =
+          subst (λ (z : State). ReadyToEvaluate l′ st z (b .at) place) (sym te)
+          (record {
+            thing = d .good .image .root;
+            shown = tree-shown;
+            placed = record {
+              where-it-is = nowhere;
+              stands = is-nowhere no-use;
+              room = tree-room;
+              few = let n = ap (λ (x : State). x .bindings) (d .state-is) in omega (arith, d .good .few-binds);
+              wide = λ k here z. let y : _≡_ {A = ℕ} 0 1 = cc in absurd (omega arith);
+            };
+          })
 
-    tree-came : {l″ : List ℕ} (a : Answer) → Evaluates 128 l′ l″ t (b .at) a → length l″ ≡ length l′ → cameTo itself s [] l″ (evaluate 128 (d .good .image .root) (stateOf s (opening []))) a
-    unfolding prunableOf wordsFrom
-    tree-came {l″} a e more =
-        let e′ = subst (λ (z : State). Evaluates 128 l′ l″ z (b .at) a) te e in
-        agreed itself (λ k o x. Rep k (o .state .top) (o .at) x) (λ k o x r. r) (evaluate 128 (d .good .image .root)) (evaluate-no-rise 128 (d .good .image .root)) s (opening []) [] a tree-room more
-        (e′ .means (opening []) (d .good .image .root) tree-shown)
+      tree-came : {st′ l″ : List ℕ} (a : Answer) → Empty st → Evaluates 128 place st st′ l′ l″ t (b .at) a → length l″ ≡ length l′ → cameTo itself s st′ l″ (evaluate 128 nowhere (d .good .image .root) (stateOf s (opening st))) a
+      tree-came {st′} {l″} a none e more =
+          let e′ = subst (λ (z : State). Evaluates 128 place st st′ l′ l″ z (b .at) a) te e in
+          subst (λ (z : m.State). cameTo itself s st′ l″ (evaluate 128 nowhere (d .good .image .root) z) a) (nothing-there s none)
+          (agreed itself ShownTree (λ k o x r. r .rep) (evaluate 128 nowhere (d .good .image .root)) (evaluate-no-rise 128 nowhere (d .good .image .root)) s (storeOf st) st′ a tree-room more
+          (e′ .means (d .good .image .root) nowhere tree-shown (is-nowhere no-use)))
 
-pub tree-worked : {image : List ℕ} {j : Judgement} {l l′ l″ : List ℕ} {s t : State} {b : Built} {a : Answer} → Loaded treeKind image [] j l s
-    → Builds (TreeRead (j .front .head .scopes)) l l′ (s .top) image (j .root) (j .root + 1) b → length l′ ≡ length l → t ≡ raisedTo (b .top) s → Evaluates 128 l′ l″ t (b .at) a → length l″ ≡ length l′
-    → Worked w.evaluating itself image [] j s [] l″ a
-tree-worked {a = a} d v same te e more = record {
-  means = λ g. tree-came (with-good d g) v same te a e more;
+pub tree-worked : {image st st′ : List ℕ} {j : Judgement} {l l′ l″ : List ℕ} {s t : State} {b : Built} {place : Place} {a : Answer} → Loaded treeKind image st j l s → Empty st → place .intro .0 ≡ 0
+    → Builds (TreeRead (j .front .head .scopes)) l l′ (s .top) image (j .root) (j .root + 1) b → length l′ ≡ length l → t ≡ raisedTo (b .top) s → Evaluates 128 place st st′ l′ l″ t (b .at) a → length l″ ≡ length l′
+    → Worked w.evaluating itself image st j s st′ l″ a
+tree-worked {a = a} d none no-use v same te e more = record {
+  means = λ g. tree-came (with-good d g) v same te no-use a none e more;
 }
 
 pub ruleset tree-laws = (tree-judged, tree-ready, tree-worked)
 
 -- ---- an object
+
+abbrev bare : Around
+bare = record { meanings = coreOnly; stops = [] }
 
 few-in : {l l′ : List ℕ} {s : State} {b : Store} {q : m.Out Stx} (a : Answer) → Agrees objects 1 twoCells l l′ s b q (ended a) → FewBindings a
 few-in (Done o) g = on-done g refl .shown .few
@@ -153,8 +176,8 @@ module _ {image st : List ℕ} {j : Judgement} {l : List ℕ} {s : State} (d : L
   pub object-judged : built.Judged (ObjectRead (j .front .head .scopes)) l (s .top) image (j .root) (j .front .head .scopes)
   object-judged = judged d (stx object) object-reads object-sized
 
-  few : s .bindings ≤ 512
-  few = let n = ap (λ (x : State). x .bindings) (d .state-is) in omega (arith, d .good .few-binds)
+  few-so : s .bindings ≤ 512
+  few-so = let n = ap (λ (x : State). x .bindings) (d .state-is) in omega (arith, d .good .few-binds)
 
   module _ {l′ : List ℕ} {b : Built} (v : Builds (ObjectRead (j .front .head .scopes)) l l′ (s .top) image (j .root) (j .root + 1) b) (same : length l′ ≡ length l) {t : State} (te : t ≡ raisedTo (b .top) s) where
     object-shown : Rep l′ (b .top) (b .at) (stx object)
@@ -163,23 +186,23 @@ module _ {image st : List ℕ} {j : Judgement} {l : List ℕ} {s : State} (d : L
     object-room : Room l′ (raisedTo (b .top) s)
     object-room = room d (stx object) object-reads object-sized v same
 
-    -- ---- in the store st1, with nothing prunable
+    -- ---- in the store st1, with nothing carried
 
     module _ {st1 : List ℕ} where
       pub parse-ready : heldSize ≤ length st → length st1 ≡ length st → parsing.ReadyToParse l′ st1 t (b .at)
       parse-ready wide long =
           subst (λ (z : State). parsing.ReadyToParse l′ st1 z (b .at)) (sym te)
-          (record { thing = object; shown = object-shown; room = object-room; held = record { few = few; wide = omega arith } })
+          (record { thing = object; shown = object-shown; room = object-room; held = record { few = few-so; wide = omega arith } })
 
-      pub expand-ready : {at : Surroundings} → at .meanings ≡ 0 → heldSize ≤ length st → length st1 ≡ length st → expanding.ReadyToExpand l′ st1 t (b .at) at
-      expand-ready {at} core wide long =
+      pub expand-ready : {at : Surroundings} → at .meanings ≡ 0 → at .stops ≡ 0 → heldSize ≤ length st → length st1 ≡ length st → expanding.ReadyToExpand l′ st1 t (b .at) at
+      expand-ready {at} core unstopped wide long =
           subst (λ (z : State). expanding.ReadyToExpand l′ st1 z (b .at) at) (sym te)
-          (record { thing = object; shown = object-shown; within = record { meant = coreOnly; known = rw core is-core; room = object-room; held = record { few = few; wide = omega arith } } })
+          (record { thing = object; shown = object-shown; within = record { meant = bare; known = rw (core, unstopped) (record { meant = is-core; stopped = no-stops }); room = object-room; held = record { few = few-so; wide = omega arith } } })
 
-      module _ {p : Scopes} (put : Prunes p st st1) (none : p ≡ 0) where
+      module _ (put : Carries noScopes noScopes st st1) where
         opened : stateOf s (storeOf st1) ≡ stateOf s (opening st)
         unfolding carrying
-        opened = put-state s put few ∙ ap (λ (x : Scopes). carrying x (stateOf s (storeOf st))) none
+        opened = put-state s put few-so
 
         parse-came : {l″ : List ℕ} (a : Answer) → Parsed 128 0 st1 l′ l″ t (b .at) a → length l″ ≡ length l′ → cameTo itself s st1 l″ (parse 128 0 object (stateOf s (opening st))) a
         parse-came {l″} a e more =
@@ -187,11 +210,11 @@ module _ {image st : List ℕ} {j : Judgement} {l : List ℕ} {s : State} (d : L
             subst (λ (z : m.State). cameTo itself s st1 l″ (parse 128 0 object z) a) opened
             (agreed itself ShownTree (λ k o x r. r .rep) (parse 128 0 object) (parse-no-rise 128 0 object) s (storeOf st1) st1 a object-room more (e′ .means object object-shown))
 
-        module _ {ph : ℕ} {st′ l″ : List ℕ} (a : Answer) (e : Expanded (record { entries = 128; phase = ph; meanings = 0 }) st1 st′ l′ l″ t (b .at) a) where
+        module _ {ph : ℕ} {st′ l″ : List ℕ} (a : Answer) (e : Expanded (record { entries = 128; phase = ph; meanings = 0; stops = 0 }) st1 st′ l′ l″ t (b .at) a) where
           expand-agrees : Agrees objects 1 twoCells l′ l″ (raisedTo (b .top) s) (storeOf st′) (expand 128 (ofRoot ph) object (stateOf s (storeOf st1))) (ended a)
           expand-agrees =
-              let e′ = subst (λ (z : State). Expanded (record { entries = 128; phase = ph; meanings = 0 }) st1 st′ l′ l″ z (b .at) a) te e in
-              e′ .means object coreOnly object-shown is-core
+              let e′ = subst (λ (z : State). Expanded (record { entries = 128; phase = ph; meanings = 0; stops = 0 }) st1 st′ l′ l″ z (b .at) a) te e in
+              e′ .means object bare object-shown (record { meant = is-core; stopped = no-stops })
 
           expand-came : length l″ ≡ length l′ → cameTo stx s st′ l″ (expand 128 (ofRoot ph) object (stateOf s (opening st))) a
           expand-came more =
@@ -201,17 +224,17 @@ module _ {image st : List ℕ} {j : Judgement} {l : List ℕ} {s : State} (d : L
           expand-few : FewBindings a
           expand-few = few-in a expand-agrees
 
-module _ {image st st1 : List ℕ} {j : Judgement} {l l′ : List ℕ} {s t : State} {b : Built} {p : Scopes} (d : Loaded syntaxKind image st j l s) (put : Prunes p st st1) (none : p ≡ 0)
+module _ {image st st1 : List ℕ} {j : Judgement} {l l′ : List ℕ} {s t : State} {b : Built} (d : Loaded syntaxKind image st j l s) (put : Carries noScopes noScopes st st1)
     (v : Builds (ObjectRead (j .front .head .scopes)) l l′ (s .top) image (j .root) (j .root + 1) b) (same : length l′ ≡ length l) (te : t ≡ raisedTo (b .top) s) where
   pub parse-worked : {l″ : List ℕ} {a : Answer} → Parsed 128 0 st1 l′ l″ t (b .at) a → length l″ ≡ length l′ → Worked w.parsing itself image st j s st1 l″ a
-  parse-worked {a = a} e more = record { means = λ g. parse-came (with-good d g) v same te put none a e more }
+  parse-worked {a = a} e more = record { means = λ g. parse-came (with-good d g) v same te put a e more }
 
-  module _ {ph : ℕ} {st′ l″ : List ℕ} {a : Answer} (e : Expanded (record { entries = 128; phase = ph; meanings = 0 }) st1 st′ l′ l″ t (b .at) a) where
+  module _ {ph : ℕ} {st′ l″ : List ℕ} {a : Answer} (e : Expanded (record { entries = 128; phase = ph; meanings = 0; stops = 0 }) st1 st′ l′ l″ t (b .at) a) where
     pub expand-worked : length l″ ≡ length l′ → Worked (w.expanding ph) stx image st j s st′ l″ a
-    expand-worked more = record { means = λ g. expand-came (with-good d g) v same te put none a e more }
+    expand-worked more = record { means = λ g. expand-came (with-good d g) v same te put a e more }
 
     pub expand-held : FewBindings a
-    expand-held = expand-few d v same te put none a e
+    expand-held = expand-few d v same te put a e
 
 pub ruleset parse-laws = (object-judged, parse-ready, parse-worked)
 

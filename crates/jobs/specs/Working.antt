@@ -10,15 +10,15 @@ use Rattle.model.specs.Reading as m
 use Rattle.model.specs.Reading.{readImage}
 use Rattle.model.specs.Steps as r
 use Rattle.model.specs.Steps.{Step, ok, no, after, charge, identifier, resolveAt}
-use Rattle.model.specs.Evaluating.{evaluate}
+use Rattle.model.specs.Meanings.{ofRoot, nowhere}
 use Rattle.model.specs.Parsing.{parse}
-use Rattle.model.specs.Expanding.{ofRoot, expand}
+use Rattle.model.specs.Expanding.{evaluate, expand}
 use Rattle.model.specs.Jobs as j
 use Rattle.model.specs.Jobs.{withImage, worked, start, reached, fitted}
 use Rattle.refusals.specs.Refusing.{refusalOf}
 use Rattle.table.specs.Lending.{Lent}
 use Rattle.store.specs.Sizes.{mostBindings}
-use Rattle.store.specs.Words.{bindsOf}
+use Rattle.store.specs.Words.{bindsOf, prunableOf, usesOf}
 use Rattle.store.specs.Rivalry.{rivalsOf}
 use Rattle.things.specs.Rep.{Rep}
 use Rattle.steps.specs.declared.State.{State}
@@ -44,7 +44,7 @@ unfolding fitted reached
 writes images budget room h x s = fitted room (imageBytes (images (s .binds)) (reached h s) x) (budget - s .left)
 
 abbrev pub evaluating : Job Tree Tree
-evaluating = record { kind = treeKind; work = evaluate mostEntries; ends = writes (λ b. treeImages) }
+evaluating = record { kind = treeKind; work = evaluate mostEntries nowhere; ends = writes (λ b. treeImages) }
 
 abbrev pub parsing : Job Stx Tree
 parsing = record { kind = syntaxKind; work = parse mostEntries 0; ends = writes (λ b. treeImages) }
@@ -67,9 +67,14 @@ jobEnding J budget room image =
 abbrev pub begun : Judgement → ℕ → State
 begun j budget = record { top = 1; left = budget; names = j .front .head .names; scopes = j .front .head .scopes; bindings = j .bindings }
 
--- and what the store stands for there: the bindings read, and nothing prunable
+-- and what the store stands for there: the bindings read, and nothing carried
 abbrev pub opening : List ℕ → Store
-opening l = record { bindings = bindsOf l; prunable = noScopes }
+opening l = record { bindings = bindsOf l; prunable = noScopes; uses = noScopes }
+
+-- a store in which nothing is carried
+pub record Empty (st : List ℕ) : Type 0 where
+  pub prunable : prunableOf st ≡ noScopes
+  pub uses : usesOf st ≡ noScopes
 
 -- s is the state past the charge for the root, and the table l has the words for it
 pub record Loaded {A : Type 0} (K : Kind A) (image store : List ℕ) (j : Judgement) (l : List ℕ) (s : State) : Type 0 where

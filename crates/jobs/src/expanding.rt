@@ -5,11 +5,10 @@ use finish::Ending;
 use image::Judged;
 use image::Judgement;
 use refusals::Refusal;
-use scopes::ScopeSet;
 use steps::Answer;
 use steps::Charged;
 use steps::State;
-use store::prunable;
+use store::carried;
 ghost use mathlib.Core.Path.{_≡_};
 ghost use Prim.Native.Nat.{_+_, _≤_};
 ghost use lib.ListN.{length};
@@ -21,7 +20,7 @@ ghost use Rattle.finish.specs.Ends.{EndsAs};
 ghost use Rattle.image.specs.Judging.{syntaxKind};
 ghost use Rattle.jobs.specs.Working.{Loaded, Worked, FewBindings, expanding, jobEnding};
 
-// The root, charged for, is built in the table and expanded, with the core meanings and nothing prunable.
+// The root, charged for, is built in the table and expanded, with the core meanings, no stops and nothing carried.
 fn expand_root(
     image: &[u8],
     j: Judgement,
@@ -35,7 +34,7 @@ fn expand_root(
     ensures { λ r. ⌜ Worked (expanding phase) stx (now (image .entry)) (now (store .entry)) j s (now (store .exit)) (now (table .exit)) r ⌝ }
     ensures { λ r. ⌜ FewBindings r ⌝ }
 {
-    prunable::put(store, ScopeSet::empty());
+    loading::carry_nothing(store);
     let f = j.front;
     let h = f.head;
     let b = builder::object(table, s.top, image, j.root, h.scopes);
@@ -43,6 +42,7 @@ fn expand_root(
         entries: State::MOST_ENTRIES,
         phase,
         meanings: 0,
+        stops: 0,
     };
     expand::expand(table, store, s.raised(b.top), b.at, at)
 }
@@ -72,7 +72,7 @@ fn expand_loaded(
     }
 }
 
-// The image past the test of the phase, with words for its bindings and the prunable set. Where the job stops at code 6, the two that compete
+// The image past the test of the phase, with words for its bindings and what is carried. Where the job stops at code 6, the two that compete
 // are still in them.
 pub fn expand_image(
     out: &mut [u8],
@@ -109,6 +109,6 @@ pub fn expand_work(
     if table::Sets::LAST_PHASE < phase {
         return Ending::Refused(Refusal::NoPhase, 0);
     }
-    let mut store = [0u64; prunable::HELD];
+    let mut store = [0u64; carried::HELD];
     expand_image(out, image, &mut store, table, phase, budget)
 }

@@ -1,11 +1,18 @@
-// Before and after the work: the charge for loading, and what a refusal of the work has cost.
+// Before and after the work: the charge for loading, what is carried at the start, and what a refusal of the work has cost.
 use finish::Ending;
 use image::Judgement;
+use scopes::ScopeSet;
 use steps::Charged;
 use steps::State;
 use steps::Stop;
+use store::carried;
+use store::carried::Carried;
 ghost use mathlib.Core.Path.{_≡_};
 ghost use Prim.Native.Nat.{_-_, _≤_};
+ghost use lib.ListN.{length};
+ghost use Rattle.model.specs.Scopes.{noScopes};
+ghost use Rattle.store.specs.Sizes.{heldSize};
+ghost use Rattle.store.specs.Words.{Carries};
 ghost use Rattle.steps.specs.States.{chargeOf};
 ghost use Rattle.finish.specs.declared.Ending.the-variants.{Stopped};
 ghost use Rattle.jobs.specs.Working.{begun};
@@ -24,6 +31,20 @@ pub fn begin(j: Judgement, budget: u32) -> Charged
         bindings: j.bindings,
     };
     s.charge(j.size)
+}
+
+// Nothing is prunable yet, and there are no use scopes.
+pub fn carry_nothing(store: &mut [u64])
+    requires { ⌜ heldSize ≤ length (now store) ⌝ }
+    ensures { λ _. ⌜ Carries noScopes noScopes (now (store .entry)) (now (store .exit)) ⌝ }
+{
+    carried::put(
+        store,
+        Carried {
+            prunable: ScopeSet::empty(),
+            uses: ScopeSet::empty(),
+        },
+    );
 }
 
 // A refusal, after the units charged.

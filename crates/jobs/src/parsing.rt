@@ -3,11 +3,10 @@ use crate::loading;
 use finish::Ending;
 use image::Judged;
 use image::Judgement;
-use scopes::ScopeSet;
 use steps::Answer;
 use steps::Charged;
 use steps::State;
-use store::prunable;
+use store::carried;
 ghost use mathlib.Core.Path.{_≡_};
 ghost use Prim.Native.Nat.{_+_, _≤_};
 ghost use lib.ListN.{length};
@@ -18,13 +17,13 @@ ghost use Rattle.finish.specs.Ends.{EndsAs};
 ghost use Rattle.image.specs.Judging.{syntaxKind};
 ghost use Rattle.jobs.specs.Working.{Loaded, itself, Worked, parsing, jobEnding};
 
-// The root, charged for, is built in the table and parsed. The rules start with nothing prunable, so the store does too; parsing does not look.
+// The root, charged for, is built in the table and parsed. The rules start with nothing carried, so the store does too; parsing does not look.
 fn parse_root(image: &[u8], j: Judgement, store: &mut [u64], table: &mut [u32], s: State) -> Answer
     requires loaded { ⌜ Loaded syntaxKind (now image) (now store) j (now table) s ⌝ }
     requires wide { ⌜ heldSize ≤ length (now store) ⌝ }
     ensures { λ r. ⌜ Worked parsing itself (now (image .entry)) (now (store .entry)) j s (now (store .exit)) (now (table .exit)) r ⌝ }
 {
-    prunable::put(store, ScopeSet::empty());
+    loading::carry_nothing(store);
     let f = j.front;
     let h = f.head;
     let b = builder::object(table, s.top, image, j.root, h.scopes);
@@ -60,7 +59,7 @@ pub fn parse_work(out: &mut [u8], image: &[u8], table: &mut [u32], budget: u32) 
     requires { ⌜ Lent (now table) budget ⌝ }
     ensures { λ r. ⌜ EndsAs (parseEnding (now (image .entry)) budget (length (now (out .entry)))) (now (out .entry)) (now (out .exit)) r ⌝ }
 {
-    let mut store = [0u64; prunable::HELD];
+    let mut store = [0u64; carried::HELD];
     match image::judge_syntax(image, &mut store) {
         Judged::Fault(f) => Ending::Refused(f, 0),
         Judged::Good(j) => match loading::begin(j, budget) {

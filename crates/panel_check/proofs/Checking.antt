@@ -25,7 +25,7 @@ use Rattle.numbers.specs.declared.Place.the-variants as place
 use Rattle.image.specs.declared.Judgement.{Judgement}
 use Rattle.image.specs.declared.Judged.{Judged}
 use Rattle.image.specs.declared.Judged.the-variants as judged
-use Rattle.image.specs.Judging.{readOwned, treeKind, Good, Judges}
+use Rattle.image.specs.Judging.{readOwned, treeKind, Good, JudgesTree}
 use Rattle.bits.specs.declared.Gathered.{Gathered}
 use Rattle.bits.specs.Meeting.{Met, none, along, metIn, Holds, room}
 use Rattle.bits.proofs.Programs.{program-met}
@@ -83,9 +83,9 @@ panel-fault (got i s) {c} e = go (closed [] (i .root)) refl e
     go false q e = let z : unowned ≡ c = cc in rw (q, z)
 panel-fault (fault d) {c} e = let z : d ≡ c = cc in ap (λ (x : Refusal). refused (base x)) z
 
-pub judged-fault : {image : List ℕ} {r : Judged} {f : declared.Refusal} → Judges treeKind image [] r → r ≡ judged.Fault f → Refuses image (Base f)
+pub judged-fault : {image : List ℕ} {r : Judged} {f : declared.Refusal} → JudgesTree image r → r ≡ judged.Fault f → Refuses image (Base f)
 unfolding panelOf
-judged-fault {image} {r} {f} h e = panel-fault (readImage readTreeImage image) (sym (owned-image image) ∙ h .is ∙ rw e refl)
+judged-fault {image} {r} {f} h e = panel-fault (readImage readTreeImage image) (sym (owned-image image) ∙ h .judges [] .is ∙ rw e refl)
 
 record Read-owned (g : Read (Image Tree)) (i : Image Tree) : Type 0 where
   reads : g ≡ got i []
@@ -102,10 +102,10 @@ read-owned (got j s) {i} e = go (closed [] (j .root)) refl e
 read-owned (fault c) {i} e = absurd (fault≢got c i [] e)
 
 -- an image without fault that is no program
-pub judged-outside : {image : List ℕ} {r : Judged} {j : Judgement} → NoProgram image → Judges treeKind image [] r → r ≡ judged.Good j → Refuses image Outside
+pub judged-outside : {image : List ℕ} {r : Judged} {j : Judgement} → NoProgram image → JudgesTree image r → r ≡ judged.Good j → Refuses image Outside
 unfolding panelOf ofImage
 judged-outside {image} {r} {j} n h e =
-    let g = h .good j e in
+    let g = h .judges [] .good j e in
     let o = read-owned (readImage readTreeImage image) (sym (owned-image image) ∙ g .reads) in
     rw (o .reads) (profile-outside (g .image .root) (o .owned) (n (g .image) (o .reads) (o .owned)))
 

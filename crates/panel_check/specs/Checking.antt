@@ -9,7 +9,8 @@ use Rattle.model.specs.Choice.{if_then_else_}
 use Rattle.model.specs.Limits.{mostNesting}
 use Rattle.model.specs.Trees.{Tree}
 use Rattle.model.specs.Reading.{Image, got, readTree, readTreeImage, readImage}
-use Rattle.model.specs.Jobs.{Answer, isAmong, closed}
+use Rattle.model.specs.Meanings.{isAmong}
+use Rattle.model.specs.Jobs.{Answer, closed}
 use Rattle.requests.specs.Panel as p
 use Rattle.requests.specs.Panel.{isProgram, driven, bitsOf, PanelEnding, refused, listed, panelOf, roomFor, panelAnswer, panelCode, bitsAfter}
 use Rattle.refusals.specs.declared.Refusal.{Refusal}
