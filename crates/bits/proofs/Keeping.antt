@@ -10,8 +10,8 @@ use lib.ListN.{length, getD, set, take, length-append}
 use lib.Seq.{getD-set-same, getD-set-other, take-suc-set}
 use borrow.Author.Tests.{eq-eqb, ne-eqb, lt-ltb, le-ltb, ltb-true, eqb-true, eqb-false, not-true, not-false}
 use Rattle.model.specs.Choice.{if_then_else_}
-use Rattle.model.specs.Jobs.{isAmong}
-use Rattle.laws.proofs.Tests.{and-both}
+use Rattle.model.specs.Meanings.{isAmong}
+use Rattle.laws.proofs.Tests.{and-both, among-more}
 use Rattle.requests.specs.Panel.{allDiffer}
 use Rattle.bits.specs.Meeting.{lastMark, points, room, isOut, meet, markedAt, drivenBefore, countedAt, namedAt, Noted}
 use Rattle.bits.specs.declared.Token.{Token}
@@ -95,15 +95,6 @@ eqb-turned x y = go (eqb x y) refl
     go : (b : Bool) → eqb x y ≡ b → eqb x y ≡ eqb y x
     go true e = e ∙ sym (eq-eqb y x (sym (eqb-true x y e)))
     go false e = e ∙ sym (ne-eqb y x (λ q. eqb-false x y e (sym q)))
-
-among-more : (y x : ℕ) (l : List ℕ) → isAmong y (l ++ x ∷ []) ≡ (isAmong y l || eqb y x)
-unfolding isAmong
-among-more y x [] = or-false (eqb y x)
-among-more y x (n ∷ l) = go (eqb y n) (among-more y x l)
-  where
-    go : (b : Bool) → isAmong y (l ++ x ∷ []) ≡ (isAmong y l || eqb y x) → (b || isAmong y (l ++ x ∷ [])) ≡ ((b || isAmong y l) || eqb y x)
-    go true h = refl
-    go false h = h
 
 pub differ-more : (l : List ℕ) (x : ℕ) → not (allDiffer (l ++ x ∷ [])) ≡ (not (allDiffer l) || isAmong x l)
 unfolding allDiffer isAmong

@@ -7,7 +7,7 @@ use lib.Dec.{eqb, ltb}
 use lib.ListN.{length, getD, set, take}
 use Rattle.model.specs.Choice.{if_then_else_}
 use Rattle.model.specs.Reading.{Read, got, fault}
-use Rattle.model.specs.Jobs.{isAmong}
+use Rattle.model.specs.Meanings.{isAmong}
 use Rattle.model.specs.Trees.{Tree}
 use Rattle.requests.specs.Panel.{allDiffer, bitsOf, driven}
 use Rattle.bits.specs.Tokens.{readToken}

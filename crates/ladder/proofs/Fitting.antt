@@ -12,7 +12,8 @@ use Rattle.model.specs.Choice.{if_then_else_}
 use Rattle.model.specs.Limits.{mostNesting, lastPoint}
 use Rattle.model.specs.Objects.{Atom, symbol, number, point, prim, rung}
 use Rattle.model.specs.Trees.{Tree, var, app, fun, datum, lst, stx, Trees, tnil, tcons, tcount, tnesting, tnestings}
-use Rattle.model.specs.Jobs.{isAmong, closed, closedAll}
+use Rattle.model.specs.Meanings.{isAmong}
+use Rattle.model.specs.Jobs.{closed, closedAll}
 use Rattle.laws.proofs.Tests.{and-both}
 use Rattle.codec_laws.specs.WellFormed.{AtomFits, TreeFits, TreesFit}
 use Rattle.addresses.specs.OneNameOneAddress.{functionNames, functionNamesAll}

@@ -12,7 +12,8 @@ use Rattle.model.specs.Objects.{Atom, symbol, number, point, prim, rung, tagOf,
 use Rattle.model.specs.Trees.{Tree, var, app, fun, datum, lst, stx, Trees, tnil, tcons, tcount}
 use Rattle.model.specs.Reading as m
 use Rattle.model.specs.Reading.{Reader, got, fault, next, need, num, numUpTo, numBelow, symbols, readAtom, readStx, readTrees, readApp, readTreeBody, readTree}
-use Rattle.model.specs.Jobs.{isAmong, closed}
+use Rattle.model.specs.Meanings.{isAmong}
+use Rattle.model.specs.Jobs.{closed}
 use Rattle.codec_laws.proofs.NumberTrip.{fault≢got}
 use Rattle.codec_laws.proofs.Sequence.{next-got, need-got, moved}
 use Rattle.requests.specs.Panel.{free, wordNumbered, headWord, wordOf}

@@ -13,7 +13,7 @@ use Rattle.model.specs.Limits.{lastPoint}
 use Rattle.model.specs.Refusals as m
 use Rattle.model.specs.Trees.{Tree}
 use Rattle.model.specs.Reading.{Read, got, fault, num, atEnd}
-use Rattle.model.specs.Jobs.{isAmong}
+use Rattle.model.specs.Meanings.{isAmong}
 use Rattle.numbers.specs.declared.Cursor.{Cursor}
 use Rattle.numbers.specs.Answers.{kept}
 use Rattle.numbers.specs.Limits.{mostImage}

@@ -8,7 +8,7 @@ use lib.ListN.{length, getD}
 use Rattle.model.specs.Choice.{if_then_else_}
 use Rattle.model.specs.Reading as m
 use Rattle.model.specs.Reading.{got, fault, num}
-use Rattle.model.specs.Jobs.{isAmong}
+use Rattle.model.specs.Meanings.{isAmong}
 use Rattle.numbers.specs.Answers.{answerAt}
 use Rattle.numbers.specs.Limits.{mostImage}
 use Rattle.numbers.specs.declared.Cursor.{Cursor}

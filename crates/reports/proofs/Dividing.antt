@@ -121,11 +121,16 @@ cut-behind left b rest answer = by (leb left (length rest)) (leb (suc left) (suc
     by true u e = rw e
     by false u e = rw e
 
+-- of any answer, since the single job's is a large term
+stored-by : (answer : List ℕ → Line) (have left b : ℕ) (room rest : List ℕ) → have < length room
+    → answered (λ image. answer (take have room ++ image)) (cutOff (got (suc left) (b ∷ rest))) ≡ answered (λ image. answer (take (have + 1) (set room have b) ++ image)) (cutOff (got left rest))
+stored-by answer have left b room rest h =
+    cut-behind left b rest (λ image. answer (take have room ++ image)) ∙ rw (add-one have, take-suc-set room have b h) (simp append-assoc)
+
 stored-more : (have left b : ℕ) (room rest : List ℕ) → have < length room
     → answersFrom (Image have (suc left)) room (b ∷ rest) ≡ answersFrom (Image (have + 1) left) (set room have b) rest
 unfolding answersFrom
-stored-more have left b room rest h =
-    cut-behind left b rest (λ image. single (take have room ++ image)) ∙ rw (add-one have, take-suc-set room have b h) (simp append-assoc)
+stored-more have left b room rest h = stored-by single have left b room rest h
 
 module _ {here : Reading} (w : Waits here) {have left : ℕ} (e : here ≡ Image have left) where
   inside : (0 < left) × (have + left ≤ mostImage)

@@ -10,7 +10,7 @@ use Rattle.model.specs.Choice.{if_then_else_}
 use Rattle.model.specs.Limits.{lastPoint}
 use Rattle.model.specs.Objects.{point}
 use Rattle.model.specs.Trees.{Tree, datum}
-use Rattle.model.specs.Jobs.{isAmong}
+use Rattle.model.specs.Meanings.{isAmong}
 use Rattle.requests.specs.Panel.{driven}
 use Rattle.requests.specs.Recording.{Change}
 use Rattle.requests.specs.Scanning.{State, atStart, valueOf, valueOfAtom, scan, scans}

@@ -5,7 +5,8 @@ use mathlib.Core.List.{List, [], _∷_, _++_}
 use lib.Dec.{eqb}
 use lib.ListN.{length, getD, take}
 use Rattle.model.specs.Choice.{if_then_else_}
-use Rattle.model.specs.Jobs.{isAmong, digits}
+use Rattle.model.specs.Meanings.{isAmong}
+use Rattle.model.specs.Jobs.{digits}
 use Rattle.requests.specs.Scanning.{State}
 use Rattle.requests.specs.ScanJob.{lineAfter}
 use Rattle.bits.specs.Meeting.{points}

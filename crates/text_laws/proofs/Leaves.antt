@@ -10,7 +10,7 @@ use lib.ListN.{length}
 use Rattle.model.specs.Limits.{mostWordLength, lastPoint, lastPrimitive, lastRungWord}
 use Rattle.model.specs.Reading.{wordByte, firstByte, allWordBytes, goodWord}
 use Rattle.model.specs.Jobs.{digits}
-use borrow.Author.Tests.{le-leb, lt-ltb, ne-eqb, leb-true, eqb-false}
+use borrow.Author.Tests.{le-leb, lt-ltb, ne-eqb, leb-true, eqb-false, not-true}
 use Rattle.requests.specs.Tokens.{space, paren, cut, digit, allDigits, numeral, Leaf, word, number, point, prim, rung, one, numbered, rungToken, tokenOf}
 use Rattle.requests.specs.FromText.{leafFits}
 use Rattle.requests.specs.ToText.{rungText, leafText}
@@ -33,10 +33,6 @@ plain-byte b h p q r = (
   rw (ne-eqb b 40 p, ne-eqb b 41 q),
   ne-eqb b 59 r,
 )
-
-not-true : (b : Bool) → not b ≡ true → b ≡ false
-not-true true e = absurd (false≢true e)
-not-true false e = refl
 
 -- what is known of a word's byte
 pub word-byte : (b : ℕ) → wordByte b ≡ true
