@@ -56,6 +56,10 @@ case("a mean with a remainder", [IDENTITY, NO_MEANING, b""], [(0, 1), (1, 1), (7
 case("a mean of 0 with a remainder", [ONE, b"", b""], [(0, 1), (1, 2)], 2, "0 2")
 case("a mean of seven without a remainder", [IDENTITY, IDENTITY, IDENTITY, ONE, ONE, b"", b""], [(0, 5), (1, 2)], 28, "4 0")
 case("a remainder one short of the images", [ONE, ONE, ONE, b"", b"", b"", b""], [(0, 3), (1, 4)], 6, "0 6")
+# Loading 7, an entry, the binder, three to expand and three to parse, the application and its head.
+NO_INTRODUCTION = syntax_image("(let-syntax m (#7 0) 1)")  # 28 after 17 units
+case("28 has a line", [NO_INTRODUCTION], [(28, 1)], 17, "17 0")
+case("28 behind others", [NO_INTRODUCTION, ONE, NO_INTRODUCTION, b""], [(0, 1), (1, 1), (28, 2)], 36, "9 0")
 case("codes ascend as numbers, in whatever order they are met",
      [TOO_MANY, NO_PHASE, EMPTY_LIST, NO_MEANING, AMBIGUOUS, TREE, LONG, b"", ONE],
      [(0, 1), (1, 1), (2, 1), (4, 1), (6, 1), (7, 1), (8, 1), (12, 1), (19, 1)], 400 + 19 + 2 + 2 + 2 + 2, "47 4")

@@ -1,11 +1,12 @@
 /* calls: a stream of calls made up by chance from a seed.
 
-       calls --seed S --count N [--small BYTES]
+       calls --seed S --count N [--small BYTES] [--local PERCENT]
 
    Each call is first answered with all the budget and output there is. The
    calls then hand out budgets, tables and outputs around what it needed.
    --small keeps images, recordings and parts shorter than so many bytes, and nearly
-   all budgets to 200 at most. */
+   all budgets to 200 at most. --local says how many of a hundred drafts are programs with
+   local expansion, 15 where it is not given; with 0 there is no primitive over 6. */
 #include <stdlib.h>
 #include <string.h>
 
@@ -14,6 +15,7 @@
 #include "panel.h"
 #include "stream.h"
 
+static uint32_t local_share = 15;
 static uint32_t small; /* images are shorter than this; 0 where they need not be */
 static Memory *memory;
 static uint64_t wanted;
@@ -215,6 +217,16 @@ static Job choose_job(uint32_t kind)
 
 static void make_draft(Draft *draft, Job *job)
 {
+    if (local_share > 0 && percent(local_share)) {
+        if (percent(5)) {
+            draft_tree(memory, draft);
+            *job = JOB_EVALUATE;
+            return;
+        }
+        draft_local(memory, small > 0, draft);
+        *job = percent(97) ? JOB_EXPAND : choose_job(draft->kind);
+        return;
+    }
     uint32_t choice = below(100);
     if (percent(8)) {
         draft_text(small > 0, draft);
@@ -310,11 +322,15 @@ int main(int count, char **arguments)
             wanted = strtoull(arguments[++i], NULL, 10);
         } else if (strcmp(arguments[i], "--small") == 0 && i + 1 < count) {
             small = (uint32_t)strtoul(arguments[++i], NULL, 10);
+        } else if (strcmp(arguments[i], "--local") == 0 && i + 1 < count) {
+            local_share = (uint32_t)strtoul(arguments[++i], NULL, 10);
         } else {
-            fprintf(stderr, "calls --seed S --count N [--small BYTES]\n");
+            fprintf(stderr, "calls --seed S --count N [--small BYTES] [--local PERCENT]\n");
             return 2;
         }
     }
+    if (local_share == 0)
+        draft_primitives = 7;
     memory = new_memory();
     start_chance(seed);
     draft_tree(memory, &other);

@@ -92,7 +92,7 @@ static const Tree *odd_piece(const Bits *bits)
     case 2:
         return tree_atom(SYMBOL, below(CORE_NAMES));
     case 3:
-        return tree_atom(PRIMITIVE, below(LARGEST_PRIMITIVE + 1));
+        return tree_atom(PRIMITIVE, any_primitive());
     case 4:
         return percent(50) ? empty : tree_list(1, &point, true);
     case 5:
@@ -104,7 +104,7 @@ static const Tree *odd_piece(const Bits *bits)
     case 8:
         return apply2(point, point, any_point());
     case 9:
-        return apply2(tree_atom(PRIMITIVE, below(LARGEST_PRIMITIVE + 1)), point, point);
+        return apply2(tree_atom(PRIMITIVE, any_primitive()), point, point);
     case 10:
         return apply1(expression(1, bits), point);
     default:

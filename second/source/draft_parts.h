@@ -20,12 +20,45 @@ void finish_draft(Draft *draft);
 /* Parts of syntax, without scopes. */
 const Object *atom(ObjectTag tag, uint32_t content);
 const Object *symbol(uint32_t number);
+const Object *primitive(uint32_t number);
 const Object *list_of(uint32_t count, const Object *const *given);
+const Object *list1(const Object *a);
+const Object *list2(const Object *a, const Object *b);
+const Object *list3(const Object *a, const Object *b, const Object *c);
+const Object *list4(const Object *a, const Object *b, const Object *c, const Object *d);
+const Object *lambda(uint32_t word, const Object *body);
 const Object *lambda_of(const Object *binder, const Object *body);
 const Object *let_syntax(uint32_t word, const Object *value, const Object *body);
+const Object *quote(const Object *object);
 const Object *syntax(const Object *object);
+const Object *notation(const char *text);
 const Object *any_atom(void);
 const Object *any_object(int depth);
+
+/* One of the primitives that drafts have. */
+uint32_t any_primitive(void);
+
+/* The words that mean something where a piece of program is made. */
+typedef struct Known Known;
+struct Known {
+    uint32_t word;
+    bool is_macro;
+    const Known *outer;
+};
+
+const Known *some_known(const Known *known, bool is_macro); /* or NULL */
+const Object *some_program(int depth, const Known *known);
+const Object *macro_use(int depth, const Known *known, uint32_t word);
+const Object *right_hand_side(int depth, const Known *known);
+
+/* Code one phase up, for a macro whose form has this word: what takes an argument of
+   the use, from 0, and what builds a template with holes. */
+const Object *argument_code(uint32_t form, uint32_t argument);
+const Object *template_of(int depth, const Known *known, uint32_t holes);
+const Object *template_code(const Object *template, uint32_t form);
+
+/* Gives a program counts and, now and then, scopes and bindings, and writes it. */
+void finish_program(const Object *root, Draft *draft);
 
 /* A word of the image, now and then a core word. */
 uint32_t any_word(void);

@@ -105,7 +105,7 @@ static void put_leaf(void)
         put_number("@", percent(80) ? below(30) : LARGEST_POINT - below(3));
         break;
     case 5:
-        put_number("#", below(LARGEST_PRIMITIVE + 1));
+        put_number("#", any_primitive());
         break;
     case 6:
     case 7:

@@ -119,9 +119,12 @@ static const Tree *tree(int depth, const Bound *bound, Wanted wanted)
         for (uint32_t i = 0; i < count; i++)
             parts[i] = tree(depth - 1, bound, ANY_VALUE);
         if (percent(60))
-            parts[0] = tree_primitive(below(LARGEST_PRIMITIVE + 1));
+            parts[0] = tree_primitive(any_primitive());
         return tree_list(count, parts, false);
     }
+    if (draft_primitives > LARGEST_PRIMITIVE && percent(2)) /* there is no introduction scope */
+        return percent(60) ? apply1(tree_primitive(percent(50) ? 7 : 9), tree(depth - 1, bound, A_SYNTAX))
+                           : apply2(tree_primitive(8), tree(depth - 1, bound, A_SYNTAX), tree(depth - 1, bound, SYNTAXES));
     switch (below(12)) {
     case 0:
     case 1: { /* a function applied */

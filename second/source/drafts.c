@@ -25,7 +25,7 @@ const Object *symbol(uint32_t number)
     return atom(SYMBOL, number);
 }
 
-static const Object *primitive(uint32_t number)
+const Object *primitive(uint32_t number)
 {
     return atom(PRIMITIVE, number);
 }
@@ -38,22 +38,22 @@ const Object *list_of(uint32_t count, const Object *const *given)
     return make_list_object(draft_memory, count, parts, bare);
 }
 
-static const Object *list1(const Object *a)
+const Object *list1(const Object *a)
 {
     return list_of(1, (const Object *[]){a});
 }
 
-static const Object *list2(const Object *a, const Object *b)
+const Object *list2(const Object *a, const Object *b)
 {
     return list_of(2, (const Object *[]){a, b});
 }
 
-static const Object *list3(const Object *a, const Object *b, const Object *c)
+const Object *list3(const Object *a, const Object *b, const Object *c)
 {
     return list_of(3, (const Object *[]){a, b, c});
 }
 
-static const Object *list4(const Object *a, const Object *b, const Object *c, const Object *d)
+const Object *list4(const Object *a, const Object *b, const Object *c, const Object *d)
 {
     return list_of(4, (const Object *[]){a, b, c, d});
 }
@@ -63,7 +63,7 @@ const Object *lambda_of(const Object *binder, const Object *body)
     return list3(symbol(LAMBDA), binder, body);
 }
 
-static const Object *lambda(uint32_t word, const Object *body)
+const Object *lambda(uint32_t word, const Object *body)
 {
     return lambda_of(symbol(word), body);
 }
@@ -73,7 +73,7 @@ const Object *let_syntax(uint32_t word, const Object *value, const Object *body)
     return list4(symbol(LET_SYNTAX), symbol(word), value, body);
 }
 
-static const Object *quote(const Object *object)
+const Object *quote(const Object *object)
 {
     return list2(symbol(QUOTE), object);
 }
@@ -186,7 +186,7 @@ static const Object *read_notation(const char **text)
     }
 }
 
-static const Object *notation(const char *text)
+const Object *notation(const char *text)
 {
     return read_notation(&text);
 }
@@ -204,7 +204,7 @@ static bool has_hole(const Object *object)
 }
 
 /* The text that takes an argument out of the form: (first (rest (stx-e form))). */
-static const Object *argument_code(uint32_t form, uint32_t argument)
+const Object *argument_code(uint32_t form, uint32_t argument)
 {
     const Object *code = list2(primitive(0), symbol(form));
     for (uint32_t i = 0; i < argument; i++)
@@ -213,7 +213,7 @@ static const Object *argument_code(uint32_t form, uint32_t argument)
 }
 
 /* The text that builds a template from the form at the phase above. */
-static const Object *template_code(const Object *template, uint32_t form)
+const Object *template_code(const Object *template, uint32_t form)
 {
     if (!has_hole(template))
         return syntax(template);
@@ -228,6 +228,13 @@ static const Object *template_code(const Object *template, uint32_t form)
 
 /* ---- loose objects ---- */
 
+uint32_t draft_primitives = LARGEST_PRIMITIVE + 1;
+
+uint32_t any_primitive(void)
+{
+    return below(draft_primitives);
+}
+
 const Object *any_atom(void)
 {
     switch (below(10)) {
@@ -240,7 +247,7 @@ const Object *any_atom(void)
     case 4:
         return atom(POINT, percent(80) ? below(30) : below(LARGEST_POINT + 1));
     case 5:
-        return atom(PRIMITIVE, below(LARGEST_PRIMITIVE + 1));
+        return atom(PRIMITIVE, any_primitive());
     case 6:
         return atom(RUNG_WORD, percent(80) ? below(6) : below(LARGEST_RUNG_WORD + 1));
     default:
@@ -261,19 +268,9 @@ const Object *any_object(int depth)
 
 /* ---- programs ---- */
 
-/* The words that mean something where a piece of program is made. */
-typedef struct Known Known;
-struct Known {
-    uint32_t word;
-    bool is_macro;
-    const Known *outer;
-};
-
 static uint32_t holes_allowed;
 
-static const Object *program(int depth, const Known *known);
-
-static const Known *some_known(const Known *known, bool is_macro)
+const Known *some_known(const Known *known, bool is_macro)
 {
     const Known *chosen = NULL;
     uint32_t met = 0;
@@ -297,11 +294,11 @@ static const Object *leaf(const Known *known)
     return any_atom();
 }
 
-static const Object *template_of(int depth, const Known *known, uint32_t holes)
+const Object *template_of(int depth, const Known *known, uint32_t holes)
 {
     uint32_t before = holes_allowed;
     holes_allowed = holes;
-    const Object *template = program(depth, known);
+    const Object *template = some_program(depth, known);
     holes_allowed = before;
     return template;
 }
@@ -319,7 +316,7 @@ static const Object *loop_code(void)
 
 /* The right-hand side of a macro. Templates are made with the words known
    where the macro is used; the code itself knows nothing but core forms. */
-static const Object *right_hand_side(int depth, const Known *known)
+const Object *right_hand_side(int depth, const Known *known)
 {
     uint32_t form = any_word();
     switch (below(20)) {
@@ -360,20 +357,20 @@ static const Object *right_hand_side(int depth, const Known *known)
         return lambda(form, list3(primitive(1), list2(primitive(0), symbol(form)),
                                   percent(50) ? symbol(form) : syntax(any_atom())));
     case 18:
-        return percent(30) ? loop_code() : lambda(form, program(depth - 2, NULL));
+        return percent(30) ? loop_code() : lambda(form, some_program(depth - 2, NULL));
     default:
         return without_holes(depth - 1, NULL);
     }
 }
 
-static const Object *macro_use(int depth, const Known *known, uint32_t word)
+const Object *macro_use(int depth, const Known *known, uint32_t word)
 {
     const Object *parts[4] = {symbol(word)};
     uint32_t count = 1 + between(percent(80) ? 2 : 0, 3);
     if (percent(20))
         count = 1;
     for (uint32_t i = 1; i < count; i++)
-        parts[i] = program(depth - 2, known);
+        parts[i] = some_program(depth - 2, known);
     return list_of(count, parts);
 }
 
@@ -387,9 +384,9 @@ static const Object *odd_form(int depth, const Known *known)
     case 2:
         return list2(symbol(LAMBDA), symbol(any_word()));
     case 3:
-        return list3(symbol(LAMBDA), list1(symbol(any_word())), program(depth - 1, known));
+        return list3(symbol(LAMBDA), list1(symbol(any_word())), some_program(depth - 1, known));
     case 4:
-        return list3(symbol(LET_SYNTAX), symbol(any_word()), program(depth - 1, known));
+        return list3(symbol(LET_SYNTAX), symbol(any_word()), some_program(depth - 1, known));
     case 5:
         return percent(50) ? list1(symbol(QUOTE)) : list1(symbol(SYNTAX));
     case 6:
@@ -406,10 +403,10 @@ static const Object *definition(int depth, const Known *known)
                      .is_macro = true,
                      .outer = known};
     const Object *value = right_hand_side(depth, known);
-    return let_syntax(defined.word, value, program(depth - 1, &defined));
+    return let_syntax(defined.word, value, some_program(depth - 1, &defined));
 }
 
-static const Object *program(int depth, const Known *known)
+const Object *some_program(int depth, const Known *known)
 {
     if (depth <= 0)
         return leaf(known);
@@ -419,7 +416,7 @@ static const Object *program(int depth, const Known *known)
     uint32_t choice = below(100);
     if (choice < 22) {
         Known variable = {.word = percent(6) ? below(CORE_NAMES) : any_word(), .outer = known};
-        return lambda(variable.word, program(depth - 1, &variable));
+        return lambda(variable.word, some_program(depth - 1, &variable));
     }
     if (choice < 52)
         return definition(depth, known);
@@ -427,14 +424,14 @@ static const Object *program(int depth, const Known *known)
         const Object *parts[3];
         uint32_t count = between(1, 3);
         for (uint32_t i = 0; i < count; i++)
-            parts[i] = program(depth - 1 - (int)below(2), known);
+            parts[i] = some_program(depth - 1 - (int)below(2), known);
         return list_of(count, parts);
     }
     if (choice < 80)
-        return list3(atom(RUNG_WORD, below(6)), program(depth - 2, known),
-                     program(depth - 2, known));
+        return list3(atom(RUNG_WORD, below(6)), some_program(depth - 2, known),
+                     some_program(depth - 2, known));
     if (choice < 86)
-        return syntax(percent(50) ? any_object(2) : program(depth - 2, known));
+        return syntax(percent(50) ? any_object(2) : some_program(depth - 2, known));
     if (choice < 90)
         return quote(any_object(2));
     if (choice < 93)
@@ -815,18 +812,8 @@ static const Object *lambda_around(int depth)
     return lambda(variable.word, definition(depth, &variable));
 }
 
-void draft_program(Memory *memory, Draft *draft)
+void finish_program(const Object *root, Draft *draft)
 {
-    start_draft(memory, SYNTAX_IMAGE, between(1, 4));
-    const Object *root;
-    if (percent(30))
-        root = panel_program();
-    else if (percent(3))
-        root = deep_program();
-    else if (percent(30))
-        root = program((int)between(1, 6), NULL);
-    else
-        root = percent(40) ? lambda_around((int)between(3, 6)) : definition((int)between(3, 6), NULL);
     if (draft_image.word_count > 1 && percent(15))
         root = rename_word(root, any_word(), any_word());
     choose_counts();
@@ -843,6 +830,21 @@ void draft_program(Memory *memory, Draft *draft)
         fill_bindings(between(MOST_BINDINGS - 3, MOST_BINDINGS));
     draft_image.object = root;
     finish_draft(draft);
+}
+
+void draft_program(Memory *memory, Draft *draft)
+{
+    start_draft(memory, SYNTAX_IMAGE, between(1, 4));
+    const Object *root;
+    if (percent(30))
+        root = panel_program();
+    else if (percent(3))
+        root = deep_program();
+    else if (percent(30))
+        root = some_program((int)between(1, 6), NULL);
+    else
+        root = percent(40) ? lambda_around((int)between(3, 6)) : definition((int)between(3, 6), NULL);
+    finish_program(root, draft);
 }
 
 void draft_identifier(Memory *memory, Draft *draft)
@@ -867,7 +869,7 @@ void draft_identifier(Memory *memory, Draft *draft)
 void draft_object(Memory *memory, Draft *draft)
 {
     start_draft(memory, SYNTAX_IMAGE, between(0, 3));
-    const Object *root = percent(50) ? any_object(3) : program((int)between(1, 4), NULL);
+    const Object *root = percent(50) ? any_object(3) : some_program((int)between(1, 4), NULL);
     if (percent(2))
         root = wrap(root, between(50, 63));
     if (percent(25))

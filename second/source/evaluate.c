@@ -1,10 +1,11 @@
-/* Evaluating a tree: substitution and the seven primitives. */
+/* Evaluating a tree: substitution and the ten primitives. */
 #include "work.h"
 
-enum { STX_E, MK_STX, FIRST, REST, LINK, SAME, PICK, MOST_ARGUMENTS = 3 };
+enum { STX_E, MK_STX, FIRST, REST, LINK, SAME, PICK, VALUE_OF, EXPAND, BINDER, MOST_ARGUMENTS = 3 };
 
 static const uint32_t argument_counts[] = {
     [STX_E] = 1, [MK_STX] = 2, [FIRST] = 1, [REST] = 1, [LINK] = 2, [SAME] = 2, [PICK] = 3,
+    [VALUE_OF] = 1, [EXPAND] = 2, [BINDER] = 1,
 };
 
 /* ---- functions ---- */
@@ -38,7 +39,8 @@ static const Tree *substitute(Work *work, const Tree *body, uint32_t name, const
     }
 }
 
-static const Tree *apply_function(Work *work, const Tree *function, const Tree *argument)
+static const Tree *apply_function(Work *work, const Tree *function, const Tree *argument,
+                                  const MacroUse *use)
 {
     const Tree *body = function->parts[0];
     if (!charge(work, body->size))
@@ -46,7 +48,7 @@ static const Tree *apply_function(Work *work, const Tree *function, const Tree *
     const Tree *result = made_tree(work, substitute(work, body, function->name, argument));
     if (result == NULL)
         return NULL;
-    return evaluate(work, result);
+    return evaluate(work, result, use);
 }
 
 /* ---- primitives ---- */
@@ -131,7 +133,8 @@ static const Tree *pick(Work *work, const Tree *number, const Tree *a, const Tre
     return number->atom.content == 0 ? b : a;
 }
 
-static const Tree *primitive_result(Work *work, uint32_t primitive, const Tree *const *arguments)
+static const Tree *primitive_result(Work *work, uint32_t primitive, const Tree *const *arguments,
+                                    const MacroUse *use)
 {
     switch (primitive) {
     case STX_E:
@@ -146,18 +149,26 @@ static const Tree *primitive_result(Work *work, uint32_t primitive, const Tree *
         return link_value(work, arguments[0], arguments[1]);
     case SAME:
         return same(work, arguments[0], arguments[1]);
-    default:
+    case PICK:
         return pick(work, arguments[0], arguments[1], arguments[2]);
+    case VALUE_OF:
+        return local_value(work, use, arguments[0]);
+    case EXPAND:
+        return local_expand(work, use, arguments[0], arguments[1]);
+    default:
+        return local_binder(work, use, arguments[0]);
     }
 }
 
-static const Tree *apply_primitive(Work *work, uint32_t primitive, const Tree *const *arguments)
+static const Tree *apply_primitive(Work *work, uint32_t primitive, const Tree *const *arguments,
+                                   const MacroUse *use)
 {
     if (!charge(work, 1))
         return NULL;
-    const Tree *result = primitive_result(work, primitive, arguments);
+    const Tree *result = primitive_result(work, primitive, arguments, use);
     if (result == NULL)
         return NULL;
+    work->local += primitive >= VALUE_OF;
     return made_tree(work, result);
 }
 
@@ -176,32 +187,41 @@ static bool takes(const Tree *value, uint32_t argument_count)
     return is_primitive(value) && argument_count == argument_counts[value->atom.content];
 }
 
-static const Tree *evaluate_application(Work *work, const Tree *application)
+/* Whether the value needs the macro use that it is applied in, for its introduction
+   scope, phase and meanings. */
+static bool is_local(const Tree *value)
 {
-    const Tree *head = evaluate(work, application->parts[0]);
+    return is_primitive(value) && value->atom.content >= VALUE_OF;
+}
+
+static const Tree *evaluate_application(Work *work, const Tree *application, const MacroUse *use)
+{
+    const Tree *head = evaluate(work, application->parts[0], use);
     if (head == NULL)
         return NULL;
     uint32_t argument_count = application->count - 1;
     if (!takes(head, argument_count))
         return refuse(work, NOT_APPLICABLE);
+    if (is_local(head) && use == NULL)
+        return refuse(work, NO_INTRODUCTION_SCOPE);
     const Tree *arguments[MOST_ARGUMENTS];
     for (uint32_t i = 0; i < argument_count; i++) {
-        arguments[i] = evaluate(work, application->parts[i + 1]);
+        arguments[i] = evaluate(work, application->parts[i + 1], use);
         if (arguments[i] == NULL)
             return NULL;
     }
     if (head->tag == FUNCTION)
-        return apply_function(work, head, arguments[0]);
-    return apply_primitive(work, head->atom.content, arguments);
+        return apply_function(work, head, arguments[0], use);
+    return apply_primitive(work, head->atom.content, arguments, use);
 }
 
-const Tree *evaluate(Work *work, const Tree *tree)
+const Tree *evaluate(Work *work, const Tree *tree, const MacroUse *use)
 {
     if (!enter(work))
         return NULL;
     const Tree *value;
     if (tree->tag == APPLICATION)
-        value = evaluate_application(work, tree);
+        value = evaluate_application(work, tree, use);
     else if (tree->tag == VARIABLE)
         value = refuse(work, FREE_VARIABLE); /* no closed tree comes here */
     else

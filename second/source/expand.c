@@ -3,9 +3,7 @@
 
 /* ---- scopes over a whole piece ---- */
 
-typedef enum { ADD, FLIP, PRUNE } Change;
-
-static ScopeSet change_set(Change change, ScopeSet set, ScopeSet scopes)
+static ScopeSet change_set(ScopeChange change, ScopeSet set, ScopeSet scopes)
 {
     switch (change) {
     case ADD:
@@ -17,7 +15,7 @@ static ScopeSet change_set(Change change, ScopeSet set, ScopeSet scopes)
     }
 }
 
-static const Object *change_parts(Work *work, Change change, const Object *object, uint32_t phase,
+static const Object *change_parts(Work *work, ScopeChange change, const Object *object, uint32_t phase,
                                   ScopeSet scopes)
 {
     ScopeSet sets[PHASES] = {object->sets[0], object->sets[1], object->sets[2]};
@@ -30,9 +28,8 @@ static const Object *change_parts(Work *work, Change change, const Object *objec
     return make_list_object(work->memory, object->count, parts, sets);
 }
 
-/* Charged the object's size; then every part of it is reached. */
-static const Object *change_scopes(Work *work, Change change, const Object *object, uint32_t phase,
-                                   ScopeSet scopes)
+const Object *change_scopes(Work *work, ScopeChange change, const Object *object, uint32_t phase,
+                            ScopeSet scopes)
 {
     if (!charge(work, object->size))
         return NULL;
@@ -102,18 +99,33 @@ static bool new_binder(Work *work, const Object *identifier, uint32_t phase, Bin
                                 .set = binder->identifier->sets[phase]});
 }
 
+/* An expansion of its own, of a part, a body or a right-hand side: it starts with a
+   prunable set and without use scopes, and what both become in it is forgotten. */
+static const Object *expand_inside(Work *work, const Object *object, uint32_t phase,
+                                   const Meaning *meanings, const Stop *stops, ScopeSet prunable)
+{
+    ScopeSet prunable_before = work->prunable, uses_before = work->uses;
+    work->prunable = prunable;
+    work->uses = NO_SCOPES;
+    const Object *result = expand(work, object, phase, meanings, stops);
+    work->prunable = prunable_before;
+    work->uses = uses_before;
+    return result;
+}
+
 /* The body gets the binder's scope, which is prunable in it. */
 static const Object *expand_body(Work *work, const Object *body, uint32_t phase, uint32_t scope,
-                                 const Meaning *meanings, ScopeSet prunable)
+                                 const Meaning *meanings, const Stop *stops)
 {
     const Object *scoped = change_scopes(work, ADD, body, phase, only_scope(scope));
     if (scoped == NULL)
         return NULL;
-    return expand(work, scoped, phase, meanings, add_scopes(prunable, only_scope(scope)));
+    return expand_inside(work, scoped, phase, meanings, stops,
+                         add_scopes(work->prunable, only_scope(scope)));
 }
 
 static const Object *expand_lambda(Work *work, const Object *form, uint32_t phase,
-                                   const Meaning *meanings, ScopeSet prunable)
+                                   const Meaning *meanings, const Stop *stops)
 {
     if (!is_lambda_shape(form))
         return refuse(work, NO_RULE);
@@ -122,7 +134,7 @@ static const Object *expand_lambda(Work *work, const Object *form, uint32_t phas
         return NULL;
     Meaning variable = {.name = binder.name, .binder = binder.identifier, .outer = meanings};
     const Object *body =
-        expand_body(work, form->parts[2], phase, binder.scope, &variable, prunable);
+        expand_body(work, form->parts[2], phase, binder.scope, &variable, stops);
     if (body == NULL)
         return NULL;
     const Object **parts = take_object_parts(work->memory, 3);
@@ -133,22 +145,23 @@ static const Object *expand_lambda(Work *work, const Object *form, uint32_t phas
 }
 
 /* The value of a right-hand side: expanded, parsed and evaluated one phase up,
-   where only the core forms have a meaning. */
+   where only the core forms have a meaning and nothing is stopped. */
 static const Tree *macro_value(Work *work, const Object *right_hand_side, uint32_t phase)
 {
     if (phase + 1 > LAST_PHASE)
         return refuse(work, PHASE_OVER);
-    const Object *expanded = expand(work, right_hand_side, phase + 1, NULL, NO_SCOPES);
+    const Object *expanded =
+        expand_inside(work, right_hand_side, phase + 1, NULL, NULL, NO_SCOPES);
     if (expanded == NULL)
         return NULL;
     const Tree *tree = parse(work, expanded, phase + 1);
     if (tree == NULL)
         return NULL;
-    return evaluate(work, tree);
+    return evaluate(work, tree, NULL);
 }
 
 static const Object *expand_let_syntax(Work *work, const Object *form, uint32_t phase,
-                                       const Meaning *meanings, ScopeSet prunable)
+                                       const Meaning *meanings, const Stop *stops)
 {
     if (!is_let_syntax_shape(form))
         return refuse(work, NO_RULE);
@@ -159,7 +172,7 @@ static const Object *expand_let_syntax(Work *work, const Object *form, uint32_t 
     if (value == NULL)
         return NULL;
     Meaning macro = {.name = binder.name, .macro = value, .outer = meanings};
-    return expand_body(work, form->parts[3], phase, binder.scope, &macro, prunable);
+    return expand_body(work, form->parts[3], phase, binder.scope, &macro, stops);
 }
 
 static const Object *expand_quote(Work *work, const Object *form)
@@ -169,14 +182,13 @@ static const Object *expand_quote(Work *work, const Object *form)
     return form;
 }
 
-static const Object *expand_syntax(Work *work, const Object *form, uint32_t phase,
-                                   ScopeSet prunable)
+static const Object *expand_syntax(Work *work, const Object *form, uint32_t phase)
 {
     if (!is_quoting_shape(form))
         return refuse(work, NO_RULE);
     const Object **parts = take_object_parts(work->memory, 2);
     parts[0] = form->parts[0];
-    parts[1] = change_scopes(work, PRUNE, form->parts[1], phase, prunable);
+    parts[1] = change_scopes(work, PRUNE, form->parts[1], phase, work->prunable);
     if (parts[1] == NULL)
         return NULL;
     return made_object(work, make_list_object(work->memory, 2, parts, form->sets));
@@ -185,7 +197,7 @@ static const Object *expand_syntax(Work *work, const Object *form, uint32_t phas
 /* ---- macro uses ---- */
 
 static const Object *expand_macro_use(Work *work, const Object *form, const Tree *macro,
-                                      uint32_t phase, const Meaning *meanings, ScopeSet prunable)
+                                      uint32_t phase, const Meaning *meanings, const Stop *stops)
 {
     uint32_t use, introduction;
     if (!fresh_scope(work, &use) || !fresh_scope(work, &introduction))
@@ -199,8 +211,13 @@ static const Object *expand_macro_use(Work *work, const Object *form, const Tree
     const Tree **parts = take_tree_parts(work->memory, 2);
     parts[0] = macro;
     parts[1] = make_syntax_value(work->memory, flipped);
+    /* The use scope is prunable from here on, also in what the use becomes, and
+       is one of those that an identifier fit to bind goes without. */
+    put_scope(&work->prunable, use);
+    put_scope(&work->uses, use);
+    MacroUse here = {phase, introduction, meanings, stops};
     /* This application is not tested for 17. */
-    const Tree *value = evaluate(work, make_application(work->memory, 2, parts));
+    const Tree *value = evaluate(work, make_application(work->memory, 2, parts), &here);
     if (value == NULL)
         return NULL;
     if (value->tag != SYNTAX_VALUE)
@@ -209,27 +226,32 @@ static const Object *expand_macro_use(Work *work, const Object *form, const Tree
         change_scopes(work, FLIP, value->object, phase, only_scope(introduction));
     if (result == NULL)
         return NULL;
-    /* The use scope is prunable in what the use becomes. Sets are handed down
-       and never back, so what stands around the use keeps its own. */
-    return expand(work, result, phase, meanings, add_scopes(prunable, only_scope(use)));
+    return expand(work, result, phase, meanings, stops);
 }
 
 /* ---- everything ---- */
 
-static const Meaning *meaning_of(const Meaning *meanings, uint32_t name)
+const Meaning *meaning_of(const Meaning *meanings, uint32_t name)
 {
     while (meanings != NULL && meanings->name != name)
         meanings = meanings->outer;
     return meanings;
 }
 
+bool is_stop(const Stop *stops, uint32_t name)
+{
+    while (stops != NULL && stops->name != name)
+        stops = stops->others;
+    return stops != NULL;
+}
+
 static const Object *expand_identifier(Work *work, const Object *identifier, uint32_t phase,
-                                       const Meaning *meanings)
+                                       const Meaning *meanings, const Stop *stops)
 {
     uint32_t name;
     if (!resolve(work, identifier, phase, &name))
         return NULL;
-    if (name < CORE_NAMES)
+    if (name < CORE_NAMES || is_stop(stops, name))
         return refuse(work, NO_RULE);
     const Meaning *meaning = meaning_of(meanings, name);
     if (meaning == NULL)
@@ -240,11 +262,11 @@ static const Object *expand_identifier(Work *work, const Object *identifier, uin
 }
 
 static const Object *expand_application(Work *work, const Object *form, uint32_t phase,
-                                        const Meaning *meanings, ScopeSet prunable)
+                                        const Meaning *meanings, const Stop *stops)
 {
     const Object **parts = take_object_parts(work->memory, form->count);
     for (uint32_t i = 0; i < form->count; i++) {
-        parts[i] = expand(work, form->parts[i], phase, meanings, prunable);
+        parts[i] = expand_inside(work, form->parts[i], phase, meanings, stops, work->prunable);
         if (parts[i] == NULL)
             return NULL;
     }
@@ -252,7 +274,7 @@ static const Object *expand_application(Work *work, const Object *form, uint32_t
 }
 
 static const Object *expand_list(Work *work, const Object *form, uint32_t phase,
-                                 const Meaning *meanings, ScopeSet prunable)
+                                 const Meaning *meanings, const Stop *stops)
 {
     if (form->count == 0)
         return refuse(work, NO_RULE);
@@ -260,33 +282,35 @@ static const Object *expand_list(Work *work, const Object *form, uint32_t phase,
         uint32_t name;
         if (!resolve(work, form->parts[0], phase, &name))
             return NULL;
+        if (is_stop(stops, name))
+            return form;
         switch (name) {
         case LAMBDA:
-            return expand_lambda(work, form, phase, meanings, prunable);
+            return expand_lambda(work, form, phase, meanings, stops);
         case LET_SYNTAX:
-            return expand_let_syntax(work, form, phase, meanings, prunable);
+            return expand_let_syntax(work, form, phase, meanings, stops);
         case QUOTE:
             return expand_quote(work, form);
         case SYNTAX:
-            return expand_syntax(work, form, phase, prunable);
+            return expand_syntax(work, form, phase);
         }
         const Meaning *meaning = meaning_of(meanings, name);
         if (meaning != NULL && meaning->macro != NULL)
-            return expand_macro_use(work, form, meaning->macro, phase, meanings, prunable);
+            return expand_macro_use(work, form, meaning->macro, phase, meanings, stops);
     }
-    return expand_application(work, form, phase, meanings, prunable);
+    return expand_application(work, form, phase, meanings, stops);
 }
 
 const Object *expand(Work *work, const Object *object, uint32_t phase, const Meaning *meanings,
-                     ScopeSet prunable)
+                     const Stop *stops)
 {
     if (!enter(work))
         return NULL;
     const Object *result;
     if (object->tag == LIST)
-        result = expand_list(work, object, phase, meanings, prunable);
+        result = expand_list(work, object, phase, meanings, stops);
     else if (object->tag == SYMBOL)
-        result = expand_identifier(work, object, phase, meanings);
+        result = expand_identifier(work, object, phase, meanings, stops);
     else
         result = object;
     leave(work);

@@ -40,7 +40,7 @@ static void do_resolve(Work *work, uint32_t phase, uint32_t *name)
 
 static void do_expand(Work *work, uint32_t phase)
 {
-    work->image->object = expand(work, work->image->object, phase, NULL, NO_SCOPES);
+    work->image->object = expand(work, work->image->object, phase, NULL, NULL);
 }
 
 static void do_parse(Work *work)
@@ -51,7 +51,7 @@ static void do_parse(Work *work)
 
 static void do_evaluate(Work *work)
 {
-    work->image->tree = evaluate(work, work->image->tree);
+    work->image->tree = evaluate(work, work->image->tree, NULL);
 }
 
 /* The room for an image or a text. */
@@ -313,7 +313,7 @@ void answer_call(Memory *memory, const Call *call, Answer *answer)
 {
     static Image image;
     clear_memory(memory);
-    answer->units = answer->name = answer->length = answer->first = answer->second = 0;
+    answer->units = answer->name = answer->length = answer->first = answer->second = answer->local = 0;
 
     if (is_unbudgeted(call->job)) {
         answer_unbudgeted(memory, call, &image, answer);
@@ -343,4 +343,5 @@ void answer_call(Memory *memory, const Call *call, Answer *answer)
     answer->units = work.units;
     answer->first = work.first;
     answer->second = work.second;
+    answer->local = work.local;
 }

@@ -1,6 +1,6 @@
 /* property: condition 3 over the second program's own results.
 
-       property --seed S --count N
+       property --seed S --count N [--local]
 
    makes programs until N have been accepted by expand at phase 0, and asks of
    each of them:
@@ -15,6 +15,9 @@
    - reading an image and writing it again gives the same bytes, so no symbol
      and set is bound twice in it;
    - a program that is refused is never refused with 3.
+
+   With --local these are programs with local expansion, and only those are counted in
+   which one of primitives 7 to 9 gave something.
 
    An image that breaks one of these is printed in hexadecimal. It is an alarm
    and no proof. */
@@ -134,20 +137,26 @@ int main(int count, char **arguments)
     static Draft draft;
     static Answer expanded, parsed, evaluated;
     uint64_t seed = 1, wanted = 1000, accepted = 0, made = 0, parsed_count = 0;
+    bool is_local = false;
     for (int i = 1; i < count; i++) {
         if (strcmp(arguments[i], "--seed") == 0 && i + 1 < count) {
             seed = strtoull(arguments[++i], NULL, 10);
         } else if (strcmp(arguments[i], "--count") == 0 && i + 1 < count) {
             wanted = strtoull(arguments[++i], NULL, 10);
+        } else if (strcmp(arguments[i], "--local") == 0) {
+            is_local = true;
         } else {
-            fprintf(stderr, "property --seed S --count N\n");
+            fprintf(stderr, "property --seed S --count N [--local]\n");
             return 2;
         }
     }
     memory = new_memory();
     start_chance(seed);
     while (accepted < wanted) {
-        draft_program(memory, &draft);
+        if (is_local)
+            draft_local(memory, false, &draft);
+        else
+            draft_program(memory, &draft);
         uint32_t names_before = names_of(&draft);
         if (names_before == 0)
             continue; /* nested too deep, or a count over its limit */
@@ -157,7 +166,7 @@ int main(int count, char **arguments)
         answer_largest(JOB_EXPAND, draft.bytes, draft.length, &expanded);
         if (expanded.code == FREE_VARIABLE)
             violation(&draft, "expand is refused with 3");
-        if (expanded.code != SUCCESS)
+        if (expanded.code != SUCCESS || (is_local && expanded.local == 0))
             continue;
         accepted++;
         if (!same_when_written_again(expanded.output, expanded.length, SYNTAX_IMAGE))

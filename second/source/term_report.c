@@ -7,7 +7,7 @@
 
 #include "jobs.h"
 
-enum { REPORT_BUDGET = 400, CODES = UNBALANCED + 1 };
+enum { REPORT_BUDGET = 400, CODES = LAST_CODE + 1 };
 
 typedef struct {
     uint64_t counts[CODES]; /* by code */

@@ -16,6 +16,9 @@ typedef struct {
     uint32_t entries; /* in progress */
     Code code;        /* SUCCESS until something is refused */
     uint32_t first, second; /* with 6: the places of two bindings that compete, from 1 */
+    uint32_t local;   /* how often primitives 7 to 9 gave something */
+    ScopeSet prunable; /* in the expansion under way */
+    ScopeSet uses;     /* the use scopes of the macro uses in it */
     Image *image;     /* names, scopes and bindings grow here */
     Memory *memory;
 } Work;
@@ -37,6 +40,14 @@ const Tree *made_tree(Work *work, const Tree *tree);
 /* What an identifier names at a phase, or 6 and who competes. */
 bool resolve(Work *work, const Object *identifier, uint32_t phase, uint32_t *name);
 
+/* ---- scopes over a whole piece ---- */
+
+typedef enum { ADD, FLIP, PRUNE } ScopeChange;
+
+/* Charged the object's size; then every part of it is reached. */
+const Object *change_scopes(Work *work, ScopeChange change, const Object *object, uint32_t phase,
+                            ScopeSet scopes);
+
 /* ---- shapes that expand and parse ask for ---- */
 
 bool is_identifier(const Object *object);
@@ -56,9 +67,40 @@ struct Meaning {
     const Meaning *outer;
 };
 
+/* The meaning of a name that is no core form's, or NULL. */
+const Meaning *meaning_of(const Meaning *meanings, uint32_t name);
+
+/* Names that a local expansion leaves alone, whatever they mean. They stand beside
+   the meanings, so that another local expansion has others. */
+typedef struct Stop Stop;
+struct Stop {
+    uint32_t name;
+    const Stop *others;
+};
+
+bool is_stop(const Stop *stops, uint32_t name);
+
+/* The macro use that something is evaluated for: where it was met, and its
+   introduction scope. */
+typedef struct {
+    uint32_t phase;
+    uint32_t introduction;
+    const Meaning *meanings;
+    const Stop *stops;
+} MacroUse;
+
+/* What is expanded goes on in the expansion under way: its prunable set and its use
+   scopes grow by those of the macro uses met, and stay so. */
 const Object *expand(Work *work, const Object *object, uint32_t phase, const Meaning *meanings,
-                     ScopeSet prunable);
+                     const Stop *stops);
 const Tree *parse(Work *work, const Object *object, uint32_t phase);
-const Tree *evaluate(Work *work, const Tree *tree);
+/* The use is NULL in a right-hand side and in the job, where there is none. */
+const Tree *evaluate(Work *work, const Tree *tree, const MacroUse *use);
+
+/* ---- local expansion; their charge of 1 has been made ---- */
+
+const Tree *local_value(Work *work, const MacroUse *use, const Tree *identifier);
+const Tree *local_expand(Work *work, const MacroUse *use, const Tree *piece, const Tree *stops);
+const Tree *local_binder(Work *work, const MacroUse *use, const Tree *identifier);
 
 #endif
