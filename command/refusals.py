@@ -27,6 +27,7 @@ MEANINGS = {
     25: "a change names a driven point",
     26: "bad text, also no object or a second one",
     27: "unbalanced",
+    28: "the introduction scope is absent, as in a right-hand side or the evaluate job",
     29: "the summary belongs to a tree with another size or count of names",
     30: "name not in the image",
 }

@@ -21,13 +21,14 @@ fn numbers_are_those_of_the_documents() {
     assert_eq!(Code::of(25), Code::DrivenChange);
     assert_eq!(Code::of(26), Code::BadText);
     assert_eq!(Code::of(27), Code::Unbalanced);
+    assert_eq!(Code::of(28), Code::NoIntroduction);
     assert_eq!(Code::of(29), Code::AnotherTree);
     assert_eq!(Code::of(30), Code::NoSuchName);
 }
 
 #[test]
 fn other_numbers_are_unknown() {
-    for number in [0, 16, 28, 31, 40] {
+    for number in [0, 16, 31, 40] {
         assert_eq!(Code::of(number), Code::Unknown(number));
     }
 }
