@@ -128,6 +128,9 @@ def of_jobs():
     yield refused("resolve", "(x)", "resolve: code 8 units 2: a form with no rule")
     yield refused("evaluate", twice, "expand: code 0 units 20", "parse: code 0 units 20",
                   "evaluate: code 10 units 12: applied value is no function or primitive, or the argument count is wrong")
+    absent = "the introduction scope is absent, as in a right-hand side or the evaluate job"
+    yield refused("expand", "(let-syntax m (#7 0) 1)", f"expand: code 28 units 17: {absent}")
+    yield refused("evaluate", "(#9 0)", "expand: code 0 units 6", "parse: code 0 units 6", f"evaluate: code 28 units 5: {absent}")
     yield refused("panel", "9", "expand: code 0 units 2", "parse: code 0 units 2", "panel: code 21: outside the profile")
     yield refused("panel", twice, "expand: code 0 units 20", "parse: code 0 units 20", "panel: code 22: point driven twice")
     yield Case("panel, 257 bits", ["panel", "-"], tree_of_bits(257), 1, said=("panel: code 23: too many bits",))

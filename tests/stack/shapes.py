@@ -38,14 +38,40 @@ def tree(text, words=(), made=1):
 
 def giving(*parts):
     """A macro m whose use gives the list of these parts, and that is used."""
+    return asking(around_form(*parts))
+
+
+def asking(code):
+    """A macro m with this code, used: expanding and evaluating take turns in each other."""
+    return syntax(f"(let-syntax m (lambda z {code}) (m))", words=("m", "z", "x"))
+
+
+def around_form(*parts):
+    """Code for the list of these parts."""
     chain = "(quote ())"
     for part in reversed(parts):
         chain = f"(#4 {part} {chain})"
-    return syntax(f"(let-syntax m (lambda z (#1 {chain} z)) (m))", words=("m", "z", "x"))
+    return f"(#1 {chain} z)"
+
+
+def local_images():
+    """For expand: macros that expand their own use while they are used."""
+    yield "a macro that expands its own use", asking("(#8 z (quote ()))")
+    yield "a macro that expands its own use, with stops", asking("(#8 z (#0 (syntax (lambda let-syntax quote syntax))))")
+    yield "a macro that expands its own use in a list", asking(f"(#8 {around_form('(syntax 1)', 'z')} (quote ()))")
+    yield "a macro that expands its own use in a function", asking(f"(#8 {around_form('(syntax lambda)', '(syntax x)', 'z')} (quote ()))")
+    yield "a macro that expands its own use in a let-syntax", asking(f"(#8 {around_form('(syntax let-syntax)', '(syntax x)', '(syntax 1)', 'z')} (quote ()))")
+    yield "a macro that expands its own use, deep in arguments", asking("(#2 (#4 " * 20 + "(#8 z (quote ()))" + " (quote ())))" * 20)
+    yield "a macro that expands its own use, in a function applied", asking("((lambda x (#8 x (quote ()))) z)")
+    yield "a macro that applies its own value", asking("((#7 (#2 (#0 z))) z)")
+    yield "a macro that applies its own value and expands that", asking("(#8 ((#7 (#2 (#0 z))) z) (quote ()))")
+    yield "a macro with 1,000 stops", asking(f"(#8 (syntax 1) (#0 (syntax {wide(1000, 'quote')})))")
+    yield "a macro that expands a list of 400 numbers", asking(f"(#8 (syntax {wide(400)}) (quote ()))")
 
 
 def syntax_images():
     """For resolve, expand and parse."""
+    yield from local_images()
     yield "one list of 4,095 numbers", syntax(wide(WIDE))
     yield "one list of 2,047 numbers", syntax(wide(HALF))
     yield "one quoted list of 1,300 numbers", syntax(f"(quote {wide(1300)})")
