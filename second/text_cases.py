@@ -162,6 +162,15 @@ refused(BAD, "a list is open: what follows the bad token does not matter", "(a#b
 
 # ==== 26 and 27 over the whole text before 2 ====
 
+def refused_around(what, text):
+    """What stands beside a token decides, whether the token is taken or too large."""
+    refused(BAD, f"{what}, and then a bad token", f"({text} '99)")
+    refused(BAD, f"{what}, and then a second object", f"{text} x")
+    refused(UNBALANCED, f"{what}, and then a parenthesis too many", f"{text})")
+    refused(UNBALANCED, f"{what} in a list that stays open", f"({text}")
+    refused(BAD, f"{what} behind a bad token", f"('99 {text})")
+
+
 TOO_LARGE = [("a number over 32 bits", "4294967296"), ("a very long number", "9" * 100), ("a number over 64 bits", "18446744073709551617"),
              ("point 1,024", "@1024"), ("a point over 32 bits", "@4294967297"), ("a very long point", "@1" + "0" * 60),
              ("primitive 10", "#10"), ("primitive 99", "#99"), ("a primitive over 32 bits", "#4294967296"),
@@ -169,19 +178,11 @@ TOO_LARGE = [("a number over 32 bits", "4294967296"), ("a very long number", "9"
 for what, text in TOO_LARGE:
     refused(OVER, what, text)
     refused(OVER, f"{what} in a list", f"(x ({text}) y)")
-    refused(BAD, f"{what}, and then a bad token", f"({text} '99)")
-    refused(BAD, f"{what}, and then a second object", f"{text} x")
-    refused(UNBALANCED, f"{what}, and then a parenthesis too many", f"{text})")
-    refused(UNBALANCED, f"{what} in a list that stays open", f"({text}")
-    refused(BAD, f"{what} behind a bad token", f"('99 {text})")
+    refused_around(what, text)
     refused(OVER, f"{what}, and no output", text, output=0)
 for text in ("#7", "#9"):  # once too large
     read(f"{text} in a list", f"(x ({text}) y)", f"(x ({text}) y)")
-    refused(BAD, f"{text}, and then a bad token", f"({text} '99)")
-    refused(BAD, f"{text}, and then a second object", f"{text} x")
-    refused(UNBALANCED, f"{text}, and then a parenthesis too many", f"{text})")
-    refused(UNBALANCED, f"{text} in a list that stays open", f"({text}")
-    refused(BAD, f"{text} behind a bad token", f"('99 {text})")
+    refused_around(text, text)
     refused(LONG, f"{text}, and no output", text, output=0)
 both("a word of 32 bytes", "a" * 32)
 read("a word of 32 bytes, and a comment", "a" * 32 + ";aaa", "a" * 32)
