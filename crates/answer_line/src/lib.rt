@@ -1,4 +1,6 @@
 // The line that answers a call of the replay stream: what the job gave back, and what it did to the buffers that it was lent.
+#![tactic(auto)]
+
 pub mod buffers;
 mod columns;
 pub mod words;
@@ -13,7 +15,7 @@ ghost use Rattle.answer_line.specs.Numbers.{answer_is, answered};
 pub const MOST_OTHERS: usize = 91;
 
 // The numbers that a job gives back.
-#[derive(Drop)]
+#[derive(Clone, Copy)]
 pub struct Numbers {
     pub code: u32,
     pub units: u32,

@@ -1,5 +1,7 @@
 // Document 01, 'Parsing and evaluating', and request T-08: what a value can be applied to, and where; and what applying it takes that
 // evaluates nothing further.
+#![tactic(auto)]
+
 ghost use Rattle.std.specs.Prelude.{◌≡◌};
 ghost use Rattle.things.specs.Measuring.{Seen, SeenP};
 ghost use Rattle.applying.specs.Testing.{Counted, Tested, Sought, TestedP, Permitted};
@@ -13,7 +15,7 @@ use steps::{Answer, Charged, Out, State, Stop};
 use table::{Body, Node};
 
 // The values of up to three arguments, and the state after them. No value takes more.
-#[derive(Drop)]
+#[derive(Clone, Copy)]
 pub struct Values {
     pub x: u32,
     pub y: u32,
@@ -21,7 +23,7 @@ pub struct Values {
     pub state: State,
 }
 
-#[derive(Drop)]
+#[derive(Clone, Copy)]
 pub enum Gathered {
     All(Values),
     Refused(Stop),

@@ -36,7 +36,7 @@ fn all_ids(table: &[u32], c: u32) -> bool
     true
 }
 
-#[derive(Drop)]
+#[derive(Clone, Copy)]
 pub enum Listed {
     // Their chain.
     At(u32),

@@ -1,4 +1,6 @@
 // Request T-08, source document 000's local-value, local-expand and local-binder: what primitives 7 to 9 do without expanding anything.
+#![tactic(auto)]
+
 mod kinds;
 mod naming;
 
@@ -74,14 +76,14 @@ pub fn answer(table: &mut [u32], store: &[u64], s: State, p: u32, x: u32, at: Pl
 // ---- 8, up to what is expanded
 
 // The object to expand, with the introduction scope flipped, and its stops.
-#[derive(Drop)]
+#[derive(Clone, Copy)]
 pub struct Piece {
     pub at: u32,
     pub stops: u32,
     pub state: State,
 }
 
-#[derive(Drop)]
+#[derive(Clone, Copy)]
 pub enum Opening {
     Done(Piece),
     Refused(Stop),

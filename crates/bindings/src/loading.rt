@@ -16,14 +16,14 @@ use store::bindings::Binding;
 use store::resolving::Resolving;
 
 // A binding beside the place past it, or beside the fault.
-#[derive(Drop)]
+#[derive(Clone, Copy)]
 pub struct BindingRead {
     pub binding: Binding,
     pub end: Place,
 }
 
 // How many bindings stand in the store, beside the place past them, or beside the fault.
-#[derive(Drop)]
+#[derive(Clone, Copy)]
 pub struct BindingsRead {
     pub count: usize,
     pub end: Place,

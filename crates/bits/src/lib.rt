@@ -1,6 +1,8 @@
 // The bits of a panel program, and the points that it drives: one loop along the root's bytes. A whole comes before its parts, and a
 // program has neither list nor syntax values, so the bytes are tokens one after another: a variable, an application's count, a
 // function's name, an atom. The point that `out` drives is the token behind that word.
+#![tactic(auto)]
+
 ghost use Rattle.std.specs.Prelude.{◌≡◌, ◌||◌, ◌+◌, ◌≤◌, ◌<◌, length};
 ghost use Rattle.numbers.specs.Limits.{most_image};
 ghost use Rattle.bits.specs.Tokens.{token_at, read_content, read_kind, read_token};
@@ -11,21 +13,21 @@ use refusals::Refusal;
 use scopes::Point;
 
 // `content` is a name, a count, or what an atom holds; `kind` is an atom's, else 0.
-#[derive(Drop)]
+#[derive(Clone, Copy)]
 pub struct Token {
     pub tag: u32,
     pub kind: u32,
     pub content: u32,
 }
 
-#[derive(Drop)]
+#[derive(Clone, Copy)]
 pub enum TokenRead {
     Read(Token, Cursor),
     Fault(Refusal),
 }
 
 // How many functions were met, whether a point was driven twice, and whether what comes next is a point that is driven.
-#[derive(Drop)]
+#[derive(Clone, Copy)]
 pub struct Gathered {
     pub bits: u32,
     pub twice: bool,

@@ -1,4 +1,6 @@
 // Building in the table what an image holds, by a second reading of its bytes: they have been judged, so that no fault can be met.
+#![tactic(auto)]
+
 ghost use Rattle.std.specs.Prelude.{◌+◌};
 ghost use Rattle.builder.specs.Reads.{ObjectRead, ObjectsRead, TreeRead, TreesRead, AtomRead, FunctionRead, ListRead};
 ghost use Rattle.builder.specs.Fronts.{NumberHere, NumberRead, FrontHere, FrontRead};
@@ -11,21 +13,21 @@ use scopes::Name;
 use table::{Node, Sets};
 
 // What was built: where it lies, the first free word after it, and the place past its bytes in the image.
-#[derive(Drop)]
+#[derive(Clone, Copy)]
 pub struct Built {
     pub at: u32,
     pub top: u32,
     pub past: usize,
 }
 
-#[derive(Drop)]
+#[derive(Clone, Copy)]
 struct NumberAt {
     value: u32,
     past: usize,
 }
 
 // An object up to its parts.
-#[derive(Drop)]
+#[derive(Clone, Copy)]
 pub struct Front {
     pub tag: u32,
     pub sets: Sets,

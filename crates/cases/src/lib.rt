@@ -1,1 +1,2 @@
 // This crate is the list of proved cases, in proofs/.
+#![tactic(auto)]

@@ -1,4 +1,6 @@
 // Syntax objects in the table: their scope sets changed, and their data stripped of sets.
+#![tactic(auto)]
+
 ghost use Rattle.std.specs.Prelude.{◌≡◌};
 ghost use Rattle.model.specs.Objects.{add_scope, flip_scope, prune_scopes};
 ghost use Rattle.model.specs.Trees.{stx, strip};
@@ -16,7 +18,7 @@ use things::Made;
 
 // ---- what is done to an object and every part of it
 
-#[derive(Drop)]
+#[derive(Clone, Copy)]
 enum Act {
     Add(Scope),
     Flip(Scope),
@@ -26,7 +28,7 @@ enum Act {
 
 // The sets of one phase are changed, or all are stripped away. The prunable set stands beside the enum, since no enum is to hold a set: a
 // set may become an array.
-#[derive(Drop)]
+#[derive(Clone, Copy)]
 struct Work {
     act: Act,
     prunable: ScopeSet,

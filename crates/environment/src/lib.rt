@@ -1,5 +1,7 @@
 // Document 01, 'Expanding': the meanings that names have beyond the core, the last first, as a chain in the table. A form's meanings are
 // known by the index of an entry, 0 for the core alone, so that leaving a scope takes nothing.
+#![tactic(auto)]
+
 ghost use Rattle.std.specs.Prelude.{◌≡◌, ℕ, ◌*◌, ◌≤◌, length};
 ghost use Rattle.things.specs.Measuring.{Seen};
 ghost use Rattle.things.specs.Making.{Roomy};
@@ -14,7 +16,7 @@ use store::rivals::Rivals;
 use table::Entry;
 use things::Made;
 
-#[derive(Drop)]
+#[derive(Clone, Copy)]
 pub enum Meaning {
     // The core forms.
     Lambda,
@@ -123,7 +125,7 @@ pub fn meaning_of(
 
 // Request T-08: where a tree is evaluated. Without an introduction scope (0) it is a right-hand side or the evaluate job; with one, a use of a
 // macro at that phase, with those meanings and stops.
-#[derive(Drop)]
+#[derive(Clone, Copy)]
 pub struct Place {
     pub intro: Scope,
     pub phase: u32,

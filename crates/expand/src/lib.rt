@@ -1,6 +1,8 @@
 // Document 01, 'Expanding' and 'Parsing and evaluating', and request T-08. Expanding and evaluating call each other with the remaining budget
 // falling; the unit of an entry pays for what the entry itself makes. All that calls back stands in this file: a cycle of calls over several
 // modules has their names in the name of its proof, which has no room for them.
+#![tactic(auto)]
+
 mod lists;
 mod plain;
 mod rewriting;
@@ -26,7 +28,7 @@ use store::carried::Carried;
 use table::Node;
 
 // Where an object is expanded.
-#[derive(Drop)]
+#[derive(Clone, Copy)]
 pub struct Surroundings {
     // Entries to spare.
     pub entries: u32,

@@ -65,7 +65,7 @@ pub fn back(table: &mut [u32], s: State, i: u32, phase: u32, intro: Scope) -> An
 // ---- what is expanded next
 
 // The body that a form leaves to be expanded in its place: where it lies, the scope that is prunable in it, and the meanings there.
-#[derive(Drop)]
+#[derive(Clone, Copy)]
 pub struct Next {
     pub at: u32,
     pub scope: Scope,
@@ -73,7 +73,7 @@ pub struct Next {
     pub state: State,
 }
 
-#[derive(Drop)]
+#[derive(Clone, Copy)]
 pub enum Onward {
     Done(Next),
     Refused(Stop),

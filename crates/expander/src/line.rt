@@ -16,14 +16,14 @@ pub const WORDS: usize = BUDGET as usize * limits::WORDS_PER_UNIT;
 pub const MOST_BYTES: usize = 33;
 
 // The code, and the units of both jobs.
-#[derive(Drop)]
+#[derive(Clone, Copy)]
 pub struct Line {
     pub code: u32,
     pub units: u32,
 }
 
 // How many bytes the line of an image has, and the code that it tells.
-#[derive(Drop)]
+#[derive(Clone, Copy)]
 pub struct Shown {
     pub length: usize,
     pub code: u32,

@@ -1,5 +1,7 @@
 // Reads one image on standard input, expands it at phase 0, parses the result, and prints one line: the code, and the units of both jobs. With
 // code 6 a line on standard error says which two bindings compete.
+#![tactic(auto)]
+
 mod competing;
 mod line;
 mod showing;

@@ -1,5 +1,7 @@
 // The last step of a job that writes: the result's length is known before the first byte is stored, so that a refusal leaves the output
 // untouched.
+#![tactic(auto)]
+
 pub mod heading;
 
 ghost use Rattle.std.specs.Prelude.{◌≡◌, ℕ, ◌+◌, ◌≤◌, min};
@@ -16,7 +18,7 @@ use store::rivals::Rivals;
 
 // How a job ends, each after so many units: refused before the work or behind it, stopped in the work, with the bindings that compete where
 // that is code 6, a name, or an image of so many bytes.
-#[derive(Drop)]
+#[derive(Clone, Copy)]
 pub enum Ending {
     Refused(Refusal, u32),
     Stopped(Refusal, Rivals, u32),

@@ -1,4 +1,6 @@
 // What a form looks like: how many parts it has, whether a part is an identifier, and which name that has.
+#![tactic(auto)]
+
 ghost use Rattle.std.specs.Prelude.{◌≡◌, ℕ, ◌*◌, ◌≤◌, length};
 ghost use Rattle.model.specs.Objects.{set_at};
 ghost use Rattle.model.specs.Meanings.{form_of};
@@ -17,19 +19,19 @@ use table::{Node, Sets};
 
 // ---- a chain of exactly so many parts, or not
 
-#[derive(Drop)]
+#[derive(Clone, Copy)]
 pub enum One {
     Is(u32),
     Not,
 }
 
-#[derive(Drop)]
+#[derive(Clone, Copy)]
 pub enum Two {
     Are(u32, u32),
     Not,
 }
 
-#[derive(Drop)]
+#[derive(Clone, Copy)]
 pub enum Three {
     Are(u32, u32, u32),
     Not,
@@ -99,7 +101,7 @@ pub fn set_at(sets: Sets, phase: u32) -> ScopeSet
     sets.at2
 }
 
-#[derive(Drop)]
+#[derive(Clone, Copy)]
 pub enum Naming {
     Named(Name),
     // Several candidates, none of which contains every other: the two that compete.
@@ -127,7 +129,7 @@ pub fn name_of(table: &[u32], store: &[u64], count: u32, i: u32, phase: u32) -> 
 
 // ---- the core forms
 
-#[derive(Drop)]
+#[derive(Clone, Copy)]
 pub enum Form {
     Lambda,
     LetSyntax,

@@ -1,4 +1,6 @@
 // The head of an image: its kind, words, and counts of names and scopes.
+#![tactic(auto)]
+
 ghost use Rattle.std.specs.Prelude.{◌≡◌, ℕ, ◌+◌, ◌≤◌, length, drop};
 ghost use Rattle.words.specs.Section.{most_words};
 ghost use Rattle.numbers.specs.Limits.{most_image};
@@ -11,7 +13,7 @@ use refusals::Refusal;
 use scopes::{Name, Scope};
 
 // What the rest of an image is judged by.
-#[derive(Drop)]
+#[derive(Clone, Copy)]
 pub struct Head {
     pub words: u32,
     // Core names and words counted.
@@ -20,7 +22,7 @@ pub struct Head {
 }
 
 // How many symbols, names (symbols counted) and scopes the head declares.
-#[derive(Drop)]
+#[derive(Clone, Copy)]
 pub struct Counts {
     pub symbols: u32,
     pub names: u32,
@@ -28,14 +30,14 @@ pub struct Counts {
 }
 
 // A head that was read, and the place past it.
-#[derive(Drop)]
+#[derive(Clone, Copy)]
 pub struct Front {
     pub head: Head,
     pub end: usize,
 }
 
 // The head with the place past it, or the fault.
-#[derive(Drop)]
+#[derive(Clone, Copy)]
 pub enum HeadRead {
     Read(Head, Cursor),
     Fault(Refusal),

@@ -1,4 +1,6 @@
 // An image judged whole before any work on it: its head, bindings and root, and that it ends there. Only the bindings are stored.
+#![tactic(auto)]
+
 ghost use Rattle.std.specs.Prelude.{◌+◌, ◌≤◌, length};
 ghost use Rattle.store.specs.Sizes.{store_size};
 ghost use Rattle.image.specs.Judging.{BehindHead, syntax_kind, Judges, JudgesTree};
@@ -13,7 +15,7 @@ use refusals::Refusal;
 use roots::TreeRead;
 
 // What the jobs know of an image without fault.
-#[derive(Drop)]
+#[derive(Clone, Copy)]
 pub struct Judgement {
     pub front: Front,
     // Where the root begins.
@@ -24,7 +26,7 @@ pub struct Judgement {
     pub bindings: u32,
 }
 
-#[derive(Drop)]
+#[derive(Clone, Copy)]
 pub enum Judged {
     Good(Judgement),
     Fault(Refusal),

@@ -1,5 +1,7 @@
 // A panel program as flat code, and the loop that runs it once for each scan. The values of the branches under way, each 0 or 1, are the
 // places of one number, the last value lowest.
+#![tactic(auto)]
+
 ghost use Rattle.std.specs.Prelude.{◌≡◌, ◌+◌, ◌*◌, ◌%◌, ◌≤◌, ◌<◌, length, set};
 ghost use Rattle.ladder.specs.Places.{most_number, series_in, parallel_in, taken_in, inverse_in, operated_in, Steady, Stepped, Ready, after_code};
 

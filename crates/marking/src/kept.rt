@@ -7,7 +7,7 @@ ghost use Rattle.marking.specs.Kept.{Keeps};
 use scopes::ScopeSet;
 use store::bindings;
 
-#[derive(Drop)]
+#[derive(Clone, Copy)]
 pub struct Kept {
     pub count: usize,
     pub scopes: ScopeSet,

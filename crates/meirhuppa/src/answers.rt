@@ -11,7 +11,7 @@ use finish::Ending;
 use refusals::Refusal;
 
 #[repr(C)]
-#[derive(Drop)]
+#[derive(Clone, Copy)]
 pub struct Answer {
     pub code: u32,
     pub units: u32,

@@ -1,4 +1,6 @@
 // The library: the jobs of document 01 and the requests of document 02, on lent byte images.
+#![tactic(auto)]
+
 pub mod answers;
 pub mod evaluate;
 pub mod expand;

@@ -11,7 +11,7 @@ use summaries::{Asking, Making};
 
 // How many variables have a name, and the place of the first; both are 0 with a refusal.
 #[repr(C)]
-#[derive(Drop)]
+#[derive(Clone, Copy)]
 pub struct Uses {
     pub code: u32,
     pub count: u32,

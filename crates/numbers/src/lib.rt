@@ -1,4 +1,6 @@
 // Numbers of an image: groups of seven bits, low group first, top bit set on all but the last, shortest form only.
+#![tactic(auto)]
+
 ghost use Rattle.std.specs.Prelude.{◌≡◌, ℕ, ◌+◌, ◌-◌, ◌≤◌, ◌<◌, length, drop};
 ghost use Rattle.std.proofs.lemmas.List.Edits.{sets};
 ghost use Rattle.numbers.specs.Limits.{most_image};
@@ -11,20 +13,20 @@ ghost use Rattle.numbers.specs.Weights.{Weighed};
 use refusals::Refusal;
 
 // A place in an image.
-#[derive(Drop)]
+#[derive(Clone, Copy)]
 pub struct Cursor {
     pub at: usize,
 }
 
 // A number with the place past it, or the fault.
-#[derive(Drop)]
+#[derive(Clone, Copy)]
 pub enum Number {
     Read(u32, Cursor),
     Fault(Refusal),
 }
 
 // The place past something that was read, or the fault.
-#[derive(Drop)]
+#[derive(Clone, Copy)]
 pub enum Place {
     At(Cursor),
     Fault(Refusal),

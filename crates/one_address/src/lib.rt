@@ -1,6 +1,8 @@
 // Condition 3 of the public functions themselves, one after another: a program is expanded at phase 0, what that gives is parsed, and the
 // tree is evaluated. Each of the first three functions here calls one of them and says what condition 3 says of its answer. Then the panel check
 // in place of evaluating: three calls in turn, and what that says of the addresses.
+#![tactic(auto)]
+
 ghost use Rattle.meirhuppa.specs.Endings.{answer_is};
 ghost use Rattle.one_address.specs.Keeping.{Keeps, Parses, NeverUnowned};
 ghost use Rattle.one_address.specs.Listing.{Lists, Addresses};

@@ -1,5 +1,7 @@
 // Condition 2 of the public functions themselves: each function here calls one of them and says that what came back, and what output and table
 // hold, is the job's and could be nothing else. A public contract that said less would not do for this.
+#![tactic(auto)]
+
 ghost use Rattle.std.specs.Prelude.{[]};
 ghost use Rattle.model.specs.Jobs.{resolve_job, expand_job, parse_job, evaluate_job};
 ghost use Rattle.requests.specs.Panel.{panel_job};

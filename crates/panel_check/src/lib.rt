@@ -1,4 +1,6 @@
 // The panel check (document 02, T-01): whether the compiler takes the tree of an image, and the names of its bits in order of address.
+#![tactic(auto)]
+
 pub mod refusal;
 
 ghost use Rattle.std.specs.Prelude.{◌≤◌, length};
@@ -13,20 +15,20 @@ use numbers::{Cursor, Place};
 use refusals::Refusal;
 
 // What is known of a program that is accepted: where its root begins, and how many bits it has.
-#[derive(Drop)]
+#[derive(Clone, Copy)]
 pub struct Program {
     pub root: usize,
     pub bits: u32,
 }
 
-#[derive(Drop)]
+#[derive(Clone, Copy)]
 pub enum Checked {
     Passed(Program),
     Refused(PanelRefusal),
 }
 
 // How many bits were listed.
-#[derive(Drop)]
+#[derive(Clone, Copy)]
 pub enum Listing {
     Listed(u32),
     Refused(PanelRefusal),

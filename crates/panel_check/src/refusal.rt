@@ -5,7 +5,7 @@ ghost use Rattle.panel_check.specs.Refusing.{panel_refusal_of};
 
 use refusals::Refusal;
 
-#[derive(Drop)]
+#[derive(Clone, Copy)]
 pub enum PanelRefusal {
     Base(Refusal),
     Outside,

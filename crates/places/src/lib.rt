@@ -1,5 +1,7 @@
 // The things of a tree (document 02, T-10) along its bytes: a whole comes before its parts, and the object of a syntax value is passed over. A thing's
 // place is how many stand before it.
+#![tactic(auto)]
+
 pub mod counting;
 
 ghost use Rattle.std.specs.Prelude.{◌≡◌, ◌+◌, ◌≤◌, length};
@@ -14,20 +16,20 @@ use refusals::Refusal;
 use roots::objects;
 
 // `content` is a variable's or function's name, or how many parts an application or list value has; of others 0.
-#[derive(Drop)]
+#[derive(Clone, Copy)]
 pub struct Thing {
     pub tag: u32,
     pub content: u32,
 }
 
-#[derive(Drop)]
+#[derive(Clone, Copy)]
 pub enum ThingRead {
     Read(Thing, Cursor),
     Fault(Refusal),
 }
 
 // How many things a tree is, and the place past its bytes.
-#[derive(Drop)]
+#[derive(Clone, Copy)]
 pub struct Span {
     pub size: u32,
     pub end: Cursor,

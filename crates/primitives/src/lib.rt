@@ -1,5 +1,7 @@
 // The primitives of document 01, 'Parsing and evaluating', on values in the table. Each makes at most a node and
 // a cell, which its charge of one unit pays for.
+#![tactic(auto)]
+
 ghost use Rattle.std.specs.Prelude.{◌≡◌};
 ghost use Rattle.model.specs.Evaluating.{primitive_of, takes, wants_use};
 ghost use Rattle.things.specs.Measuring.{SeenP};
@@ -9,7 +11,7 @@ use table::Node;
 use things::Made;
 
 // A value, or none where an argument is of the wrong kind.
-#[derive(Drop)]
+#[derive(Clone, Copy)]
 pub enum Part {
     Wrong,
     Piece(Made),

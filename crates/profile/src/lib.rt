@@ -1,5 +1,7 @@
 // The panel profile (document 02, T-01): whether what is behind the head of a tree image is a program, every bit of which is in scope. It is
 // read by the definition's rules, so that a program needs no other judgement. Nothing is stored, and the first place outside ends the reading.
+#![tactic(auto)]
+
 pub mod rules;
 
 ghost use Rattle.std.specs.Prelude.{◌≡◌, ◌+◌, ◌-◌, ◌≤◌, length};
@@ -12,7 +14,7 @@ use numbers::{Cursor, Number, Place};
 use refusals::Refusal;
 use scopes::Name;
 
-#[derive(Drop)]
+#[derive(Clone, Copy)]
 pub enum RuleRead {
     Read(Rule, Cursor),
     Fault(Refusal),

@@ -6,7 +6,7 @@ ghost use Rattle.profile.specs.Rules.{no_rule, rung_rule, contacts_rule, rule_of
 use scopes::Point;
 
 // What a place of a program asks for.
-#[derive(Drop)]
+#[derive(Clone, Copy)]
 pub enum Wanted {
     Program,
     Expression,
@@ -19,7 +19,7 @@ pub enum Wanted {
 }
 
 // What follows a head: exactly so many arguments, or at least so many; what the first is to be, and what the others.
-#[derive(Drop)]
+#[derive(Clone, Copy)]
 pub struct Rule {
     pub count: u32,
     pub exactly: bool,

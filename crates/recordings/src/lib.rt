@@ -1,5 +1,7 @@
 // A recording of push buttons (document 02, T-02). It is judged whole, in one pass; then the changes of one scan after another are taken
 // into the points.
+#![tactic(auto)]
+
 ghost use Rattle.std.specs.Prelude.{◌≡◌, ◌||◌, ◌+◌, ◌≤◌, ◌<◌, length};
 ghost use Rattle.numbers.specs.Answers.{number_at, kept};
 ghost use Rattle.numbers.specs.Limits.{most_image};
@@ -14,26 +16,26 @@ use refusals::Refusal;
 use scopes::Point;
 
 // A point and its value.
-#[derive(Drop)]
+#[derive(Clone, Copy)]
 struct Change {
     pub place: u32,
     pub value: u32,
 }
 
-#[derive(Drop)]
+#[derive(Clone, Copy)]
 enum ChangeRead {
     Read(Change, Cursor),
     Fault(Refusal),
 }
 
 // Whether a change names a driven point, and the place behind the changes.
-#[derive(Drop)]
+#[derive(Clone, Copy)]
 enum Checked {
     Past(bool, Cursor),
     Fault(Refusal),
 }
 
-#[derive(Drop)]
+#[derive(Clone, Copy)]
 pub enum Recording {
     // How many scans, and where the first begins.
     Kept(u32, Cursor),

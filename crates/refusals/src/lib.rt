@@ -1,9 +1,11 @@
 // The refusals of document 01, 'Numbers given back': one case for each number, and no bare number anywhere else in the code.
+#![tactic(auto)]
+
 ghost use Rattle.std.specs.Prelude.{◌≡◌};
 ghost use Rattle.model.specs.Refusals.{code_of};
 ghost use Rattle.refusals.specs.Refusing.{refusal_of};
 
-#[derive(Drop)]
+#[derive(Clone, Copy)]
 pub enum Refusal {
     Layout,
     OverLimit,

@@ -1,4 +1,6 @@
 // One part of a tree replaced by another, and the summary brought up to date (document 02, T-10).
+#![tactic(auto)]
+
 pub mod locating;
 pub mod updating;
 
@@ -18,14 +20,14 @@ use summaries::opening::{Opened, Opening};
 use summaries::refusal::UsesRefusal;
 
 // How long the new image is.
-#[derive(Drop)]
+#[derive(Clone, Copy)]
 pub enum Replacing {
     Made(u32),
     Refused(UsesRefusal),
 }
 
 // The bytes of the image where the old part lies.
-#[derive(Drop)]
+#[derive(Clone, Copy)]
 pub struct Cut {
     pub from: Cursor,
     pub to: Cursor,

@@ -9,7 +9,7 @@ use head::Counts;
 use numbers::Cursor;
 use places::{Thing, ThingRead};
 
-#[derive(Drop)]
+#[derive(Clone, Copy)]
 pub struct Spot {
     pub at: Cursor,
     pub levels: u32,

@@ -11,7 +11,7 @@ use numbers::Cursor;
 use places::counting;
 
 // Where the part stood, and how many things both parts are.
-#[derive(Drop)]
+#[derive(Clone, Copy)]
 pub struct Change {
     pub place: u32,
     pub old: u32,
@@ -19,21 +19,21 @@ pub struct Change {
 }
 
 // How many uses, and the place of the first.
-#[derive(Drop)]
+#[derive(Clone, Copy)]
 pub struct Entry {
     pub count: u32,
     pub first: u32,
 }
 
 // What lies behind the old part: where, and how many things.
-#[derive(Drop)]
+#[derive(Clone, Copy)]
 pub struct Behind {
     pub at: Cursor,
     pub count: u32,
 }
 
 // A first place, or that it must be searched for behind the old part.
-#[derive(Drop)]
+#[derive(Clone, Copy)]
 pub enum First {
     Is(u32),
     Searched,

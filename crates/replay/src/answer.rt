@@ -13,7 +13,7 @@ use meirhuppa::{evaluate, expand, parse, resolve, scan, shrink, text_jobs};
 
 // The numbers at the head of a call; the last three are sizes. Behind the image some jobs have more: `split` bytes are the first such input, and
 // what follows them is the second.
-#[derive(Drop)]
+#[derive(Clone, Copy)]
 pub struct Call {
     pub job: u32,
     pub phase: u32,

@@ -10,7 +10,7 @@ use crate::stream::{Input, Length, Place};
 pub const BEHIND: usize = 2 * MOST_BYTES;
 
 // How many bytes the first input behind the image has, and how many both have.
-#[derive(Drop)]
+#[derive(Clone, Copy)]
 pub enum Inputs {
     Read(usize, usize, Input),
     Cut,

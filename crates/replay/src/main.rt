@@ -1,5 +1,7 @@
 // Reads a stream of job calls on standard input, and prints a line for each: what the job gave back, and what it did to the
 // table and the output that it was lent.
+#![tactic(auto)]
+
 mod answer;
 mod as_words;
 mod inputs;
@@ -21,7 +23,7 @@ use crate::stream::{Input, Number, Place};
 const MOST_WORDS: usize = 170000;
 
 // How far the run is: what is left of the input, how many bytes of the page are still to be written, and whether a call may follow.
-#[derive(Drop)]
+#[derive(Clone, Copy)]
 struct Run {
     input: Input,
     count: usize,

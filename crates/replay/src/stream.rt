@@ -3,34 +3,34 @@ ghost use Rattle.std.specs.Prelude.{◌≡◌, length};
 ghost use Rattle.replay.specs.Stream.{whole_of, Within};
 
 // The bytes in the room that are still to be taken: those from `at` to `end`.
-#[derive(Drop)]
+#[derive(Clone, Copy)]
 pub struct Input {
     pub at: usize,
     pub end: usize,
 }
 
-#[derive(Drop)]
+#[derive(Clone, Copy)]
 pub enum Byte {
     Read(u8, Input),
     End,
 }
 
 // A number of the stream. `End` is for an input that ends before its first byte, `Cut` for one that breaks the format.
-#[derive(Drop)]
+#[derive(Clone, Copy)]
 pub enum Number {
     Read(u32, Input),
     End,
     Cut,
 }
 
-#[derive(Drop)]
+#[derive(Clone, Copy)]
 pub enum Place {
     At(Input),
     Cut,
 }
 
 // The length of an input whose bytes are read too.
-#[derive(Drop)]
+#[derive(Clone, Copy)]
 pub enum Length {
     Read(usize, Input),
     Cut,

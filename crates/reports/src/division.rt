@@ -8,7 +8,7 @@ ghost use Rattle.reports.specs.Dividing.{Waits, Comes, FirstGroup, NextGroup, Di
 use numbers::Cursor;
 
 // Where the reading of a file stands.
-#[derive(Drop)]
+#[derive(Clone, Copy)]
 pub enum Reading {
     // Between two images. The file may end here.
     Between,

@@ -8,7 +8,7 @@ use refusals::Refusal;
 // Codes that an answer may have: 0 to 32.
 pub const CODES: usize = 33;
 
-#[derive(Drop)]
+#[derive(Clone, Copy)]
 pub struct Sums {
     pub units: u64,
     pub images: u64,

@@ -1,5 +1,7 @@
 // The root of an image, checked and measured: nothing is stored. A tree's variables are held against the functions around them in
 // the same pass.
+#![tactic(auto)]
+
 pub mod objects;
 pub mod points;
 
@@ -16,13 +18,13 @@ use refusals::Refusal;
 use scopes::Name;
 
 // The charge for loading a tree, and whether every variable of it, outside syntax values, has an enclosing function of its name.
-#[derive(Drop)]
+#[derive(Clone, Copy)]
 pub struct Extent {
     pub size: u32,
     pub owned: bool,
 }
 
-#[derive(Drop)]
+#[derive(Clone, Copy)]
 pub enum TreeRead {
     Read(Extent, Cursor),
     Fault(Refusal),

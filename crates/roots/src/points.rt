@@ -11,7 +11,7 @@ use refusals::Refusal;
 use scopes::Point;
 
 // A point with the place past it, or the fault.
-#[derive(Drop)]
+#[derive(Clone, Copy)]
 pub enum PointRead {
     Read(Point, Cursor),
     Fault(Refusal),

@@ -1,5 +1,7 @@
 // Runs a recording on the program of a tree image: `scan IMAGE RECORDING`, both files. Prints a line for each scan; of what is refused, one
 // line `code ..` on standard error, and nothing on standard output.
+#![tactic(auto)]
+
 mod files;
 mod lines;
 

@@ -1,4 +1,6 @@
 // The line after a scan, by the list of the driven points and the points' values; and how long all lines are, before any is written.
+#![tactic(auto)]
+
 pub mod lengths;
 pub mod listing;
 

@@ -15,7 +15,7 @@ use scan_lines::{lengths, listing};
 use wiring::Wired;
 
 // How many bytes were written.
-#[derive(Drop)]
+#[derive(Clone, Copy)]
 pub enum Printing {
     Printed(u32),
     Refused(ScanRefusal),

@@ -13,7 +13,7 @@ use wiring::Wired;
 
 // What is known of a program and a recording that are accepted: the words of the code and the bits, how many scans there are, and where
 // the first of them begins.
-#[derive(Drop)]
+#[derive(Clone, Copy)]
 pub struct Prepared {
     pub words: u32,
     pub bits: u32,
@@ -21,7 +21,7 @@ pub struct Prepared {
     pub first: Cursor,
 }
 
-#[derive(Drop)]
+#[derive(Clone, Copy)]
 pub enum Preparation {
     Ready(Prepared),
     Refused(ScanRefusal),

@@ -5,7 +5,7 @@ ghost use Rattle.scan_runner.specs.Refusing.{scan_refusal_of};
 
 use panel_check::refusal::PanelRefusal;
 
-#[derive(Drop)]
+#[derive(Clone, Copy)]
 pub enum ScanRefusal {
     Panel(PanelRefusal),
     BadRecording,

@@ -1,21 +1,23 @@
 // The countings of document 01 and its scope sets. What a set is made of is known in this crate alone.
+#![tactic(auto)]
+
 ghost use Rattle.std.specs.Prelude.{◌≡◌, not, ◌+◌, ◌*◌, ◌/◌, ◌^◌, ◌≤◌, ◌<◌, length, eqb};
 ghost use Rattle.std.specs.Int.Bits.{bit_or};
 ghost use Rattle.model.specs.Scopes as model;
 ghost use Rattle.scopes.specs.Sets.{word_digits, set_words, set_scopes, most_long, scopes_of, word_members, long_members, Declared, Differing};
 
 // Scope numbers, name numbers and point numbers are separate countings: a name never serves as a scope.
-#[derive(Drop)]
+#[derive(Clone, Copy)]
 pub struct Scope(pub u32);
 
-#[derive(Drop)]
+#[derive(Clone, Copy)]
 pub struct Name(pub u32);
 
-#[derive(Drop)]
+#[derive(Clone, Copy)]
 pub struct Point(pub u32);
 
 // Symbols are numbered as names 0 to 3 and the image's words.
-#[derive(Drop)]
+#[derive(Clone, Copy)]
 pub struct Symbol(pub u32);
 
 impl Scope {
@@ -37,7 +39,7 @@ pub const LAST_PRIMITIVE: u32 = 9;
 
 // A scope set, handed on as one value: scope k is a member where the digit of weight 2 ^ (k - 1) is 1. The words hold 64 digits each, the
 // low word first.
-#[derive(Drop)]
+#[derive(Clone, Copy)]
 pub struct ScopeSet {
     pub words: [u64; ScopeSet::WORDS],
 }

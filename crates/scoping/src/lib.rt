@@ -1,5 +1,7 @@
 // Document 01, 'Expanding': scopes added, flipped and pruned at a charge, fresh names and scopes, and what a binder and a macro's use do
 // with them.
+#![tactic(auto)]
+
 ghost use Rattle.std.specs.Prelude.{◌≡◌, ℕ, ◌+◌, ◌≤◌, ◌<◌, length};
 ghost use Rattle.model.specs.Objects.{add_scope, flip_scope, prune_scopes};
 ghost use Rattle.parse.specs.Parsing.{unpaid};
@@ -68,7 +70,7 @@ pub fn prune_from(table: &mut [u32], s: State, i: u32, phase: u32, prunable: Sco
 // ---- a binder
 
 // What a binder became, and the state after it is bound.
-#[derive(Drop)]
+#[derive(Clone, Copy)]
 pub struct Binder {
     pub name: Name,
     pub scope: Scope,
@@ -76,7 +78,7 @@ pub struct Binder {
     pub state: State,
 }
 
-#[derive(Drop)]
+#[derive(Clone, Copy)]
 pub enum Bound {
     Done(Binder),
     Refused(Stop),
@@ -189,7 +191,7 @@ pub fn bind_fresh(table: &mut [u32], store: &mut [u64], s: State, id: u32, phase
 
 // The form with the use scope added, which is prunable in what the macro makes of it, and the introduction scope flipped, which is flipped
 // again there.
-#[derive(Drop)]
+#[derive(Clone, Copy)]
 pub struct Mark {
     pub at: u32,
     pub uses: Scope,
@@ -197,7 +199,7 @@ pub struct Mark {
     pub state: State,
 }
 
-#[derive(Drop)]
+#[derive(Clone, Copy)]
 pub enum Marking {
     Done(Mark),
     Refused(Stop),

@@ -1,4 +1,6 @@
 // Scope sets of an image: a count, then strictly ascending scope numbers.
+#![tactic(auto)]
+
 ghost use Rattle.std.specs.Prelude.{◌≡◌, true, ℕ, ◌+◌, ◌-◌, ◌≤◌, ◌<◌, length};
 ghost use Rattle.std.proofs.lemmas.List.Edits.{sets};
 ghost use Rattle.numbers.specs.Limits.{most_image};
@@ -16,14 +18,14 @@ use refusals::Refusal;
 use scopes::{Scope, ScopeSet};
 
 // A set beside the place past it, or beside the fault.
-#[derive(Drop)]
+#[derive(Clone, Copy)]
 pub struct SetRead {
     pub set: ScopeSet,
     pub end: Place,
 }
 
 // The sets of phases 0, 1 and 2 beside the place past them, or beside the fault.
-#[derive(Drop)]
+#[derive(Clone, Copy)]
 pub struct SetsRead {
     pub at0: ScopeSet,
     pub at1: ScopeSet,

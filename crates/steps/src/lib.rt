@@ -1,5 +1,7 @@
 // Document 01, 'Expanding', its first paragraph: the state that expand, parse and evaluate hand on, what is charged, and when an entry
 // starts.
+#![tactic(auto)]
+
 ghost use Rattle.std.specs.Prelude.{◌≡◌};
 ghost use Rattle.steps.specs.States.{stop_of, ambiguous_of, raised_to, charge_of, enter_of};
 
@@ -7,7 +9,7 @@ use numbers::Cursor;
 use refusals::Refusal;
 use store::rivals::Rivals;
 
-#[derive(Drop)]
+#[derive(Clone, Copy)]
 pub struct State {
     // The first free word of the table.
     pub top: u32,
@@ -22,7 +24,7 @@ pub struct State {
 }
 
 // A refusal, the bindings that compete where it is code 6, and the units not charged.
-#[derive(Drop)]
+#[derive(Clone, Copy)]
 pub struct Stop {
     pub refusal: Refusal,
     pub rivals: Rivals,
@@ -30,19 +32,19 @@ pub struct Stop {
 }
 
 // Where the result lies, and the state after it.
-#[derive(Drop)]
+#[derive(Clone, Copy)]
 pub struct Out {
     pub at: u32,
     pub state: State,
 }
 
-#[derive(Drop)]
+#[derive(Clone, Copy)]
 pub enum Answer {
     Done(Out),
     Refused(Stop),
 }
 
-#[derive(Drop)]
+#[derive(Clone, Copy)]
 pub enum Charged {
     Paid(State),
     Refused(Stop),

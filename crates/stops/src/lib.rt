@@ -1,5 +1,7 @@
 // Request T-08: the stops of a local expansion, a bit for each name, in words of the lent table. They are known by the index of the first
 // word, 0 for no stops.
+#![tactic(auto)]
+
 ghost use Rattle.std.specs.Prelude.{◌≡◌};
 ghost use Rattle.things.specs.Making.{Roomy};
 ghost use Rattle.stops.specs.Stops.{stops_size, bit_of, KnownZ, Inside, IsStopped, NoneYet, Stopped};

@@ -6,7 +6,7 @@ ghost use Rattle.store.specs.Sizes.{binding_size};
 
 use scopes::{Name, ScopeSet, Symbol};
 
-#[derive(Drop)]
+#[derive(Clone, Copy)]
 pub struct Binding {
     pub symbol: Symbol,
     pub target: Name,

@@ -7,7 +7,7 @@ ghost use Rattle.store.specs.Sizes.{held_size};
 use crate::resolving::Resolving;
 use scopes::ScopeSet;
 
-#[derive(Drop)]
+#[derive(Clone, Copy)]
 pub struct Carried {
     pub prunable: ScopeSet,
     pub uses: ScopeSet,

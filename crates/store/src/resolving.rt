@@ -13,14 +13,14 @@ use crate::rivals::Rivals;
 use scopes::{Name, ScopeSet, Symbol};
 
 // A name, or several candidates none of which contains every other: the two that compete.
-#[derive(Drop)]
+#[derive(Clone, Copy)]
 pub enum Found {
     Means(Name),
     Several(Rivals),
 }
 
 // How the candidates seen so far stand to each other.
-#[derive(Drop)]
+#[derive(Clone, Copy)]
 pub enum Standing {
     // There is none.
     Free,
@@ -31,7 +31,7 @@ pub enum Standing {
 }
 
 // What a pass over the bindings keeps.
-#[derive(Drop)]
+#[derive(Clone, Copy)]
 pub struct Resolving {
     pub standing: Standing,
     // Of the sets of all candidates seen.

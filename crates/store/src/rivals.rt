@@ -13,7 +13,7 @@ use crate::bindings::Binding;
 use scopes::{ScopeSet, Symbol};
 
 // The places of two bindings in the order of an image, counted from 1; both 0 where none compete.
-#[derive(Drop)]
+#[derive(Clone, Copy)]
 pub struct Rivals {
     pub first: u32,
     pub second: u32,

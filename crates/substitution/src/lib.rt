@@ -1,5 +1,7 @@
 // Substitution into a tree, by making what differs and sharing the rest: atoms, syntax values, other variables and functions of the same
 // name stay where they are.
+#![tactic(auto)]
+
 ghost use Rattle.substitution.specs.Substituting.{ReadyToSubstitute, ReadyP, ReadyB, ReadyL, Substituted, SubstitutedP, SubstitutedB, SubstitutedL};
 
 use scopes::Name;

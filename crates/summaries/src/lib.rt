@@ -1,4 +1,6 @@
 // The summary of a tree, and a question to it (document 02, T-10).
+#![tactic(auto)]
+
 pub mod opening;
 pub mod refusal;
 
@@ -14,14 +16,14 @@ use places::counting;
 use refusals::Refusal;
 
 // How many names have an entry.
-#[derive(Drop)]
+#[derive(Clone, Copy)]
 pub enum Making {
     Made(u32),
     Refused(UsesRefusal),
 }
 
 // How many uses, and the place of the first.
-#[derive(Drop)]
+#[derive(Clone, Copy)]
 pub enum Asking {
     Told(u32, u32),
     Refused(UsesRefusal),

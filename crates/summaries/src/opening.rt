@@ -7,14 +7,14 @@ use refusals::Refusal;
 use roots::TreeRead;
 
 // Where the root begins, what the head declares, and how many things the tree is.
-#[derive(Drop)]
+#[derive(Clone, Copy)]
 pub struct Opened {
     pub root: usize,
     pub counts: Counts,
     pub size: u32,
 }
 
-#[derive(Drop)]
+#[derive(Clone, Copy)]
 pub enum Opening {
     Tree(Opened),
     Fault(Refusal),

@@ -5,7 +5,7 @@ ghost use Rattle.summaries.specs.Refusing.{uses_refusal_of};
 
 use refusals::Refusal;
 
-#[derive(Drop)]
+#[derive(Clone, Copy)]
 pub enum UsesRefusal {
     Base(Refusal),
     OtherTree,

@@ -1,5 +1,7 @@
 // The lent table as working memory, in words of 32 bits. An index is the position of a word; word 0 is never used, so that 0 can end a
 // chain. What is made is never changed, so that it can be shared.
+#![tactic(auto)]
+
 ghost use Rattle.std.specs.Prelude.{◌≡◌, ℕ, ◌+◌, ◌*◌, ◌≤◌, length};
 ghost use Rattle.model.specs.Jobs.{cleared};
 ghost use Rattle.table.specs.Words.{join, get_word, put_word, get_set, put_set, get_node, put_node, get_sets, put_sets, put_object, get_body, put_function, get_cell, put_cell, get_entry, put_entry};
@@ -14,7 +16,7 @@ pub const WORDS_PER_UNIT: usize = 40;
 pub const MOST_BUDGET: u32 = 4096;
 
 // What lies at an index, without what follows it: an atom's or name's number, or the chain of parts.
-#[derive(Drop)]
+#[derive(Clone, Copy)]
 pub struct Node {
     pub tag: u32,
     pub content: u32,
@@ -55,7 +57,7 @@ impl Node {
 }
 
 // The scope sets of phases 0, 1 and 2. A syntax object's node is followed by them.
-#[derive(Drop)]
+#[derive(Clone, Copy)]
 pub struct Sets {
     pub at0: ScopeSet,
     pub at1: ScopeSet,
@@ -77,14 +79,14 @@ impl Sets {
 }
 
 // A syntax object.
-#[derive(Drop)]
+#[derive(Clone, Copy)]
 pub struct Object {
     pub node: Node,
     pub sets: Sets,
 }
 
 // A function's body, with its size as a tree and its nesting. A function's node is followed by it.
-#[derive(Drop)]
+#[derive(Clone, Copy)]
 pub struct Body {
     pub at: u32,
     pub size: u32,
@@ -94,7 +96,7 @@ pub struct Body {
 // One place of a chain: the thing there, the place after it (0 for none), and three measures from here on: the weight counts the parts as
 // syntax objects and the size as trees, where a syntax value is 1. Both are wanted, since a list object and the list value of its content
 // share the chain and are charged differently.
-#[derive(Drop)]
+#[derive(Clone, Copy)]
 pub struct Cell {
     pub head: u32,
     pub tail: u32,
@@ -108,7 +110,7 @@ impl Cell {
 }
 
 // An entry of the meanings: where what its name means lies, the entry after it (0 for none), the name, and which kind of meaning it has.
-#[derive(Drop)]
+#[derive(Clone, Copy)]
 pub struct Entry {
     pub at: u32,
     pub next: u32,

@@ -11,7 +11,7 @@ use reports::texts;
 use reports::totals::Sums;
 
 // Where the program stands, and whether more of the file may come.
-#[derive(Drop)]
+#[derive(Clone, Copy)]
 struct Run {
     taken: Taken,
     ongoing: bool,

@@ -1,5 +1,7 @@
 // Reads a file of images on standard input, each with its length before it, and prints the term report: how often each code was given, the
 // units of all, and their mean; or `cut`. Whatever the file's length, it is read in these buffers.
+#![tactic(auto)]
+
 mod file;
 mod single;
 mod taking;

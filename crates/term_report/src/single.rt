@@ -13,7 +13,7 @@ pub const WORDS: usize = BUDGET as usize * limits::WORDS_PER_UNIT;
 
 pub const BYTES: usize = limits::MOST_IMAGE;
 
-#[derive(Drop)]
+#[derive(Clone, Copy)]
 pub struct Single {
     pub code: u32,
     pub units: u32,

@@ -11,7 +11,7 @@ use reports::division::Reading;
 use reports::totals::Sums;
 
 // Where the reading stands, and the sums. The counts, and the bytes that came of an image, stand in slices.
-#[derive(Drop)]
+#[derive(Clone, Copy)]
 pub struct Taken {
     pub reading: Reading,
     pub sums: Sums,

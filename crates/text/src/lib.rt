@@ -1,4 +1,6 @@
 // Text written into a buffer: bytes as they are, numbers in decimal, bytes in hexadecimal.
+#![tactic(auto)]
+
 ghost use Rattle.std.specs.Prelude.{[], ◌++◌, ◌+◌, ◌*◌, ◌/◌, ◌%◌, ◌≤◌, ◌<◌, ◌≡◌, length};
 ghost use Rattle.model.specs.Jobs.{digits};
 ghost use Rattle.text.specs.Placing.{Placed};

@@ -1,4 +1,6 @@
 // How the two jobs of text end: the refusals, what was written, and how much room there is for it.
+#![tactic(auto)]
+
 ghost use Rattle.std.specs.Prelude.{◌≡◌};
 ghost use Rattle.requests.specs.FromText.{text_code};
 ghost use Rattle.text_endings.specs.Ending.{text_refusal_of, Room};
@@ -7,7 +9,7 @@ use numbers::Cursor;
 use refusals::Refusal;
 
 // The refusals of document 01, 26 and 27.
-#[derive(Drop)]
+#[derive(Clone, Copy)]
 pub enum TextRefusal {
     Base(Refusal),
     BadText,
@@ -15,7 +17,7 @@ pub enum TextRefusal {
 }
 
 // How many bytes were written.
-#[derive(Drop)]
+#[derive(Clone, Copy)]
 pub enum Written {
     Made(u32),
     Refused(TextRefusal),

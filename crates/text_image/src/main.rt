@@ -1,5 +1,7 @@
 // Reads a text on standard input and writes its syntax image on standard output (document 02, T-05). Of a text that is refused it writes nothing
 // there, and on standard error one line: the code, and for 26 and 27 the line and the column of the fault.
+#![tactic(auto)]
+
 mod faults;
 mod places;
 

@@ -6,7 +6,7 @@ ghost use Rattle.text_printer.specs.Fronts.{value_of, after_number, after_number
 use numbers::{Cursor, Number};
 
 // What an object has before its parts, and the place past that.
-#[derive(Drop)]
+#[derive(Clone, Copy)]
 pub struct Front {
     pub tag: u32,
     pub content: u32,

@@ -4,14 +4,14 @@ ghost use Rattle.text_printer.specs.Walking.{Walkable, Steps};
 use crate::fronts;
 
 // Where a walk stands: a place of the image, and how many lists are open, the one around the root counted.
-#[derive(Drop)]
+#[derive(Clone, Copy)]
 pub struct Walk {
     pub at: usize,
     pub depth: usize,
 }
 
 // What comes next, and where the walk stands after it. An atom is its tag and its content.
-#[derive(Drop)]
+#[derive(Clone, Copy)]
 pub enum Step {
     End,
     Open(Walk),

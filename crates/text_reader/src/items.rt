@@ -7,7 +7,7 @@ use numbers::Cursor;
 use tokens::Next;
 use tokens::pieces::Piece;
 
-#[derive(Drop)]
+#[derive(Clone, Copy)]
 pub enum Item {
     End,
     Passed(usize),

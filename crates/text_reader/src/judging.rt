@@ -6,7 +6,7 @@ use text_endings::TextRefusal;
 use tokens::Next;
 
 // A fault stands at the first token from its place on, or at the text's end where none comes.
-#[derive(Drop)]
+#[derive(Clone, Copy)]
 pub enum Judged {
     Fine,
     Fault(TextRefusal, usize),

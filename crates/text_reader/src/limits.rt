@@ -13,7 +13,7 @@ use tokens::pieces::Piece;
 const MOST_LENGTH: usize = 32;
 
 // How many words there are.
-#[derive(Drop)]
+#[derive(Clone, Copy)]
 pub enum Limits {
     Over,
     Within(usize),

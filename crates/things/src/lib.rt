@@ -1,4 +1,6 @@
 // What the table stands for: trees and syntax objects. A syntax value is its object.
+#![tactic(auto)]
+
 ghost use Rattle.std.specs.Prelude.{◌≡◌, ℕ, ◌+◌, ◌≤◌, min, max, length};
 ghost use Rattle.things.specs.Turning.{Turnable, Turned};
 ghost use Rattle.things.specs.Making.{Roomy, Stored, StoredObject, Linkable, Linked, Closable, Closed};
@@ -10,7 +12,7 @@ use table::{Body, Cell, Node, Object, Sets};
 
 // A tree's size, its weight as a syntax object (0 where it is none), and its nesting. Size and weight are MOST for all that is larger: a
 // charge of so much is over any budget.
-#[derive(Drop)]
+#[derive(Clone, Copy)]
 pub struct Extent {
     pub size: u32,
     pub weight: u32,
@@ -22,7 +24,7 @@ impl Extent {
 }
 
 // What was made: where it lies, and the first free word after it.
-#[derive(Drop)]
+#[derive(Clone, Copy)]
 pub struct Made {
     pub at: u32,
     pub top: u32,

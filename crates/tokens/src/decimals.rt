@@ -8,7 +8,7 @@ use crate::classes;
 // One more than the largest number of an image.
 const OVER: u64 = 4294967296;
 
-#[derive(Drop)]
+#[derive(Clone, Copy)]
 pub enum Decimal {
     No,
     Is(u32),

@@ -1,4 +1,6 @@
 // The tokens of a text, one after another. Nothing is kept of a text but places in it: each pass cuts the tokens anew.
+#![tactic(auto)]
+
 pub mod classes;
 pub mod decimals;
 pub mod pieces;
@@ -10,7 +12,7 @@ ghost use Rattle.tokens.specs.Nexts.{NextIs};
 use crate::pieces::Piece;
 
 // What comes next in a text: a parenthesis with the place past it, or a piece with its first place and the place past it.
-#[derive(Drop)]
+#[derive(Clone, Copy)]
 pub enum Next {
     End,
     Open(usize),

@@ -9,7 +9,7 @@ use scopes::Point;
 use words::{good_word, same_bytes};
 
 // An atom is its tag and its content in an image; `Over` is one whose content is over its limit.
-#[derive(Drop)]
+#[derive(Clone, Copy)]
 pub enum Piece {
     Bad,
     Word,

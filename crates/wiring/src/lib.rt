@@ -1,5 +1,7 @@
 // A panel program wired once into flat code (document 02, T-02): the words that `ladder` runs at each scan, and the start values of the
 // bits. The image has been judged and its root is a program; what is none ends in some fault, and nothing is said of it.
+#![tactic(auto)]
+
 pub mod words;
 
 ghost use Rattle.std.specs.Prelude.{◌≡◌, ◌+◌, ◌-◌, ◌≤◌, ◌<◌, [], length, set, get_or};
@@ -13,13 +15,13 @@ use numbers::{Cursor, Number};
 use refusals::Refusal;
 
 // So many words, and so many bits met.
-#[derive(Drop)]
+#[derive(Clone, Copy)]
 pub struct Wired {
     pub words: u32,
     pub bits: u32,
 }
 
-#[derive(Drop)]
+#[derive(Clone, Copy)]
 pub enum WiredRead {
     Read(Wired, Cursor),
     Fault(Refusal),

@@ -1,4 +1,6 @@
 // The words of an image: their bytes, and that all are different and none a core word.
+#![tactic(auto)]
+
 ghost use Rattle.std.specs.Prelude.{◌≡◌, ℕ, ◌+◌, ◌≤◌, length};
 ghost use Rattle.numbers.specs.Limits.{most_image};
 ghost use Rattle.model.specs.Reading.{word_byte, first_byte, all_word_bytes, good_word, same_bytes, among, core_words};

@@ -1,5 +1,7 @@
 // What the table stands for, as bytes of an image: how many, up to a cap, and the bytes themselves. Trees and syntax objects are written
 // by one recursion: they differ in the tag that leads a syntax value within a tree.
+#![tactic(auto)]
+
 ghost use Rattle.std.specs.Prelude.{◌≡◌, false, ◌+◌, ◌≤◌, min};
 ghost use Rattle.numbers.specs.Limits.{most_image};
 ghost use Rattle.model.specs.Writing.{stx_bytes, tree_bytes};
