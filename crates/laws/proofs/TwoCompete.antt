@@ -207,10 +207,10 @@ module _ (x : ℕ) (s : Scopes) (bs : List Bind) where
       go below true e (inr g) = further (below g)
       go below false e g = further (below g)
 
-  competing_tells : (n : ℕ) {l : List Bind} {b : Bind} {j : ℕ} → At b j l → competes x s bs b ≡ true → Among (n + j) (competing x s bs (suc n) l)
+  competing_tells : {b : Bind} (n : ℕ) {l : List Bind} {j : ℕ} → At b j l → competes x s bs b ≡ true → Among (n + j) (competing x s bs (suc n) l)
   unfolding competing
   competing_tells n front e = rw e (inl (omega arith))
-  competing_tells n {b = b} (behind {k = k} {c = c} {l = l} h) e = go (competes x s bs c) (competing_tells (suc n) h e)
+  competing_tells {b = b} n (behind {k = k} {c = c} {l = l} h) e = go (competes x s bs c) (competing_tells (suc n) h e)
     where
       shifted : suc n + k ≡ n + suc k
       shifted = omega arith
