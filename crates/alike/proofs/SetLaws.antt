@@ -1,4 +1,4 @@
--- The operations on sets keep sets alike, and containment and equality are the same on both sides. The map need only be one_to_one.
+-- The operations on sets keep sets alike, and containment and equality are the same on both sides. The map need only be one-to-one.
 use mathlib.Core.Path.{◌≡◌, refl, sym, ap, ap₂, ◌∙◌, subst}
 use Prim.Native.Nat.{ℕ, zero, suc}
 use mathlib.Core.Bool.{Bool, true, false, not, ◌&&◌, ◌||◌, true≢false, false≢true}

@@ -59,20 +59,20 @@ module _ {l : List ℕ} {i : ℕ} {n : Extent} (m : Measured l i n) where
 
 -- ---- a row
 
-pub laid-grows : {w : Copying} {l : List ℕ} {from end : ℕ} {ps rest : Stxs} → Laid w l from ps end rest → from ≤ end
+pub laid-grows : {w : Copying} {l : List ℕ} {from : ℕ} {ps : Stxs} {end : ℕ} {rest : Stxs} → Laid w l from ps end rest → from ≤ end
 laid-grows laid_none = omega arith
 laid-grows (laid_one {x = x} d p q r) = omega (arith, laid-grows d, size-some x)
 
 -- what the rest would want still fits
-pub laid-room : {w : Copying} {l : List ℕ} {from end : ℕ} {ps rest : Stxs} → Laid w l from ps end rest → end + part_size * sizes rest ≤ from + part_size * sizes ps
+pub laid-room : {w : Copying} {l : List ℕ} {from : ℕ} {ps : Stxs} {end : ℕ} {rest : Stxs} → Laid w l from ps end rest → end + part_size * sizes rest ≤ from + part_size * sizes ps
 laid-room laid_none = omega arith
 laid-room (laid_one {x = x} {rest = rest} d p q r) = omega (arith, laid-room d, sizes-cons x rest)
 
-pub laid-flat : {w : Copying} {l : List ℕ} {from end : ℕ} {ps rest : Stxs} → Laid w l from ps end rest → nestings rest ≤ nestings ps
+pub laid-flat : {w : Copying} {l : List ℕ} {from : ℕ} {ps : Stxs} {end : ℕ} {rest : Stxs} → Laid w l from ps end rest → nestings rest ≤ nestings ps
 laid-flat laid_none = omega arith
 laid-flat (laid_one {x = x} {rest = rest} d p q r) = omega (arith, laid-flat d, nestings-cons x rest)
 
-pub laid_stays : {w : Copying} {l l' : List ℕ} {from end : ℕ} {ps rest : Stxs} → Laid w l from ps end rest → Same end l l' → Laid w l' from ps end rest
+pub laid_stays : {w : Copying} {l l' : List ℕ} {from : ℕ} {ps : Stxs} {end : ℕ} {rest : Stxs} → Laid w l from ps end rest → Same end l l' → Laid w l' from ps end rest
 laid_stays laid_none e = laid_none
 laid_stays {l = l} {l' = l'} (laid_one {b = b} {end = end} {x = x} d p q r) e =
     laid_one (laid_stays d (same_under b end l l' (omega (arith, size-some x)) e)) p q (stays r e)

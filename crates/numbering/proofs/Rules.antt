@@ -1,4 +1,4 @@
--- A one_to_one rule on 1 to n, with all past n left as it is, gives new numbers to all scopes, no two the same.
+-- A one-to-one rule on 1 to n, with all past n left as it is, gives new numbers to all scopes, no two the same.
 use mathlib.Core.Path.{◌≡◌, refl, sym, ◌∙◌, subst}
 use Prim.Native.Nat.{ℕ, ◌≤◌, ◌<◌}
 use native.Mathlib.Nat.{le_trans}

@@ -14,7 +14,7 @@ use Rattle.alike.specs.Renumbering.{renumber_stx, renumber_bind, SameBut}
 
 -- ---- a rule
 
--- one_to_one on 1 to n. That every number of 1 to n is given follows, and is not asked for
+-- one-to-one on 1 to n. That every number of 1 to n is given follows, and is not asked for
 pub record NumberingRule (n : ℕ) (f : Scope → Scope) : Type 0 where
   pub from_one : (k : Scope) → 1 ≤ k → k ≤ n → 1 ≤ f k
   pub up_to_lem : (k : Scope) → 1 ≤ k → k ≤ n → f k ≤ n
@@ -55,7 +55,7 @@ EnoughOutput r = r.answer.code ≡ 20 → ⊥
 abbrev pub renumbered_by : (Scope → Scope) → Image Stx → List ℕ → List ℕ
 renumbered_by f i image = renumbered (extended i.head.scopes f) image
 
--- Of a well-formed image and any one_to_one rule on its scopes 1 to n: the image and the image renumbered, expanded with the same phase, budget and
+-- Of a well-formed image and any one-to-one rule on its scopes 1 to n: the image and the image renumbered, expanded with the same phase, budget and
 -- table and enough output for either, agree in code, units and table, and their results are one the other under the same renumbering.
 abbrev pub NumberingDoesNotMatter : Type 0
 NumberingDoesNotMatter =

@@ -94,11 +94,24 @@ listed : (i : List ℕ) → (single i).code < codes
 unfolding last_code
 listed i = let h = single-listed i in omega arith
 
+-- each code is one that is counted
+abbrev AllListed : List Line → Type 0
+AllListed [] = Unit {0}
+AllListed (a ∷ l) = (a.code < codes) × AllListed l
+
+all_listed : (images : List (List ℕ)) → AllListed (answers_to images)
+unfolding answers_to
+all_listed [] = tt
+all_listed (i ∷ l) = (listed i, all_listed l)
+
+lines_more : {done : List Line} {t : Totals} (l : List Line) → AllListed l → TotalsOf done t → TotalsOf (done ++ l) (counted_all l t)
+unfolding counted_all
+lines_more {done} {t} [] h w = rw append-nil w
+lines_more {done} {t} (a ∷ l) h w = rw (← append_assoc done (a ∷ []) l) (lines_more {done = done ++ a ∷ []} {t = counted a t} l h.1 (one_more w a h.0))
+
 -- all answers to images
 all_more : {done : List Line} {t : Totals} (images : List (List ℕ)) → TotalsOf done t → TotalsOf (done ++ answers_to images) (counted_all (answers_to images) t)
-unfolding answers_to counted_all
-all_more {done} {t} [] w = rw append-nil w
-all_more {done} {t} (i ∷ l) w = rw (← append_assoc done (single i ∷ []) (answers_to l)) (all_more l (one_more w (single i) (listed i)))
+all_more images w = lines_more (answers_to images) (all_listed images) w
 
 pub totals_are : (images : List (List ℕ)) → TotalsOf (answers_to images) (counted_all (answers_to images) no_totals)
 totals_are images = all_more images none_yet

@@ -1,5 +1,5 @@
 -- T-01: what the panel check says of a tree that it accepts; and where all functions carry different names, name and address are
--- one_to_one.
+-- one-to-one.
 use mathlib.Core.Path.{◌≡◌, refl, sym, ap, ◌∙◌, subst}
 use Prim.Native.Nat.{ℕ, zero, suc, ◌*◌, ◌≤◌, ◌<◌}
 use native.Mathlib.Omega.{arith}
@@ -20,7 +20,7 @@ use Rattle.addresses.proofs.Endings.{code-some}
 use Rattle.requests.specs.Panel.{is_program, driven, bits_of, most_bits, all_differ, PanelRefusal, base, outside, driven_twice, too_many_bits, panel_code, PanelEnding, refused, listed, profile, of_image, panel_of, room_for, panel_answer, bits_after, panel_job}
 use Rattle.requests.specs.OneToOne.{OneToOne, Accepted}
 
--- ---- different names are one_to_one with their addresses
+-- ---- different names are one-to-one with their addresses
 
 among-at : (l : List ℕ) (a : ℕ) → a < length l → is_among (get_or l a 0) l ≡ true
 unfolding is_among

@@ -115,7 +115,7 @@ parse_writes_the_tree {image} {expanded} o budget table output q =
         sym (image-written budget table room (image_written job) ends.0 fits) ∙ ap image_written both
         ∙ image-written budget table room tree charged fits
 
--- ---- the theorem: of an image that is expanded at phase 0, parsed and checked, the names listed are one_to_one with their addresses
+-- ---- the theorem: of an image that is expanded at phase 0, parsed and checked, the names listed are one-to-one with their addresses
 
 pub record PanelOfExpanded (tree bits : List ℕ) : Type 0 where
   pub says : Accepted tree bits

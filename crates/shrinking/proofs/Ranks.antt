@@ -1,4 +1,4 @@
--- Renumbering the members of a set in order is one_to_one and ascending, and ends at their count. It extends to new numbers for all
+-- Renumbering the members of a set in order is one-to-one and ascending, and ends at their count. It extends to new numbers for all
 -- scopes, no two the same.
 use mathlib.Core.Path.{◌≡◌, refl, sym, ap, ap₂, ◌∙◌}
 use Prim.Native.Nat.{ℕ, zero, suc, ◌+◌, ◌≤◌, ◌<◌}
