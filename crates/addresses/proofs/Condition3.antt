@@ -18,7 +18,7 @@ use Rattle.model.specs.Competing.{Rivals, no_rivals}
 use Rattle.model.specs.Reading.{got, symbols, Image, read_syntax, read_tree_image, read_image}
 use Rattle.model.specs.Writing.{syntax_bytes, tree_image_bytes}
 use Rattle.model.specs.Meanings.{core_only, is_among, nowhere}
-use Rattle.model.specs.Steps.{State, ok, no, after}
+use Rattle.model.specs.Steps.{State, ok}
 use Rattle.model.specs.Parsing.{parse}
 use Rattle.model.specs.Jobs.{Ending, refused, written, Result, budget_fits, lent, with_image, start, worked, fitted, reached, expand_root, parse_root, evaluate_root, closed, expand_ending, parse_ending, evaluate_ending, expand_job, parse_job, evaluate_job}
 use borrow.Author.Tests.{ne_eqb}

@@ -9,7 +9,7 @@ use lib.Dec.{leb, ltb}
 use lib.ListN.{length}
 use Rattle.model.specs.Choice.{if◌then◌else◌}
 use Rattle.model.specs.Limits.{most_names, most_scopes, most_bindings}
-use Rattle.model.specs.Refusals.{Refusal, over_budget, no_name_left, no_scope_left, no_binding_left, code_of}
+use Rattle.model.specs.Refusals.{Refusal, over_budget, code_of}
 use Rattle.model.specs.Scopes.{Scopes, no_scopes}
 use Rattle.model.specs.Objects.{set_at, Stx}
 use Rattle.model.specs.Trees.{Tree}

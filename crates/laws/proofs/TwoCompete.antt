@@ -2,7 +2,7 @@
 -- two: `two-compete`.
 use mathlib.Core.Path.{◌≡◌, refl, sym, ap, ◌∙◌, subst}
 use mathlib.Core.Logic.{◌⊎◌, inl, inr}
-use Prim.Native.Nat.{ℕ, zero, suc, ◌+◌, ◌≤◌, ◌<◌}
+use Prim.Native.Nat.{ℕ, suc, ◌+◌, ◌≤◌, ◌<◌}
 use native.Mathlib.Nat.{le_refl, zero-add, not-suc-le-zero}
 use native.Mathlib.Omega.{arith}
 use mathlib.Core.Bool.{Bool, true, false, not, ◌&&◌, false≢true}
@@ -18,7 +18,7 @@ use Rattle.laws.specs.Ordered.{Ascending, Sorted}
 use Rattle.laws.specs.Rivalry.{At, front, behind, Compete, Told}
 use Rattle.laws.proofs.Tests.{and_both, both_true}
 use Rattle.laws.proofs.ScopeSets.{within-refl, within_trans, within_antisym}
-use Rattle.laws.proofs.ResolveRule.{In, Candidate, candidates-sound, candidates_complete, ContainsAll, MissesOne, contains_all_or_misses_one}
+use Rattle.laws.proofs.ResolveRule.{In, candidates-sound, candidates_complete, ContainsAll, MissesOne, contains_all_or_misses_one}
 use Rattle.laws.proofs.ResolveExactly.{Unclear, ambiguous_exactly}
 use Rattle.laws.proofs.Order.{all_after, before-other, sorted_keys}
 

@@ -1,7 +1,7 @@
 -- One walk over the rules: what holds of each step that they are made of, and of two in turn where it holds of both, holds of evaluating, parsing
 -- and expanding. `Units` walks it twice, `CodeSix` three times.
 use mathlib.Core.Path.{◌≡◌}
-use Prim.Native.Nat.{ℕ, zero, suc, ◌+◌, ◌-◌}
+use Prim.Native.Nat.{ℕ, zero, suc, ◌+◌}
 use native.Mathlib.Omega.{arith}
 use mathlib.Core.Bool.{Bool, true, false}
 use mathlib.Core.Option.{Option, none, some}

@@ -1,6 +1,6 @@
 -- Document 02, T-04: who competes. With code 6 come the places of two bindings, in image order and counted from 1: the first two of those
 -- candidates that no other candidate contains.
-use Rattle.std.specs.Prelude.{ℕ, suc, Bool, true, false, not, ◌&&◌, List, [], ◌∷◌}
+use Rattle.std.specs.Prelude.{ℕ, suc, Bool, true, not, ◌&&◌, List, [], ◌∷◌}
 use Rattle.model.specs.Choice.{if◌then◌else◌}
 use Rattle.model.specs.Scopes.{Scopes, within}
 use Rattle.model.specs.Objects.{Symbol}

@@ -11,7 +11,7 @@ use Rattle.model.specs.Competing.{Rivals, no_rivals}
 use Rattle.model.specs.Reading.{Read, got, fault, Head, Image, read_syntax, read_tree_image, read_image}
 use Rattle.model.specs.Writing.{syntax_bytes, tree_image_bytes}
 use Rattle.model.specs.Meanings.{is_among, of_root, nowhere}
-use Rattle.model.specs.Steps.{Units, State, Out, ok, no, Step, ◌>>=◌, ◌>>◌, charge, resolve_at, identifier}
+use Rattle.model.specs.Steps.{Units, State, Out, ok, no, Step, ◌>>◌, charge, resolve_at, identifier}
 use Rattle.model.specs.Parsing.{parse}
 use Rattle.model.specs.Expanding.{evaluate, expand}
 

@@ -1,17 +1,16 @@
 -- T-01 behind condition 3: what expand accepts at phase 0 and parse then gives, if the panel check accepts it, has one address for each
 -- name and one name for each address.
 use mathlib.Core.Path.{◌≡◌, refl, sym, ap, ◌∙◌, subst}
-use Prim.Native.Nat.{ℕ, ◌+◌, ◌-◌, ◌≤◌, ◌<◌}
+use Prim.Native.Nat.{ℕ, ◌+◌, ◌-◌, ◌≤◌}
 use native.Mathlib.Omega.{arith}
-use mathlib.Core.Bool.{Bool, true, false, false≢true}
-use mathlib.Core.List.{List, [], ◌∷◌, ◌++◌}
+use mathlib.Core.Bool.{Bool, true, false}
+use mathlib.Core.List.{List, []}
 use lib.Dec.{leb}
-use lib.ListN.{length, take, drop, replicate, length-replicate}
-use Rattle.model.specs.Choice.{if◌then◌else◌}
+use lib.ListN.{length, drop, replicate, length-replicate}
 use Rattle.model.specs.Refusals.{Refusal}
 use Rattle.model.specs.Trees.{Tree}
 use Rattle.model.specs.Competing.{Rivals}
-use Rattle.model.specs.Reading.{got, Image, read_syntax, read_tree_image, read_image}
+use Rattle.model.specs.Reading.{Image, read_syntax, read_image}
 use Rattle.model.specs.Writing.{tree_image_bytes}
 use Rattle.model.specs.Jobs.{Ending, refused, written, Result, lent, budget_fits, answer_of, output_after, start, reached, parse_root, parse_ending, expand_job, parse_job}
 use borrow.Author.Tests.{leb-true, leb-false}

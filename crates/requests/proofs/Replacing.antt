@@ -1,20 +1,20 @@
 -- T-10: where a part is replaced, the things before it and behind it stay; and the summary brought up to date is the summary of the new
 -- tree, after one replacement and after any number of them.
-use Prim.Native.Nat.{ℕ, zero, suc, ◌+◌, ◌-◌, ◌*◌, ◌≤◌, ◌<◌}
+use Prim.Native.Nat.{ℕ, zero, suc, ◌+◌, ◌-◌, ◌≤◌, ◌<◌}
 use mathlib.Core.Path.{◌≡◌, refl, sym, ap, ap₂, ◌∙◌}
 use mathlib.Core.Bool.{Bool, true, false, not, ◌&&◌}
 use mathlib.Core.List.{List, [], ◌∷◌, ◌++◌, append_assoc, append-nil}
 use native.Mathlib.Omega.{arith}
-use lib.Dec.{eqb, ltb, leb}
-use lib.ListN.{length, drop, get_or, length-append}
-use lib.Seq.{drop_at, ext_get_or}
+use lib.Dec.{eqb, ltb}
+use lib.ListN.{length, drop, length-append}
+use lib.Seq.{drop_at}
 use borrow.Author.Tests.{eq-eqb, ne_eqb, lt-ltb, le-ltb, le-leb, ltb-true, ltb-false}
 use Rattle.model.specs.Choice.{if◌then◌else◌}
 use Rattle.model.specs.Objects.{Name}
 use Rattle.model.specs.Trees.{Tree, var, app, fun, datum, lst, stx, Trees, tnil, tcons, tsize, tsize_by, tsizes_by}
 use Rattle.requests.specs.Uses.{Thing, other, things, things_all, uses, first_use, Entry, entry_of, entry_words, summary_words, summary_of, entry_in}
-use Rattle.requests.specs.Replacing.{Spot, spot, spot_among, spot_in, replaced, replaced_among, Change, largest, capped, count_after, searched, first_after, entry_after, brought_up, change_of}
-use Rattle.requests.proofs.Uses.{tsizes, size-things, sizes-things, uses-few, uses_append, first-within, first-left, first_right, first-none, question_counts_the_tree}
+use Rattle.requests.specs.Replacing.{spot, spot_among, spot_in, replaced, replaced_among, Change, largest, capped, count_after, searched, first_after, entry_after, brought_up, change_of}
+use Rattle.requests.proofs.Uses.{tsizes, size-things, uses-few, uses_append, first-within, first-left, first_right, first-none, question_counts_the_tree}
 
 -- ---- before and behind the place p
 

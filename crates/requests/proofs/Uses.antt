@@ -1,7 +1,7 @@
 -- T-10: as many things as the tree's size; the uses in one list behind another; and a question to a summary made from a tree is
 -- answered as by counting the whole tree.
 use Prim.Native.Nat.{ℕ, zero, suc, ◌+◌, ◌*◌, ◌≤◌, ◌<◌}
-use mathlib.Core.Path.{◌≡◌, refl, sym, ap, ap₂, ◌∙◌}
+use mathlib.Core.Path.{◌≡◌, refl, ap, ap₂, ◌∙◌}
 use mathlib.Core.Bool.{Bool, true, false}
 use mathlib.Core.List.{List, [], ◌∷◌, ◌++◌}
 use native.Mathlib.Omega.{arith}
@@ -11,7 +11,7 @@ use borrow.Author.Tests.{eq-eqb, ne_eqb}
 use Rattle.model.specs.Choice.{if◌then◌else◌}
 use Rattle.model.specs.Objects.{Name}
 use Rattle.model.specs.Trees.{Tree, var, app, fun, datum, lst, stx, Trees, tnil, tcons, tsize, tsize_by, tsizes_by}
-use Rattle.requests.specs.Uses.{Thing, variable, other, things, things_all, is_use, uses, first_use, Entry, entry_of, entry_words, summary_words, summary_of, entry_in}
+use Rattle.requests.specs.Uses.{Thing, things, things_all, is_use, uses, first_use, Entry, entry_of, entry_words, summary_words, summary_of, entry_in}
 
 -- ---- size counts the things
 

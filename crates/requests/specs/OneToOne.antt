@@ -1,5 +1,5 @@
 -- T-01: what the panel check says of a tree that it accepts, and that name and address are one-to-one.
-use Rattle.std.specs.Prelude.{ℕ, ◌*◌, ◌≤◌, ◌<◌, ◌≡◌, true, List, [], ◌∷◌, ◌++◌, length, get_or, drop}
+use Rattle.std.specs.Prelude.{ℕ, ◌*◌, ◌≤◌, ◌<◌, ◌≡◌, true, List, [], ◌++◌, length, get_or, drop}
 use Rattle.model.specs.Trees.{Tree}
 use Rattle.model.specs.Reading.{got, Image, read_tree_image, read_image}
 use Rattle.model.specs.Meanings.{is_among}

@@ -1,6 +1,6 @@
 -- Document 02, T-01, panel profile: which trees are programs, the bits in order of address, the points driven, and the check of a
 -- tree image.
-use Rattle.std.specs.Prelude.{ℕ, zero, suc, ◌+◌, ◌*◌, Bool, true, false, ◌&&◌, List, [], ◌∷◌, ◌++◌, eqb, leb, length, drop}
+use Rattle.std.specs.Prelude.{ℕ, zero, suc, ◌*◌, Bool, true, false, ◌&&◌, List, [], ◌∷◌, ◌++◌, eqb, leb, length, drop}
 use Rattle.std.proofs.Math.Bool as b
 use Rattle.model.specs.Choice.{if◌then◌else◌}
 use Rattle.model.specs.Refusals.{Refusal, unowned, too_long, code_of}

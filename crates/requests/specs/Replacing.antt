@@ -1,5 +1,5 @@
 -- Document 02, T-10, where is this bit used: one part of a tree replaced by another, and the summary brought up to date.
-use Rattle.std.specs.Prelude.{ℕ, zero, suc, ◌+◌, ◌-◌, ◌*◌, Bool, not, ◌&&◌, List, [], ◌∷◌, ◌++◌, eqb, ltb, leb, length, drop, get_or}
+use Rattle.std.specs.Prelude.{ℕ, zero, suc, ◌+◌, ◌-◌, not, ◌&&◌, List, ◌++◌, eqb, ltb, leb, length, drop, get_or}
 use Rattle.model.specs.Choice.{if◌then◌else◌}
 use Rattle.model.specs.Limits.{most_nesting, most_image}
 use Rattle.model.specs.Refusals.{too_long, over_limit}

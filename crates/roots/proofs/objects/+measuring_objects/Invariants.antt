@@ -1,0 +1,22 @@
+use Rattle.std.proofs.Common.{◌≡◌, ℕ, ◌+◌, ◌≤◌, length, ◌-◌, ◌*◌, ◌<◌}
+use Rattle.numbers.specs.Answers.{number_at}
+use Rattle.roots.specs.MeasuredObjects.{read_content_of, read_top, measure_stx, measure_list, measure_parts}
+use Rattle.numbers.specs.Limits.{most_image}
+use Rattle.scopes.specs.Sets.{set_scopes}
+use Rattle.roots.proofs.objects.+measuring_objects.Given as goal
+
+abbrev pub decreases-measure_list : goal.decreases-measure_list
+decreases-measure_list l = ? -- old: 3 * l.a.1.1.1.1.0 + 2
+
+abbrev pub decreases-measure_object : goal.decreases-measure_object
+decreases-measure_object l = ? -- old: 3 * l.a.1.1.1.1.0
+
+abbrev pub decreases-measure_parts : goal.decreases-measure_parts
+decreases-measure_parts l = ? -- old: 3 * l.a.1.1.1.1.0 + 1
+
+abbrev pub invariant-measure_parts-loop-left : goal.invariant-measure_parts-loop-left
+invariant-measure_parts-loop-left l = ? -- old: 
+
+-- proposed from the loop's first test
+abbrev pub decreases-measure_parts-loop-left : goal.decreases-measure_parts-loop-left
+decreases-measure_parts-loop-left l = l.left
