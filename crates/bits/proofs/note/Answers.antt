@@ -1,10 +1,6 @@
-use Rattle.std.proofs.Common.{rules, ◌≡◌, ◌||◌, ◌+◌, ◌≤◌, ◌<◌, length, ℕ, ◌-◌, ◌*◌, ◌/◌, ◌%◌, Bool, true, false, nat_eq, nat_lt, List, [], ◌∷◌, ◌++◌, slice_index_or, slice_set, bit_and, bit_or, Fits, w8, w32, w64, Bor, MutBor}
-use Rattle.numbers.specs.Limits.{most_image}
-use Rattle.bits.specs.Tokens.{token_at, read_content, read_kind, read_token}
-use Rattle.bits.specs.Meeting.{points, room, is_out, marked_at, driven_before, named_at, counted_at, NoMarks, Noted, along, none, Holds}
+use Rattle.std.proofs.Common.{rules}
 use Rattle.bits.proofs.note.Goals as goal
 use Rattle.bits.proofs.Keeping.{noted}
 
--- src/lib.rt:157:1
 pub returns : goal.returns
 returns c = search (noted, rules)

@@ -1,25 +1,16 @@
-use Rattle.std.proofs.Common.{rules, ◌≡◌, ℕ, ◌+◌, ◌≤◌, length, drop, ◌-◌, ◌*◌, ◌<◌, ◌/◌, ◌%◌, Bool, true, false, nat_eq, nat_lt, List, [], ◌∷◌, ◌++◌, slice_index_or, slice_set, bit_and, bit_or, Fits, w8, w32, w64, Bor, MutBor}
-use Rattle.words.specs.Section.{most_words}
-use Rattle.numbers.specs.Limits.{most_image}
-use Rattle.model.specs.Reading.{read_head}
-use Rattle.numbers.specs.Answers.{place_at}
-use Rattle.head.specs.Heads.{read_kind, read_after_kind, head_at, declares, CountsRead}
+use Rattle.std.proofs.Common.{rules, ◌-◌}
 use Rattle.head.proofs.read_counts.Goals as goal
 use Rattle.numbers.proofs.Answering.{answering}
 use Rattle.head.proofs.Reading.{counts_laws}
 
--- src/lib.rt:105:32
 pub overflow_add-result-in-Read-number_up_to : goal.overflow_add-result-in-Read-number_up_to
 overflow_add-result-in-Read-number_up_to c = search (counts_laws, answering, rules)
 
--- src/lib.rt:93:1
 pub returns-in-Read-number_up_to : goal.returns-in-Read-number_up_to
 returns-in-Read-number_up_to c = search (counts_laws, answering, rules)
 
--- src/lib.rt:93:1
 pub returns-in-Fault-number_up_to : goal.returns-in-Fault-number_up_to
 returns-in-Fault-number_up_to c = search (counts_laws, answering, rules)
 
--- src/lib.rt:93:1
 pub returns-in-Fault : goal.returns-in-Fault
 returns-in-Fault c = search (counts_laws, answering, rules)

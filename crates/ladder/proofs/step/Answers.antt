@@ -1,44 +1,33 @@
-use Rattle.std.proofs.Common.{rules, ◌≡◌, ◌+◌, ◌*◌, ◌%◌, ◌≤◌, ◌<◌, length, set, ℕ, ◌-◌, ◌/◌, Bool, true, false, nat_eq, nat_lt, List, [], ◌∷◌, ◌++◌, slice_index_or, bit_and, bit_or, Fits, w8, w32, w64, Bor, MutBor}
-use Rattle.ladder.specs.Places.{most_number, series_in, parallel_in, taken_in, inverse_in, operated_in, Steady, Stepped, Ready, after_code}
+use Rattle.std.proofs.Common.{rules, ◌-◌}
 use Rattle.ladder.proofs.step.Goals as goal
 use Rattle.ladder.proofs.ByTest.{by-contact, by_bit_contact, by_operation, by_point_coil, by_bit_coil, by-none, before_coils, before_bit_coils, contact-first, bit_contact_first, point-coil, no_point_coil, bit-coil, no_bit_coil, at_point_coil, reaches-contact, reaches-coil, point-small, bit-small}
 
--- src/lib.rt:115:9
 pub take-requires : goal.take-requires
 take-requires c = search (point-small, rules)
 
--- src/lib.rt:115:9
 pub returns-then-what-lt-BIT_CONTACTS : goal.returns-then-what-lt-BIT_CONTACTS
 returns-then-what-lt-BIT_CONTACTS c = record { values-are = search (by-contact, rules); points-are = search (before_coils, contact-first, rules); bits_are = search (before_bit_coils, contact-first, rules) }
 
--- src/lib.rt:118:17
 pub bounds-bits-operand : goal.bounds-bits-operand
 bounds-bits-operand c = search (reaches-contact, rules)
 
--- src/lib.rt:119:9
 pub take-requires-then-what-lt-JOINS : goal.take-requires-then-what-lt-JOINS
 take-requires-then-what-lt-JOINS c = search (bit-small, rules)
 
--- src/lib.rt:119:9
 pub returns-then-what-lt-JOINS : goal.returns-then-what-lt-JOINS
 returns-then-what-lt-JOINS c = record { values-are = search (by_bit_contact, rules); points-are = search (before_coils, bit_contact_first, rules); bits_are = search (before_bit_coils, bit_contact_first, rules) }
 
--- src/lib.rt:122:9
 pub returns-then-what-lt-COIL : goal.returns-then-what-lt-COIL
 returns-then-what-lt-COIL c = record { values-are = search (by_operation, rules); points-are = search (before_coils, rules); bits_are = search (before_bit_coils, rules) }
 
--- src/lib.rt:126:9
 pub returns-then-what-eq-COIL : goal.returns-then-what-eq-COIL
 returns-then-what-eq-COIL c = record { values-are = search (by_point_coil, rules); points-are = search (point-coil, rules); bits_are = search (at_point_coil, rules) }
 
--- src/lib.rt:129:9
 pub write-requires-then-what-eq-BIT_COIL : goal.write-requires-then-what-eq-BIT_COIL
 write-requires-then-what-eq-BIT_COIL c = search (reaches-coil, rules)
 
--- src/lib.rt:130:9
 pub returns-then-what-eq-BIT_COIL : goal.returns-then-what-eq-BIT_COIL
 returns-then-what-eq-BIT_COIL c = record { values-are = search (by_bit_coil, rules); points-are = search (no_point_coil, rules); bits_are = search (bit-coil, rules) }
 
--- src/lib.rt:107:1
 pub returns : goal.returns
 returns c = record { values-are = search (by-none, rules); points-are = search (no_point_coil, rules); bits_are = search (no_bit_coil, rules) }

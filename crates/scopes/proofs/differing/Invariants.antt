@@ -1,7 +1,4 @@
-use Rattle.std.proofs.Common.{◌≡◌, not, ◌+◌, ◌*◌, ◌/◌, ◌^◌, ◌≤◌, ◌<◌, length, eqb, ℕ, ◌-◌}
-use Rattle.std.specs.Int.Bits.{bit_or}
-use Rattle.model.specs.Scopes as model
-use Rattle.scopes.specs.Sets.{word_digits, set_words, set_scopes, most_long, scopes_of, word_members, long_members, Declared, Differing}
+use Rattle.std.proofs.Common.{◌+◌, ◌-◌}
 use Rattle.scopes.proofs.differing.Given as goal
 use Rattle.scopes.proofs.Deciding.{Halved}
 

@@ -1,17 +1,12 @@
-use Rattle.std.proofs.Common.{rules, ◌≡◌, ℕ, ◌+◌, ◌-◌, ◌*◌, ◌<◌, ◌≤◌, length, ◌/◌, ◌%◌, Bool, true, false, nat_eq, nat_lt, List, [], ◌∷◌, ◌++◌, slice_index_or, slice_set, bit_and, bit_or, Fits, w8, w32, w64, Bor, MutBor}
-use Rattle.things.specs.Making.{Roomy}
-use Rattle.stops.specs.Stops.{stops_size, bit_of, KnownZ, Inside, IsStopped, NoneYet, Stopped}
+use Rattle.std.proofs.Common.{rules, ◌-◌}
 use Rattle.stops.proofs.none_yet.Goals as goal
 use Rattle.stops.proofs.Laws.{laws}
 
--- src/lib.rt:47:5
 pub loop-k-init : goal.loop-k-init
 loop-k-init c = search (laws, rules)
 
--- src/lib.rt:47:5
 pub loop-k-preserved : goal.loop-k-preserved
 loop-k-preserved c = search (laws, rules)
 
--- src/lib.rt:40:1
 pub returns : goal.returns
 returns c = search (laws, rules)

@@ -1,13 +1,9 @@
-use Rattle.std.proofs.Common.{length, ◌-◌, [], ◌++◌, ◌+◌, ◌*◌, ◌/◌, ◌%◌, ◌≤◌, ◌<◌, ◌≡◌, ℕ}
-use Rattle.model.specs.Jobs.{digits}
-use Rattle.text.specs.Placing.{Placed}
-use Rattle.text.specs.Hexadecimal.{hex_digit, hex_of}
+use Rattle.std.proofs.Common.{length, ◌-◌}
 use Rattle.text.proofs.put_text.Given as goal
 use Rattle.text.proofs.Placing.{Texting}
 
 abbrev pub invariant-loop-i : goal.invariant-loop-i
 invariant-loop-i l = Texting l.initial.out l.at l.text l.out l.to l.i
 
--- proposed from the loop's first test
 abbrev pub decreases-loop-i : goal.decreases-loop-i
 decreases-loop-i l = length l.text - l.i

@@ -1,27 +1,18 @@
-use Rattle.std.proofs.Common.{rules, ◌≡◌, ℕ, ◌+◌, ◌≤◌, min, max, length, ◌-◌, ◌*◌, ◌<◌, ◌/◌, ◌%◌, Bool, true, false, nat_eq, nat_lt, List, [], ◌∷◌, ◌++◌, slice_index_or, slice_set, bit_and, bit_or, Fits, w8, w32, w64, Bor, MutBor}
-use Rattle.things.specs.Turning.{Turnable, Turned}
-use Rattle.things.specs.Making.{Roomy, Stored, StoredObject, Linkable, Linked, Closable, Closed}
-use Rattle.things.specs.Measuring.{Seen, SeenP, Measured, MeasuredP, MeasuredL}
-use Rattle.table.specs.Sizes.{node_size, most_size}
+use Rattle.std.proofs.Common.{rules, ◌-◌}
 use Rattle.things.proofs.turn.Goals as goal
 use Rattle.things.proofs.Turning.{laws}
 
--- src/lib.rt:207:5
 pub loop-from-init : goal.loop-from-init
 loop-from-init c = search (laws, rules)
 
--- src/lib.rt:209:13
 pub link-m-requires : goal.link-m-requires
 link-m-requires c = search (laws, rules)
 
--- src/lib.rt:207:5
 pub loop-from-smaller : goal.loop-from-smaller
 loop-from-smaller c = search (laws, rules)
 
--- src/lib.rt:207:5
 pub loop-from-preserved : goal.loop-from-preserved
 loop-from-preserved c = search (laws, rules)
 
--- src/lib.rt:200:1
 pub returns : goal.returns
 returns c = search (laws, rules)

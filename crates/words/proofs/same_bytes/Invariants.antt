@@ -1,14 +1,10 @@
-use Rattle.std.proofs.Common.{length, ◌-◌, ◌≡◌, ℕ, ◌+◌, ◌≤◌, ◌*◌, ◌<◌}
-use Rattle.numbers.specs.Limits.{most_image}
-use Rattle.model.specs.Reading.{word_byte, first_byte, all_word_bytes, good_word, same_bytes, among, core_words}
-use Rattle.numbers.specs.Answers.{number_at}
-use Rattle.words.specs.Section.{word_length, Old, Stands, Midway, WordsRead}
+use Rattle.std.proofs.Common.{length, ◌-◌, ◌≡◌, ◌≤◌}
+use Rattle.model.specs.Reading.{same_bytes}
 use Rattle.words.proofs.same_bytes.Given as goal
 use lib.ListN.{drop}
 
 abbrev pub invariant-loop-i : goal.invariant-loop-i
 invariant-loop-i l = (l.i ≤ length l.a) × (length l.a ≡ length l.b) × (same_bytes l.a l.b ≡ same_bytes (drop l.i l.a) (drop l.i l.b))
 
--- proposed from the loop's first test
 abbrev pub decreases-loop-i : goal.decreases-loop-i
 decreases-loop-i l = length l.a - l.i

@@ -1,20 +1,12 @@
-use Rattle.std.proofs.Common.{rules, ◌≡◌, ◌+◌, ◌*◌, ◌≤◌, length, ℕ, ◌-◌, ◌<◌, ◌/◌, ◌%◌, Bool, true, false, nat_eq, nat_lt, List, [], ◌∷◌, ◌++◌, slice_index_or, slice_set, bit_and, bit_or, Fits, w8, w32, w64, Bor, MutBor}
-use Rattle.std.proofs.lemmas.List.Edits.{sets}
-use Rattle.bindings.specs.Lengths.{longest_binding, longest_bindings}
-use Rattle.model.specs.Writing.{bind_bytes, binds_bytes}
-use Rattle.store.specs.Words.{bind_of, binds_of}
-use Rattle.store.specs.Sizes.{binding_size, most_bindings}
+use Rattle.std.proofs.Common.{rules, ◌-◌}
 use Rattle.bindings.proofs.storing.bindings_len.Goals as goal
 use Rattle.bindings.proofs.Lengths.{storing_laws}
 
--- src/storing.rt:44:5
 pub loop-i-init : goal.loop-i-init
 loop-i-init c = search (storing_laws, rules)
 
--- src/storing.rt:44:5
 pub loop-i-preserved : goal.loop-i-preserved
 loop-i-preserved c = search (storing_laws, rules)
 
--- src/storing.rt:38:1
 pub returns : goal.returns
 returns c = search (storing_laws, rules)

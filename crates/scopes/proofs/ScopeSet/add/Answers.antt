@@ -1,12 +1,10 @@
 use Rattle.model.specs.Scopes.{add}
 use mathlib.Core.Path.{ap, ◌∙◌}
-use Rattle.std.proofs.Common.{rules, ◌≡◌, not, ◌+◌, ◌*◌, ◌/◌, ◌^◌, ◌≤◌, ◌<◌, length, eqb, ℕ, ◌-◌, ◌%◌, Bool, true, false, nat_lt, List, [], ◌∷◌, ◌++◌, slice_index_or, slice_set, bit_and, Fits, w8, w32, w64, Bor, MutBor}
+use Rattle.std.proofs.Common.{ℕ, ◌-◌}
 use Rattle.std.specs.Int.Bits.{bit_or}
-use Rattle.model.specs.Scopes as model
-use Rattle.scopes.specs.Sets.{word_digits, set_words, set_scopes, most_long, scopes_of, word_members, long_members, Declared, Differing}
+use Rattle.scopes.specs.Sets.{scopes_of}
 use Rattle.scopes.proofs.ScopeSet.add.Goals as goal
 
--- src/lib.rt:73:5
 pub returns : goal.returns
 unfolding add
 returns c = c.union.ensures ∙ ap (λ (one : ℕ). bit_or one (scopes_of c.args.self)) c.only-one.ensures

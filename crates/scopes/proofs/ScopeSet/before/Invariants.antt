@@ -1,13 +1,10 @@
-use Rattle.std.proofs.Common.{◌-◌, ◌≡◌, not, ◌+◌, ◌*◌, ◌/◌, ◌^◌, ◌≤◌, ◌<◌, length, eqb, ℕ}
-use Rattle.std.specs.Int.Bits.{bit_or}
-use Rattle.model.specs.Scopes as model
-use Rattle.scopes.specs.Sets.{word_digits, set_words, set_scopes, most_long, scopes_of, word_members, long_members, Declared, Differing}
+use Rattle.std.proofs.Common.{◌-◌, ◌≡◌}
+use Rattle.scopes.specs.Sets.{set_words}
 use Rattle.scopes.proofs.ScopeSet.before.Given as goal
 use Rattle.scopes.proofs.Ops.{Each}
 
 abbrev pub invariant-loop-i : goal.invariant-loop-i
 invariant-loop-i l = Each (λ x y. x ≡ y) set_words l.self.words l.other.words l.i
 
--- proposed from the loop's first test
 abbrev pub decreases-loop-i : goal.decreases-loop-i
 decreases-loop-i l = 4 - l.i

@@ -1,12 +1,7 @@
 use mathlib.Core.Path.{refl}
 use Rattle.scopes.specs.Sets.{words_from}
-use Rattle.std.proofs.Common.{rules, ◌≡◌, not, ◌+◌, ◌*◌, ◌/◌, ◌^◌, ◌≤◌, ◌<◌, length, eqb, ℕ, ◌-◌, ◌%◌, Bool, true, false, nat_lt, List, [], ◌∷◌, ◌++◌, slice_index_or, slice_set, bit_and, Fits, w8, w32, w64, Bor, MutBor}
-use Rattle.std.specs.Int.Bits.{bit_or}
-use Rattle.model.specs.Scopes as model
-use Rattle.scopes.specs.Sets.{word_digits, set_words, set_scopes, most_long, scopes_of, word_members, long_members, Declared, Differing}
 use Rattle.scopes.proofs.ScopeSet.empty.Goals as goal
 
--- src/lib.rt:51:5
 pub returns : goal.returns
 unfolding words_from
 returns c = refl

@@ -1,13 +1,10 @@
-use Rattle.std.proofs.Common.{rules, ◌≡◌, not, ◌+◌, ◌*◌, ◌/◌, ◌^◌, ◌≤◌, ◌<◌, length, eqb, ℕ, ◌-◌, ◌%◌, Bool, true, false, nat_lt, List, [], ◌∷◌, ◌++◌, slice_index_or, slice_set, bit_and, Fits, w8, w32, w64, Bor, MutBor}
-use Rattle.std.specs.Int.Bits.{bit_or}
-use Rattle.model.specs.Scopes as model
-use Rattle.scopes.specs.Sets.{word_digits, set_words, set_scopes, most_long, scopes_of, word_members, long_members, Declared, Differing}
+use Rattle.std.proofs.Common.{rules}
+use Rattle.scopes.specs.Sets.{set_words}
 use Rattle.scopes.proofs.ScopeSet.has.Goals as goal
 use Rattle.scopes.proofs.Ops.{of_fits}
 use Rattle.scopes.proofs.Members.{has_words}
 use native.Mathlib.Omega.{arith}
 use mathlib.Core.Path.{sym}
 
--- src/lib.rt:133:5
 pub returns : goal.returns
 returns c = sym (has_words c.args.k.0 set_words _ (search (of_fits, rules)) c.requires.from_one (omega arith))

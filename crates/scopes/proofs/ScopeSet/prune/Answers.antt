@@ -1,10 +1,6 @@
-use Rattle.std.proofs.Common.{rules, ◌≡◌, not, ◌+◌, ◌*◌, ◌/◌, ◌^◌, ◌≤◌, ◌<◌, length, eqb, ℕ, ◌-◌, ◌%◌, Bool, true, false, nat_lt, List, [], ◌∷◌, ◌++◌, slice_index_or, slice_set, bit_and, Fits, w8, w32, w64, Bor, MutBor}
-use Rattle.std.specs.Int.Bits.{bit_or}
-use Rattle.model.specs.Scopes as model
-use Rattle.scopes.specs.Sets.{word_digits, set_words, set_scopes, most_long, scopes_of, word_members, long_members, Declared, Differing}
+use Rattle.std.proofs.Common.{rules, ◌-◌}
 use Rattle.scopes.proofs.ScopeSet.prune.Goals as goal
 use Rattle.scopes.proofs.Ops.{prune-all, of_fits}
 
--- src/lib.rt:93:5
 pub returns : goal.returns
 returns c = search (prune-all, of_fits, rules)

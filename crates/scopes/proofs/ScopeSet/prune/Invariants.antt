@@ -1,7 +1,5 @@
-use Rattle.std.proofs.Common.{◌-◌, ◌≡◌, not, ◌+◌, ◌*◌, ◌/◌, ◌^◌, ◌≤◌, ◌<◌, length, eqb, ℕ}
-use Rattle.std.specs.Int.Bits.{bit_or}
-use Rattle.model.specs.Scopes as model
-use Rattle.scopes.specs.Sets.{word_digits, set_words, set_scopes, most_long, scopes_of, word_members, long_members, Declared, Differing}
+use Rattle.std.proofs.Common.{◌-◌}
+use Rattle.scopes.specs.Sets.{set_words}
 use Rattle.scopes.proofs.ScopeSet.prune.Given as goal
 use lib.Bits.{bit_and, bit_xor}
 use Rattle.scopes.proofs.Ops.{Over}
@@ -9,6 +7,5 @@ use Rattle.scopes.proofs.Ops.{Over}
 abbrev pub invariant-loop-i : goal.invariant-loop-i
 invariant-loop-i l = Over (λ p m. bit_xor m (bit_and p m)) set_words l.prunable.words l.self.words l.r.words l.i
 
--- proposed from the loop's first test
 abbrev pub decreases-loop-i : goal.decreases-loop-i
 decreases-loop-i l = 4 - l.i

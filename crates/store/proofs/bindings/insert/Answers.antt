@@ -1,12 +1,8 @@
-use Rattle.std.proofs.Common.{rules, ◌≡◌, ◌+◌, ◌*◌, ◌%◌, ◌≤◌, length, ℕ, ◌-◌, ◌<◌, ◌/◌, Bool, true, false, nat_eq, nat_lt, List, [], ◌∷◌, ◌++◌, slice_index_or, slice_set, bit_and, bit_or, Fits, w8, w32, w64, Bor, MutBor}
-use Rattle.model.specs.Resolving as model
-use Rattle.store.specs.Words.{bind_of, bind_at, Put, Placed, Shifted, Inserts}
-use Rattle.store.specs.Sizes.{binding_size}
+use Rattle.std.proofs.Common.{◌-◌}
 use Rattle.store.proofs.bindings.insert.Goals as goal
 use native.Mathlib.Omega.{arith}
 use Rattle.store.proofs.Runs.{inserted}
 
--- src/bindings.rt:101:1
 pub returns : goal.returns
 returns c = inserted _ _ _ _ _ _ (omega arith)
     c.place-i.ensures

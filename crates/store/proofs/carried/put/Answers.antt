@@ -1,10 +1,6 @@
-use Rattle.std.proofs.Common.{rules, ◌≡◌, ◌+◌, ◌≤◌, length, ℕ, ◌-◌, ◌*◌, ◌<◌, ◌/◌, ◌%◌, Bool, true, false, nat_eq, nat_lt, List, [], ◌∷◌, ◌++◌, slice_index_or, slice_set, bit_and, bit_or, Fits, w8, w32, w64, Bor, MutBor}
-use Rattle.scopes.specs.Sets.{scopes_of, words_from, word_digits, set_words}
-use Rattle.store.specs.Words.{prunable_of, uses_of, SetPut, Carries}
-use Rattle.store.specs.Sizes.{held_size}
+use Rattle.std.proofs.Common.{rules}
 use Rattle.store.proofs.carried.put.Goals as goal
 use Rattle.store.proofs.Carrying.{both_put}
 
--- src/carried.rt:48:1
 pub returns : goal.returns
 returns c = search (both_put, rules)

@@ -1,17 +1,9 @@
-use Rattle.std.proofs.Common.{rules, ◌≡◌, ◌&&◌, ◌*◌, ◌≤◌, length, ℕ, ◌+◌, ◌-◌, ◌<◌, ◌/◌, ◌%◌, Bool, true, false, nat_eq, nat_lt, List, [], ◌∷◌, ◌++◌, slice_index_or, slice_set, bit_and, bit_or, Fits, w8, w32, w64, Bor, MutBor}
-use Rattle.model.specs.Resolving.{candidate, candidates}
-use Rattle.model.specs.Competing as model
-use Rattle.scopes.specs.Sets.{scopes_of}
-use Rattle.store.specs.Words.{bind_of, binds_of}
-use Rattle.store.specs.Rivalry.{rivals_of, NextRival}
-use Rattle.store.specs.Sizes.{binding_size}
+use Rattle.std.proofs.Common.{rules, ◌-◌}
 use Rattle.store.proofs.rivals.is_candidate.Goals as goal
 use Rattle.store.proofs.Competing.{candidate_laws}
 
--- src/rivals.rt:38:9
 pub returns-then-b-x : goal.returns-then-b-x
 returns-then-b-x c = search (candidate_laws, rules)
 
--- src/rivals.rt:33:1
 pub returns : goal.returns
 returns c = search (candidate_laws, rules)

@@ -1,14 +1,7 @@
-use Rattle.std.proofs.Common.{rules, ◌≡◌, [], ◌+◌, ◌-◌, ◌*◌, ◌≤◌, ◌<◌, length, ℕ, ◌/◌, ◌%◌, Bool, true, false, nat_eq, nat_lt, List, ◌∷◌, ◌++◌, slice_index_or, slice_set, bit_and, bit_or, Fits, w8, w32, w64, Bor, MutBor}
-use Rattle.scopes.specs.Sets.{set_scopes}
-use Rattle.numbers.specs.Limits.{most_image}
-use Rattle.numbers.specs.Answers.{seen_at, unseen}
-use Rattle.store.specs.Words.{bind_of}
-use Rattle.bindings.specs.Sections.{read_one, read_target, read_all, no_bind, bind_seen, binds_seen, MoreRead, SomeRead}
-use Rattle.store.specs.Sizes.{binding_size, store_size, most_bindings}
+use Rattle.std.proofs.Common.{rules}
 use Rattle.bindings.proofs.loading.BindingRead.fault.Goals as goal
 use Rattle.numbers.proofs.Answering.{answering}
 use Rattle.bindings.proofs.InTurn.{loading_laws}
 
--- src/loading.rt:33:5
 pub returns : goal.returns
 returns c = search (loading_laws, answering, rules)
