@@ -1,0 +1,27 @@
+use Rattle.std.proofs.Common.{◌+◌, ◌≡◌, ℕ, ◌-◌, ◌*◌, ◌<◌, ◌≤◌, length}
+use Rattle.builder.specs.Reads.{ObjectRead, ObjectsRead, TreeRead, TreesRead, AtomRead, FunctionRead, ListRead}
+use Rattle.builder.specs.Fronts.{NumberHere, NumberRead, FrontHere, FrontRead}
+use Rattle.builder.specs.Building.{Judged, JudgedAll, Builds, BuildsAll, StoredLeaf}
+use Rattle.things.specs.Making.{Roomy}
+use Rattle.table.specs.Sizes.{node_size}
+use Rattle.builder.proofs.+building_trees.Given as goal
+use Rattle.builder.proofs.ChainLaws.{Going}
+
+abbrev pub decreases-function : goal.decreases-function
+decreases-function l = (length l.image.now.now - l.at) * 3 + 1
+
+abbrev pub decreases-list : goal.decreases-list
+decreases-list l = (length l.image.now.now - l.at) * 3 + 2
+
+abbrev pub decreases-tree : goal.decreases-tree
+decreases-tree l = (length l.image.now.now - l.at) * 3
+
+abbrev pub decreases-trees : goal.decreases-trees
+decreases-trees l = (length l.image.now.now - l.at) * 3 + 1
+
+abbrev pub invariant-trees-loop-left : goal.invariant-trees-loop-left
+invariant-trees-loop-left l = Going (TreesRead l.scopes) l.count l.initial.table l.top l.image l.at l.table l.end l.past l.left l.turned
+
+-- proposed from the loop's first test
+abbrev pub decreases-trees-loop-left : goal.decreases-trees-loop-left
+decreases-trees-loop-left l = l.left
