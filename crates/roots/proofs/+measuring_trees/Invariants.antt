@@ -5,24 +5,25 @@ use Rattle.numbers.specs.Limits.{most_image}
 use Rattle.head.specs.Fronts.{most_names}
 use Rattle.scopes.specs.Sets.{set_scopes}
 use Rattle.roots.proofs.+measuring_trees.Given as goal
+use Rattle.roots.proofs.Trees.{All}
 
 abbrev pub decreases-measure_all : goal.decreases-measure_all
-decreases-measure_all l = ? -- old: 4 * l.a.1.1.1.1.0 + 1
+decreases-measure_all l = 4 * l.levels + 1
 
 abbrev pub decreases-measure_body : goal.decreases-measure_body
-decreases-measure_body l = ? -- old: 4 * l.a.1.1.1.1.0 - 1
+decreases-measure_body l = 4 * l.levels - 1
 
 abbrev pub decreases-measure_function : goal.decreases-measure_function
-decreases-measure_function l = ? -- old: 4 * l.a.1.1.1.1.0 + 1
+decreases-measure_function l = 4 * l.levels + 1
 
 abbrev pub decreases-measure_several : goal.decreases-measure_several
-decreases-measure_several l = ? -- old: 4 * l.a.1.1.1.1.0 + 2
+decreases-measure_several l = 4 * l.levels + 2
 
 abbrev pub decreases-measure_tree : goal.decreases-measure_tree
-decreases-measure_tree l = ? -- old: 4 * l.a.1.1.1.1.0
+decreases-measure_tree l = 4 * l.levels
 
 abbrev pub invariant-measure_all-loop-left : goal.invariant-measure_all-loop-left
-invariant-measure_all-loop-left l = ? -- old: 
+invariant-measure_all-loop-left l = All l.c.at l.counts l.levels l.low l.s l.initial.around l.count l.around l.here.at l.left l.size l.owned
 
 -- proposed from the loop's first test
 abbrev pub decreases-measure_all-loop-left : goal.decreases-measure_all-loop-left

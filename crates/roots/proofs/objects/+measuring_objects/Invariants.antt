@@ -4,18 +4,19 @@ use Rattle.roots.specs.MeasuredObjects.{read_content_of, read_top, measure_stx, 
 use Rattle.numbers.specs.Limits.{most_image}
 use Rattle.scopes.specs.Sets.{set_scopes}
 use Rattle.roots.proofs.objects.+measuring_objects.Given as goal
+use Rattle.roots.proofs.ObjectLaws.{Parts}
 
 abbrev pub decreases-measure_list : goal.decreases-measure_list
-decreases-measure_list l = ? -- old: 3 * l.a.1.1.1.1.0 + 2
+decreases-measure_list l = 3 * l.levels + 2
 
 abbrev pub decreases-measure_object : goal.decreases-measure_object
-decreases-measure_object l = ? -- old: 3 * l.a.1.1.1.1.0
+decreases-measure_object l = 3 * l.levels
 
 abbrev pub decreases-measure_parts : goal.decreases-measure_parts
-decreases-measure_parts l = ? -- old: 3 * l.a.1.1.1.1.0 + 1
+decreases-measure_parts l = 3 * l.levels + 1
 
 abbrev pub invariant-measure_parts-loop-left : goal.invariant-measure_parts-loop-left
-invariant-measure_parts-loop-left l = ? -- old: 
+invariant-measure_parts-loop-left l = Parts l.c.at l.symbols l.scopes l.levels l.s l.count l.here.at l.left l.sum
 
 -- proposed from the loop's first test
 abbrev pub decreases-measure_parts-loop-left : goal.decreases-measure_parts-loop-left
