@@ -7,7 +7,7 @@ use native.Mathlib.Omega.{arith}
 use mathlib.Core.Bool.{Bool, true, false, false≢true}
 use mathlib.Core.List.{List, [], ◌∷◌}
 use lib.ListN.{length}
-use Rattle.model.specs.Choice.{if◌then◌else◌}
+use Rattle.model.specs.Choice.{when◌then◌else◌}
 use Rattle.model.specs.Limits.{most_entries, most_image}
 use Rattle.model.specs.Refusals.{Refusal, over_budget, unowned}
 use Rattle.model.specs.Scopes.{no_scopes}
@@ -234,7 +234,7 @@ module _ (image : List ℕ) (is-bytes : Bytes image) (budget : ℕ) (b : List �
       work = evaluate-root n tree-read tree-fits owned
 
       go : (t : Bool) → t ≡ true
-          → Fine (if t then worked n (evaluate_root tree s₀) (λ r s. fitted room (tree_image_bytes (reached result.head s) r) (n - s.left)) else refused unowned no_rivals 0)
+          → Fine (when t then worked n (evaluate_root tree s₀) (λ r s. fitted room (tree_image_bytes (reached result.head s) r) (n - s.left)) else refused unowned no_rivals 0)
       go true e = worked_fine n _ (λ r s. fitted_fine room (tree_image_bytes (reached result.head s) r) (n - s.left)) work
       go false e = absurd (false≢true e)
 

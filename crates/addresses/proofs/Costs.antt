@@ -4,7 +4,7 @@ use Prim.Native.Nat.{ℕ, ◌+◌, ◌-◌, ◌≤◌, ◌<◌, zero-le}
 use native.Mathlib.Omega.{arith}
 use mathlib.Core.Bool.{Bool, true, false}
 use lib.Dec.{leb}
-use Rattle.model.specs.Choice.{if◌then◌else◌}
+use Rattle.model.specs.Choice.{when◌then◌else◌}
 use Rattle.model.specs.Refusals.{over_budget}
 use Rattle.model.specs.Competing.{no_rivals}
 use Rattle.model.specs.Steps.{State, Out, ok, no, Step, after, charge}
@@ -38,7 +38,7 @@ pub charge_costs : (n : ℕ) (s : State) → Costs (Unit {0}) tt n s (charge n s
 unfolding charge spend
 charge_costs n s = go (leb n s.left) refl
   where
-    go : (b : Bool) → leb n s.left ≡ b → Costs (Unit {0}) tt n s (if b then ok tt (spend n s) else no over_budget no_rivals s.left)
+    go : (b : Bool) → leb n s.left ≡ b → Costs (Unit {0}) tt n s (when b then ok tt (spend n s) else no over_budget no_rivals s.left)
     go true e = paid (leb-true n s.left e)
     go false e = short s.left (leb-false n s.left e)
 

@@ -6,7 +6,7 @@ use mathlib.Core.Bool.{Bool, true, false, ◌&&◌}
 use mathlib.Core.List.{List, [], ◌∷◌, ◌++◌}
 use lib.Dec.{leb}
 use lib.ListN.{length, take, drop, length-append}
-use Rattle.model.specs.Choice.{if◌then◌else◌}
+use Rattle.model.specs.Choice.{when◌then◌else◌}
 use Rattle.model.specs.Limits.{most_image, most_entries, last_phase}
 use Rattle.model.specs.Refusals.{Refusal, layout, over_limit, unowned, wrong_kind, small_table, ambiguous, no_meaning, no_rule, no_syntax, not_applicable, wrong_argument, no_phase, no_name_left, no_scope_left, no_binding_left, too_deep, too_many_entries, over_budget, too_long, outside_use, code_of}
 use Rattle.model.specs.Objects.{Stx, size}
@@ -51,7 +51,7 @@ parse_work budget room i =
 
 abbrev pub evaluate_work : ℕ → ℕ → Image Tree → Ending
 evaluate_work budget room i =
-    if closed [] i.root
+    when closed [] i.root
     then worked budget (evaluate_root i.root (start budget i)) (λ r s. fitted room (tree_image_bytes (reached i.head s) r) (budget - s.left))
     else refused unowned no_rivals 0
 
@@ -120,7 +120,7 @@ pub lent_cases : (P : Result → Type 0) (budget : ℕ) (table output : List ℕ
 unfolding lent
 lent_cases P budget table output e p q = go (budget_fits budget (length table))
   where
-    go : (b : Bool) → P (if b then after-ending budget table output e else untouched table output)
+    go : (b : Bool) → P (when b then after-ending budget table output e else untouched table output)
     go true = p
     go false = q
 
@@ -147,7 +147,7 @@ module _ (P : Ending → Type 0) (by-refusal : (r : Refusal) (p : Rivals) (u : �
   unfolding fitted
   fitted_case room b u h = go (leb (length b) room && leb (length b) most_image) refl
     where
-      go : (t : Bool) → (leb (length b) room && leb (length b) most_image) ≡ t → P (if t then written b u else refused too_long no_rivals u)
+      go : (t : Bool) → (leb (length b) room && leb (length b) most_image) ≡ t → P (when t then written b u else refused too_long no_rivals u)
       go true e = h (leb-true (length b) most_image (and_both (leb (length b) room) (leb (length b) most_image) e).1)
       go false e = by-refusal too_long no_rivals u
 
@@ -165,7 +165,7 @@ module _ (P : Ending → Type 0) (by-refusal : (r : Refusal) (p : Rivals) (u : �
   unfolding at_phase
   phase_case ph e h = go (leb ph last_phase)
     where
-      go : (t : Bool) → P (if t then e else refused no_phase no_rivals 0)
+      go : (t : Bool) → P (when t then e else refused no_phase no_rivals 0)
       go true = h
       go false = by-refusal no_phase no_rivals 0
 

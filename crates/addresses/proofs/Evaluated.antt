@@ -7,7 +7,7 @@ use mathlib.Core.Bool.{Bool, true, false}
 use mathlib.Core.Option.{Option, none, some}
 use mathlib.Core.List.{[]}
 use lib.Dec.{eqb}
-use Rattle.model.specs.Choice.{if◌then◌else◌, given}
+use Rattle.model.specs.Choice.{when◌then◌else◌, given}
 use Rattle.model.specs.Limits.{most_nesting}
 use Rattle.model.specs.Objects.{number, Sets, Stx, atom, list, Stxs, nil, cons, same_atom}
 use Rattle.model.specs.Trees.{Tree, var, app, fun, datum, lst, stx, Trees, tnil, tcons, tnesting, tnestings, substitute, substitute_all, as_stx, as_atom, as_list, as_number, from_stxs, to_stxs}
@@ -100,11 +100,11 @@ module _ (k n m : ℕ) where
 
   -- ---- substitution
 
-  if_fits : (b : Bool) (t u : Tree) → TreeFits k n m t → TreeFits k n m u → TreeFits k n m (if b then t else u)
+  if_fits : (b : Bool) (t u : Tree) → TreeFits k n m t → TreeFits k n m u → TreeFits k n m (when b then t else u)
   if_fits true t u i j = i
   if_fits false t u i j = j
 
-  if_value : (b : Bool) (t u : Tree) → IsValue t → IsValue u → IsValue (if b then t else u)
+  if_value : (b : Bool) (t u : Tree) → IsValue t → IsValue u → IsValue (when b then t else u)
   if_value true t u i j = i
   if_value false t u i j = j
 
@@ -213,7 +213,7 @@ module _ (k n m : ℕ) where
   unfolding closed
   list-closed t l g e = subst (λ (z : Tree). closed [] z ≡ true) (list-is t l e) g.0.owned
 
-  one_or_none : (b : Bool) → (if b then 1 else 0) < 4294967296
+  one_or_none : (b : Bool) → (when b then 1 else 0) < 4294967296
   one_or_none true = omega arith
   one_or_none false = omega arith
 
@@ -243,7 +243,7 @@ module _ (k n m : ℕ) where
   primitive-made same a b c v i j l e =
       let g = given-some (as_atom a) _ v e in
       let h = given-some (as_atom b) _ v g.2 in
-      subst Made (some-value (datum (number (if same_atom g.0 h.0 then 1 else 0))) v h.2) (one_or_none (same_atom g.0 h.0), refl, tt)
+      subst Made (some-value (datum (number (when same_atom g.0 h.0 then 1 else 0))) v h.2) (one_or_none (same_atom g.0 h.0), refl, tt)
   primitive-made pick a b c v i j l e =
       let g = given-some (as_atom a) _ v e in
       let h = given-some (as_number g.0) _ v g.2 in

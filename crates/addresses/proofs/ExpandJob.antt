@@ -8,7 +8,7 @@ use mathlib.Core.Bool.{Bool, true, false, ◌&&◌}
 use mathlib.Core.List.{List}
 use lib.Dec.{leb}
 use lib.ListN.{length}
-use Rattle.model.specs.Choice.{if◌then◌else◌}
+use Rattle.model.specs.Choice.{when◌then◌else◌}
 use Rattle.model.specs.Limits.{core_names, most_entries, most_image, last_phase}
 use Rattle.model.specs.Refusals.{Refusal, layout, over_limit, unowned, wrong_kind, small_table, ambiguous, no_meaning, no_rule, no_syntax, not_applicable, wrong_argument, no_phase, no_name_left, no_scope_left, no_binding_left, too_deep, too_many_entries, over_budget, too_long, outside_use, code_of}
 use Rattle.model.specs.Objects.{Stx, size}
@@ -114,7 +114,7 @@ pub fitted_fine : (room : ℕ) (b : List ℕ) (u : ℕ) → Fine (fitted room b 
 unfolding fitted
 fitted_fine room b u = go (leb (length b) room && leb (length b) most_image)
   where
-    go : (t : Bool) → Fine (if t then written b u else refused too_long no_rivals u)
+    go : (t : Bool) → Fine (when t then written b u else refused too_long no_rivals u)
     go true = tt
     go false = refl
 
@@ -122,7 +122,7 @@ phase_fine : (ph : ℕ) (e : Ending) → Fine e → Fine (at_phase ph e)
 unfolding at_phase
 phase_fine ph e h = go (leb ph last_phase)
   where
-    go : (t : Bool) → Fine (if t then e else refused no_phase no_rivals 0)
+    go : (t : Bool) → Fine (when t then e else refused no_phase no_rivals 0)
     go true = h
     go false = refl
 

@@ -5,7 +5,7 @@ use mathlib.Core.Bool.{Bool, true, false, not, ◌&&◌, ◌||◌}
 use mathlib.Core.List.{List, [], ◌∷◌}
 use lib.Dec.{eqb, ltb, leb}
 use lib.ListN.{length}
-use Rattle.model.specs.Choice.{if◌then◌else◌}
+use Rattle.model.specs.Choice.{when◌then◌else◌}
 use Rattle.model.specs.Limits.{most_scopes, most_names, core_names, most_bindings, most_nesting, most_word_length, most_image, last_point, last_primitive, last_rung_word}
 use Rattle.model.specs.Refusals.{Refusal, layout, over_limit, wrong_kind}
 use Rattle.model.specs.Scopes.{Scopes, add}
@@ -38,7 +38,7 @@ needs : (c : Refusal) → OfReader c → (b : Bool) (s : List ℕ) → Reads (Un
 needs c p true s = reads tt s
 needs c p false s = faults c p
 
-if_reads : {A : Type 0} (b : Bool) (x y : Read A) → Reads A x → Reads A y → Reads A (if b then x else y)
+if_reads : {A : Type 0} (b : Bool) (x y : Read A) → Reads A x → Reads A y → Reads A (when b then x else y)
 if_reads true x y p q = p
 if_reads false x y p q = q
 
@@ -57,7 +57,7 @@ unfolding at_end
 end_reads [] = reads tt []
 end_reads (b ∷ s) = faults layout of_layout
 
-if_at : {A : Type 0} (b : Bool) (x y : Reader A) (s : List ℕ) → Reads A (x s) → Reads A (y s) → Reads A ((if b then x else y) s)
+if_at : {A : Type 0} (b : Bool) (x y : Reader A) (s : List ℕ) → Reads A (x s) → Reads A (y s) → Reads A ((when b then x else y) s)
 if_at true x y s p q = p
 if_at false x y s p q = q
 

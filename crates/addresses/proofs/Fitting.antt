@@ -5,7 +5,7 @@ use Prim.Native.Nat.{ℕ, zero, suc, ◌^◌, ◌≤◌, ◌<◌, max}
 use native.Mathlib.Nat.{le_trans, zero-lt-suc, pow-le-pow_right, lt_of_le_of_lt}
 use lib.Bits.{or_lt, xor_lt, and_le_r, bit_and}
 use lib.Pow.{pow_pos}
-use Rattle.model.specs.Choice.{if◌then◌else◌}
+use Rattle.model.specs.Choice.{when◌then◌else◌}
 use Rattle.model.specs.Scopes.{Scopes, has, only, add, flip, prune}
 use Rattle.model.specs.Objects.{Sets, change_at, Stx, atom, list, Stxs, nil, cons, nesting, nestings, on_sets, on_sets_all, add_scope, flip_scope, prune_scopes}
 use Rattle.model.specs.Trees.{Tree, var, app, fun, datum, lst, stx, Trees, tnil, tcons, tnesting, tnestings, strip, strip_all}
@@ -88,7 +88,7 @@ flip_in_lem : (j n : ℕ) → j ≤ n → (a : Scopes) → a < 2 ^ n → flip j 
 unfolding flip
 flip_in_lem j n h a q = go (has j a)
   where
-    go : (t : Bool) → (if t then prune (only j) a else add j a) < 2 ^ n
+    go : (t : Bool) → (when t then prune (only j) a else add j a) < 2 ^ n
     go true = prune_in (only j) n a q
     go false = add_in j n h a q
 

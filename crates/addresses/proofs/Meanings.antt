@@ -7,7 +7,7 @@ use mathlib.Core.Bool.{Bool, true, false}
 use mathlib.Core.Option.{Option, none, some}
 use mathlib.Core.List.{List, [], ◌∷◌}
 use lib.Dec.{eqb}
-use Rattle.model.specs.Choice.{if◌then◌else◌}
+use Rattle.model.specs.Choice.{when◌then◌else◌}
 use Rattle.model.specs.Objects.{Sets, set_at, symbol, number, point, prim, rung, Stx, atom, list}
 use Rattle.model.specs.Trees.{Tree}
 use Rattle.model.specs.Resolving.{means, resolve}
@@ -115,7 +115,7 @@ module _ (k : ℕ) where
       bad stopped w p = w
       bad unknown w p = w
 
-      go : (t : Bool) → (meaning n e ≡ core f → form_of n ≡ some f) → (if t then m else meaning n e) ≡ core f → form_of n ≡ some f
+      go : (t : Bool) → (meaning n e ≡ core f → form_of n ≡ some f) → (when t then m else meaning n e) ≡ core f → form_of n ≡ some f
       go true r p = absurd (bad m g.0 p)
       go false r p = r p
 
@@ -132,7 +132,7 @@ module _ (k : ℕ) where
     where
       go : (t : Bool) → eqb n j ≡ t → (m : Meaning) → MeaningGood ph j s m
           → (meaning n e ≡ variable c x → MeaningGood ph n s (variable c x) × (is_among n (vars e) ≡ true))
-          → (if t then m else meaning n e) ≡ variable c x → MeaningGood ph n s (variable c x) × (is_among n (vars (extend j m e)) ≡ true)
+          → (when t then m else meaning n e) ≡ variable c x → MeaningGood ph n s (variable c x) × (is_among n (vars (extend j m e)) ≡ true)
       go true t (core h) w r p = absurd w
       go true t (variable c' x') w r p = (
         subst (λ (z : Meaning). MeaningGood ph n s z) p (subst (λ (z : ℕ). MeaningGood ph z s (variable c' x')) (sym (eqb-true n j t)) w),
@@ -157,7 +157,7 @@ module _ (k : ℕ) where
   meaning-macro ph s n (extend j m e) g v q = go (eqb n j) m g.0 (meaning-macro ph s n e g.1 v) q
     where
       go : (t : Bool) (m : Meaning) → MeaningGood ph j s m → (meaning n e ≡ macro v → ValueGood k s.names s.scopes v)
-          → (if t then m else meaning n e) ≡ macro v → ValueGood k s.names s.scopes v
+          → (when t then m else meaning n e) ≡ macro v → ValueGood k s.names s.scopes v
       go true (core h) w r p = absurd w
       go true (variable c x) w r p = absurd (differ (variable c x) (macro v) (omega arith) p)
       go true (macro u) w r p = subst (λ (z : Meaning). MeaningGood ph j s z) p w
@@ -197,7 +197,7 @@ module _ (k : ℕ) where
   unfolding meaning_among kind
   among-variable n e z c x q = go (is_among n z) q
     where
-      go : (b : Bool) → (if b then stopped else meaning n e) ≡ variable c x → meaning n e ≡ variable c x
+      go : (b : Bool) → (when b then stopped else meaning n e) ≡ variable c x → meaning n e ≡ variable c x
       go true p = absurd (differ stopped (variable c x) (omega arith) p)
       go false p = p
 
@@ -205,7 +205,7 @@ module _ (k : ℕ) where
   unfolding meaning_among kind
   among-macro n e z v q = go (is_among n z) q
     where
-      go : (b : Bool) → (if b then stopped else meaning n e) ≡ macro v → meaning n e ≡ macro v
+      go : (b : Bool) → (when b then stopped else meaning n e) ≡ macro v → meaning n e ≡ macro v
       go true p = absurd (differ stopped (macro v) (omega arith) p)
       go false p = p
 
@@ -213,7 +213,7 @@ module _ (k : ℕ) where
   unfolding meaning_among kind
   among-core n e z f q = go (is_among n z) q
     where
-      go : (b : Bool) → (if b then stopped else meaning n e) ≡ core f → meaning n e ≡ core f
+      go : (b : Bool) → (when b then stopped else meaning n e) ≡ core f → meaning n e ≡ core f
       go true p = absurd (differ stopped (core f) (omega arith) p)
       go false p = p
 
@@ -227,7 +227,7 @@ module _ (k : ℕ) where
       go (some h) p = differ (core h) stopped (omega arith) p
   none-stopped ph s n (extend j m e) g q = go (eqb n j) m g.0 (none-stopped ph s n e g.1) q
     where
-      go : (t : Bool) (m : Meaning) → MeaningGood ph j s m → (meaning n e ≡ stopped → ⊥) → (if t then m else meaning n e) ≡ stopped → ⊥
+      go : (t : Bool) (m : Meaning) → MeaningGood ph j s m → (meaning n e ≡ stopped → ⊥) → (when t then m else meaning n e) ≡ stopped → ⊥
       go true (core h) w r p = w
       go true (variable c x) w r p = differ (variable c x) stopped (omega arith) p
       go true (macro u) w r p = differ (macro u) stopped (omega arith) p
@@ -257,7 +257,7 @@ module _ (k : ℕ) where
   head-good ph c x n e z s g i q (core f) p = resolved_heads_stay_resolved ph c x n e s f g i q (among-core n e z f p)
   head-good ph c x n e z s g i q (variable b y) p = tt
   head-good ph c x n e z s g i q (macro v) p = macro-among ph s n e z g v p
-  head-good ph c x n e z s g i q stopped p = λ r. none-stopped ph s n e g (subst (λ (y : List ℕ). (if is_among n y then stopped else meaning n e) ≡ stopped) r p)
+  head-good ph c x n e z s g i q stopped p = λ r. none-stopped ph s n e g (subst (λ (y : List ℕ). (when is_among n y then stopped else meaning n e) ≡ stopped) r p)
   head-good ph c x n e z s g i q unknown p = tt
 
   pub head-out : (here : Surroundings) (h : Stx) (s : State) → Sorted s.binds → EnvGood here.phase s here.meanings → StxFits k s.scopes h

@@ -4,7 +4,7 @@ use Prim.Native.Nat.{ℕ, ◌≤◌}
 use native.Mathlib.Nat.{le_refl, le_trans, sub-le}
 use mathlib.Core.Bool.{Bool, true, false}
 use lib.Dec.{leb}
-use Rattle.model.specs.Choice.{if◌then◌else◌}
+use Rattle.model.specs.Choice.{when◌then◌else◌}
 use Rattle.model.specs.Limits.{most_nesting}
 use Rattle.model.specs.Refusals.{Refusal, layout, over_limit, unowned, wrong_kind, small_table, ambiguous, no_meaning, no_rule, no_syntax, not_applicable, wrong_argument, no_phase, no_name_left, no_scope_left, no_binding_left, too_deep, too_many_entries, over_budget, too_long, outside_use}
 use Rattle.model.specs.Scopes.{Scopes, no_scopes, add}
@@ -114,7 +114,7 @@ pub charge-out : (n : ℕ) (s : State) → Outcome (Unit {0}) (λ v t. Kept s t)
 unfolding charge spend
 charge-out n s = go (leb n s.left)
   where
-    go : (b : Bool) → Outcome (Unit {0}) (λ v t. Kept s t) (if b then ok tt (spend n s) else no over_budget no_rivals s.left)
+    go : (b : Bool) → Outcome (Unit {0}) (λ v t. Kept s t) (when b then ok tt (spend n s) else no over_budget no_rivals s.left)
     go true = gives tt (spend n s) (kept_spend n s)
     go false = stops over_budget no_rivals s.left refl
 

@@ -5,7 +5,7 @@ use Prim.Native.Nat.{ℕ}
 use mathlib.Core.Bool.{Bool, true, false, ◌||◌, false≢true}
 use mathlib.Core.List.{List, [], ◌∷◌}
 use lib.Dec.{eqb}
-use Rattle.model.specs.Choice.{if◌then◌else◌}
+use Rattle.model.specs.Choice.{when◌then◌else◌}
 use Rattle.model.specs.Objects.{Stx, atom, list, Stxs, nil, cons}
 use Rattle.model.specs.Trees.{Tree, var, app, fun, datum, lst, stx, Trees, tnil, tcons, substitute, substitute_all, strip, strip_all}
 use Rattle.model.specs.Meanings.{is_among}
@@ -83,22 +83,22 @@ one_name x y q = or_cases (eqb y x) false q
 
 -- a closed value put for the variable x
 module _ (x : ℕ) (v : Tree) (cv : closed [] v ≡ true) where
-  put_var : (a b : List ℕ) (y : ℕ) → Within x a b → is_among y a ≡ true → closed b (if eqb y x then v else var y) ≡ true
+  put_var : (a b : List ℕ) (y : ℕ) → Within x a b → is_among y a ≡ true → closed b (when eqb y x then v else var y) ≡ true
   unfolding closed
   put_var a b y h q = go (eqb y x) refl (h y q)
     where
-      go : (t : Bool) → eqb y x ≡ t → (eqb y x ≡ true) ⊎ (is_among y b ≡ true) → closed b (if t then v else var y) ≡ true
+      go : (t : Bool) → eqb y x ≡ t → (eqb y x ≡ true) ⊎ (is_among y b ≡ true) → closed b (when t then v else var y) ≡ true
       go true e p = closed-more [] b (none-among b) v cv
       go false e (inl p) = absurd (false≢true (sym e ∙ p))
       go false e (inr p) = p
 
   put_fun : (a b : List ℕ) (y : ℕ) (t : Tree) → Within x a b → closed (y ∷ a) t ≡ true
       → (Within x (y ∷ a) (y ∷ b) → closed (y ∷ b) (substitute x v t) ≡ true)
-      → closed b (if eqb y x then fun y t else fun y (substitute x v t)) ≡ true
+      → closed b (when eqb y x then fun y t else fun y (substitute x v t)) ≡ true
   unfolding closed
   put_fun a b y t h q below = go (eqb y x) refl
     where
-      go : (c : Bool) → eqb y x ≡ c → closed b (if c then fun y t else fun y (substitute x v t)) ≡ true
+      go : (c : Bool) → eqb y x ≡ c → closed b (when c then fun y t else fun y (substitute x v t)) ≡ true
       go true e = closed-more (y ∷ a) (y ∷ b) (within_own x y a b h e) t q
       go false e = below (within-cons x y a b h)
 

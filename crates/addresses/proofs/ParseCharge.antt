@@ -7,7 +7,7 @@ use mathlib.Core.Bool.{Bool, true, false}
 use mathlib.Core.Option.{Option, none, some}
 use mathlib.Core.List.{List, ◌∷◌}
 use lib.Dec.{leb}
-use Rattle.model.specs.Choice.{if◌then◌else◌}
+use Rattle.model.specs.Choice.{when◌then◌else◌}
 use Rattle.model.specs.Refusals.{no_rule, too_many_entries, over_budget}
 use Rattle.model.specs.Objects.{symbol, number, point, prim, rung, set_at, Stx, atom, list, Stxs, nil, cons, size, sizes}
 use Rattle.model.specs.Trees.{Tree, var, app, fun, datum, stx, Trees, tnil, tcons, strip}
@@ -56,7 +56,7 @@ charge-spent : (n : ℕ) (s : State) → Outcome (Unit {0}) (λ v t. Spent n s t
 unfolding charge spend
 charge-spent n s = go (leb n s.left) refl
   where
-    go : (b : Bool) → leb n s.left ≡ b → Outcome (Unit {0}) (λ v t. Spent n s t) (if b then ok tt (spend n s) else no over_budget no_rivals s.left)
+    go : (b : Bool) → leb n s.left ≡ b → Outcome (Unit {0}) (λ v t. Spent n s t) (when b then ok tt (spend n s) else no over_budget no_rivals s.left)
     go true e = gives tt (spend n s) (record { enough = leb-true n s.left e; is = refl })
     go false e = stops over_budget no_rivals s.left refl
 

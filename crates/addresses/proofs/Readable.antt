@@ -5,7 +5,7 @@ use native.Mathlib.Nat.{le_trans, le_of_eq}
 use mathlib.Core.Bool.{Bool, true, false}
 use mathlib.Core.List.{List, []}
 use lib.ListN.{length}
-use Rattle.model.specs.Choice.{if◌then◌else◌}
+use Rattle.model.specs.Choice.{when◌then◌else◌}
 use Rattle.model.specs.Limits.{most_entries, most_image}
 use Rattle.model.specs.Refusals.{Refusal, unowned}
 use Rattle.model.specs.Objects.{Stx, size}
@@ -146,7 +146,7 @@ evaluate_wrote image b budget room =
     tested i (tree_read_keeps_limits image rest i b e) (closed [] i.root) refl))
   where
     tested : (i : Image Tree) → TreeImageFits i.head i.root → (t : Bool) → closed [] i.root ≡ t
-        → Wrote IsTree (if t then worked budget (evaluate_root i.root (start budget i)) (λ r s. fitted room (tree_image_bytes (reached i.head s) r) (budget - s.left)) else refused unowned no_rivals 0)
+        → Wrote IsTree (when t then worked budget (evaluate_root i.root (start budget i)) (λ r s. fitted room (tree_image_bytes (reached i.head s) r) (budget - s.left)) else refused unowned no_rivals 0)
     tested i f true c =
         worked_case (Wrote IsTree) (nothing_wrote IsTree) budget (evaluate_root i.root (start budget i)) _ (λ r s q.
         let x = outcome_ok (subst (Outcome Tree _) q (evaluate-root budget i f c)) in

@@ -6,7 +6,7 @@ use mathlib.Core.Bool.{Bool, true, false}
 use mathlib.Core.List.{List, [], ◌∷◌, ◌++◌}
 use lib.Dec.{ltb}
 use lib.ListN.{length, length-append}
-use Rattle.model.specs.Choice.{if◌then◌else◌}
+use Rattle.model.specs.Choice.{when◌then◌else◌}
 use Rattle.model.specs.Scopes.{Scopes, members}
 use Rattle.model.specs.Objects.{Atom, symbol, tag_of, content_of, Sets, Stx, atom, list, Stxs, nil, cons, count}
 use Rattle.model.specs.Trees.{Tree, var, app, fun, datum, lst, stx, Trees, tnil, tcons, tcount, strip, strip_all}
@@ -25,7 +25,7 @@ num-two n h = go (ltb n 128)
     rest : length (groups_of 3 (n / 128)) ≡ 1
     rest = rw (lt-ltb (n / 128) 128 (omega arith))
 
-    go : (t : Bool) → length (if t then n ∷ [] else (n % 128 + 128) ∷ groups_of 3 (n / 128)) ≤ 2
+    go : (t : Bool) → length (when t then n ∷ [] else (n % 128 + 128) ∷ groups_of 3 (n / 128)) ≤ 2
     go true = omega arith
     go false = omega (arith, rest)
 

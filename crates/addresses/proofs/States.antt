@@ -10,7 +10,7 @@ use mathlib.Core.Bool.{Bool, true, false}
 use mathlib.Core.List.{List, [], ◌∷◌}
 use lib.Dec.{eqb, leb, ltb}
 use lib.ListN.{length}
-use Rattle.model.specs.Choice.{if◌then◌else◌}
+use Rattle.model.specs.Choice.{when◌then◌else◌}
 use Rattle.model.specs.Limits.{most_names, most_scopes, most_bindings}
 use Rattle.model.specs.Refusals.{no_name_left, no_scope_left, no_binding_left, over_budget}
 use Rattle.model.specs.Scopes.{Scopes, has, add}
@@ -49,7 +49,7 @@ unfolding insert
 insert-fits k n m b [] f g = (f, tt)
 insert-fits k n m b (c ∷ l) f g = go (bind_before b c) (insert-fits k n m b l f g.1)
   where
-    go : (t : Bool) → BindsFit k n m (insert b l) → BindsFit k n m (if t then b ∷ c ∷ l else c ∷ insert b l)
+    go : (t : Bool) → BindsFit k n m (insert b l) → BindsFit k n m (when t then b ∷ c ∷ l else c ∷ insert b l)
     go true r = (f, g)
     go false r = (g.0, r)
 
@@ -58,7 +58,7 @@ unfolding insert
 insert-length b [] = refl
 insert-length b (c ∷ l) = go (bind_before b c) (insert-length b l)
   where
-    go : (t : Bool) → length (insert b l) ≡ suc (length l) → length (if t then b ∷ c ∷ l else c ∷ insert b l) ≡ suc (suc (length l))
+    go : (t : Bool) → length (insert b l) ≡ suc (length l) → length (when t then b ∷ c ∷ l else c ∷ insert b l) ≡ suc (suc (length l))
     go true r = refl
     go false r = ap suc r
 
@@ -146,7 +146,7 @@ fresh_scope-out k s = go (ltb s.scopes most_scopes) refl
     grown h = record { names_le = le_refl s.names; scopes_le = up s.scopes; later = same; left_le = le_refl s.left; keeps = scope-fits k s h }
 
     go : (b : Bool) → ltb s.scopes most_scopes ≡ b
-        → Outcome ℕ (λ j t. Grows k s t × (j ≤ t.scopes)) (if b then ok (s.scopes + 1) (with_scope s) else no no_scope_left no_rivals s.left)
+        → Outcome ℕ (λ j t. Grows k s t × (j ≤ t.scopes)) (when b then ok (s.scopes + 1) (with_scope s) else no no_scope_left no_rivals s.left)
     go true e = gives (s.scopes + 1) (with_scope s) (grown (ltb-true s.scopes most_scopes e), le_refl (s.scopes + 1))
     go false e = stops no_scope_left no_rivals s.left refl
 
@@ -266,7 +266,7 @@ name_then : {B : Type 0} {Q : B → State → Type 0} (f : ℕ → Step B) (s : 
 unfolding fresh_name with_name
 name_then {B} {Q} f s h = go (ltb s.names most_names) refl
   where
-    go : (b : Bool) → ltb s.names most_names ≡ b → Outcome B Q (after (if b then ok s.names (with_name s) else no no_name_left no_rivals s.left) f)
+    go : (b : Bool) → ltb s.names most_names ≡ b → Outcome B Q (after (when b then ok s.names (with_name s) else no no_name_left no_rivals s.left) f)
     go true e = h (ltb-true s.names most_names e)
     go false e = stops no_name_left no_rivals s.left refl
 
@@ -275,7 +275,7 @@ scope_then : {B : Type 0} {Q : B → State → Type 0} (f : ℕ → Step B) (s :
 unfolding fresh_scope with_scope
 scope_then {B} {Q} f s h = go (ltb s.scopes most_scopes) refl
   where
-    go : (b : Bool) → ltb s.scopes most_scopes ≡ b → Outcome B Q (after (if b then ok (s.scopes + 1) (with_scope s) else no no_scope_left no_rivals s.left) f)
+    go : (b : Bool) → ltb s.scopes most_scopes ≡ b → Outcome B Q (after (when b then ok (s.scopes + 1) (with_scope s) else no no_scope_left no_rivals s.left) f)
     go true e = h (ltb-true s.scopes most_scopes e)
     go false e = stops no_scope_left no_rivals s.left refl
 
@@ -284,7 +284,7 @@ charge_then : {B : Type 0} {Q : B → State → Type 0} (n : ℕ) (f : Unit {0} 
 unfolding charge spend
 charge_then {B} {Q} n f s h = go (leb n s.left)
   where
-    go : (b : Bool) → Outcome B Q (after (if b then ok tt (spend n s) else no over_budget no_rivals s.left) f)
+    go : (b : Bool) → Outcome B Q (after (when b then ok tt (spend n s) else no over_budget no_rivals s.left) f)
     go true = h
     go false = stops over_budget no_rivals s.left refl
 
@@ -297,7 +297,7 @@ bind_then {B} {Q} b f s h = go (ltb (length s.binds) most_bindings) refl
     t : State
     t = record { left = s.left; names = s.names; scopes = s.scopes; binds = insert b s.binds; prunable = s.prunable; uses = s.uses }
 
-    go : (x : Bool) → ltb (length s.binds) most_bindings ≡ x → Outcome B Q (after (if x then ok tt t else no no_binding_left no_rivals s.left) f)
+    go : (x : Bool) → ltb (length s.binds) most_bindings ≡ x → Outcome B Q (after (when x then ok tt t else no no_binding_left no_rivals s.left) f)
     go true e = h (ltb-true (length s.binds) most_bindings e)
     go false e = stops no_binding_left no_rivals s.left refl
 

@@ -5,7 +5,7 @@ use mathlib.Core.Bool.{Bool, true, false, ◌&&◌}
 use mathlib.Core.List.{List}
 use lib.Dec.{leb}
 use lib.ListN.{length, drop}
-use Rattle.model.specs.Choice.{if◌then◌else◌}
+use Rattle.model.specs.Choice.{when◌then◌else◌}
 use Rattle.model.specs.Limits.{most_image, last_phase}
 use Rattle.model.specs.Refusals.{Refusal, small_table, no_phase, too_long}
 use Rattle.model.specs.Competing.{Rivals, no_rivals}
@@ -35,7 +35,7 @@ module _ (h : List ℕ → List ℕ) where
   fitted_alike room rest u b c k = go (leb (length b) room && leb (length b) most_image) refl (leb (length c) rest && leb (length c) most_image) refl
     where
       ending : List ℕ → Bool → Ending
-      ending z t = if t then written z u else refused too_long no_rivals u
+      ending z t = when t then written z u else refused too_long no_rivals u
 
       go : (x : Bool) → (leb (length b) room && leb (length b) most_image) ≡ x → (y : Bool) → (leb (length c) rest && leb (length c) most_image) ≡ y
           → AlikeIfShort h (ending b x) (ending c y)
@@ -49,7 +49,7 @@ module _ (h : List ℕ → List ℕ) where
   unfolding at_phase
   phase_alike ph e d k = go (leb ph last_phase)
     where
-      go : (t : Bool) → AlikeIfShort h (if t then e else refused no_phase no_rivals 0) (if t then d else refused no_phase no_rivals 0)
+      go : (t : Bool) → AlikeIfShort h (when t then e else refused no_phase no_rivals 0) (when t then d else refused no_phase no_rivals 0)
       go true v w = k v w
       go false v w = both-refused
 
@@ -81,7 +81,7 @@ module _ (h : List ℕ → List ℕ) where
   lent_alike budget table one two e d k = go (budget_fits budget (length table))
     where
       given : List ℕ → Ending → Bool → Result
-      given output z t = if t then after-ending budget table output z else untouched table output
+      given output z t = when t then after-ending budget table output z else untouched table output
 
       go : (t : Bool) → ((given one e t).answer.code ≡ 20 → ⊥) → ((given two d t).answer.code ≡ 20 → ⊥)
           → SameBut h (given one e t) (given two d t)

@@ -7,7 +7,7 @@ use Prim.Native.Nat.{ℕ}
 use mathlib.Core.Bool.{Bool, true, false, ◌&&◌, true≢false}
 use mathlib.Core.List.{List, [], ◌∷◌}
 use lib.Dec.{eqb}
-use Rattle.model.specs.Choice.{if◌then◌else◌}
+use Rattle.model.specs.Choice.{when◌then◌else◌}
 use Rattle.model.specs.Scopes.{Scopes, within}
 use Rattle.model.specs.Resolving.{Bind, bind_before, insert, Found, means, several, candidate, candidates, over, largest, choose, resolve}
 use borrow.Author.Tests.{eqb-true, eqb-false}
@@ -103,7 +103,7 @@ unfolding insert
 insert-ranked b [] r = ((λ c i. absurd i), tt)
 insert-ranked b (c ∷ l) r = go (bind_before b c) refl (insert-ranked b l r.1)
   where
-    go : (t : Bool) → bind_before b c ≡ t → Ranked (insert b l) → Ranked (if t then b ∷ c ∷ l else c ∷ insert b l)
+    go : (t : Bool) → bind_before b c ≡ t → Ranked (insert b l) → Ranked (when t then b ∷ c ∷ l else c ∷ insert b l)
     go true e s = (none, r)
       where
         none : NoneBefore b (c ∷ l)
@@ -129,7 +129,7 @@ unfolding insert
 lead_old b d [] r w = absurd w
 lead_old b d (c ∷ l) r w = go (bind_before b c) refl (lead_old b d l r.1) w
   where
-    go : (t : Bool) → bind_before b c ≡ t → (Lead d l → Lead d (insert b l)) → Lead d (c ∷ l) → Lead d (if t then b ∷ c ∷ l else c ∷ insert b l)
+    go : (t : Bool) → bind_before b c ≡ t → (Lead d l → Lead d (insert b l)) → Lead d (c ∷ l) → Lead d (when t then b ∷ c ∷ l else c ∷ insert b l)
     go true e f v = inr ((λ k. first_unbound b c l r.0 e d (lead_in d (c ∷ l) v) (sym k.symb-is) (sym k.set_is)), v)
     go false e f (inl p) = inl p
     go false e f (inr v) = inr (v.0, f v.1)
@@ -140,7 +140,7 @@ unfolding insert
 lead_new b [] u = inl refl
 lead_new b (c ∷ l) u = go (bind_before b c) (lead_new b l (λ d i. u d (inr i)))
   where
-    go : (t : Bool) → Lead b (insert b l) → Lead b (if t then b ∷ c ∷ l else c ∷ insert b l)
+    go : (t : Bool) → Lead b (insert b l) → Lead b (when t then b ∷ c ∷ l else c ∷ insert b l)
     go true w = inl refl
     go false w = inr ((λ k. u c (inl refl) k.symb-is k.set_is), w)
 
@@ -160,7 +160,7 @@ lead_cases b d (c ∷ l) r w = go (bind_before b c) refl (lead_cases b d l r.1) 
     further n (inr v) = inr (v.0, also (subst (λ (z : Bind). SameKey z c → ⊥) v.0 n) v.1)
 
     go : (t : Bool) → bind_before b c ≡ t → (Lead d (insert b l) → Lead d l ⊎ ((d ≡ b) × Unbound b l))
-        → Lead d (if t then b ∷ c ∷ l else c ∷ insert b l) → Lead d (c ∷ l) ⊎ ((d ≡ b) × Unbound b (c ∷ l))
+        → Lead d (when t then b ∷ c ∷ l else c ∷ insert b l) → Lead d (c ∷ l) ⊎ ((d ≡ b) × Unbound b (c ∷ l))
     go true e f (inl p) = inr (p, first_unbound b c l r.0 e)
     go true e f (inr v) = inl v.1
     go false e f (inl p) = inl (inl p)
@@ -223,7 +223,7 @@ lead_candidate x s b [] w = absurd w
 lead_candidate x s b (c ∷ l) w = go (candidate x s c) refl (lead_candidate x s b l) w
   where
     go : (t : Bool) → candidate x s c ≡ t → (Lead b (candidates x s l) → Lead b l × (candidate x s b ≡ true))
-        → Lead b (if t then c ∷ candidates x s l else candidates x s l) → Lead b (c ∷ l) × (candidate x s b ≡ true)
+        → Lead b (when t then c ∷ candidates x s l else candidates x s l) → Lead b (c ∷ l) × (candidate x s b ≡ true)
     go true e f (inl p) = (inl p, ap (candidate x s) p ∙ e)
     go true e f (inr v) = (inr (v.0, (f v.1).0), (f v.1).1)
     go false e f v =
@@ -235,7 +235,7 @@ candidate_lead x s b [] w h = absurd w
 candidate_lead x s b (c ∷ l) w h = go (candidate x s c) refl (λ v. candidate_lead x s b l v h) w
   where
     go : (t : Bool) → candidate x s c ≡ t → (Lead b l → Lead b (candidates x s l)) → Lead b (c ∷ l)
-        → Lead b (if t then c ∷ candidates x s l else candidates x s l)
+        → Lead b (when t then c ∷ candidates x s l else candidates x s l)
     go true e f (inl p) = inl p
     go true e f (inr v) = inr (v.0, f v.1)
     go false e f (inl p) = absurd (true≢false (sym h ∙ ap (candidate x s) p ∙ e))
@@ -262,7 +262,7 @@ largest-is all (b ∷ l) = go (over b all) refl (largest-is all l)
         none c (inl p) = ap (λ (z : Bind). over z all) p ∙ e
         none c (inr i) = n c i
 
-    go : (t : Bool) → over b all ≡ t → Search all l (largest l all) → Search all (b ∷ l) (if t then means b.target else largest l all)
+    go : (t : Bool) → over b all ≡ t → Search all l (largest l all) → Search all (b ∷ l) (when t then means b.target else largest l all)
     go true e r = hit b (inl refl) e
     go false e r = further e r
 

@@ -4,7 +4,7 @@ use mathlib.Core.Path.{◌≡◌, ap, subst}
 use Prim.Native.Nat.{ℕ}
 use mathlib.Core.Bool.{Bool, true, false, true≢false, false≢true}
 use lib.Dec.{leb}
-use Rattle.model.specs.Choice.{if◌then◌else◌}
+use Rattle.model.specs.Choice.{when◌then◌else◌}
 use Rattle.model.specs.Refusals.{Refusal, ambiguous, over_budget}
 use Rattle.model.specs.Objects.{Sets, set_at}
 use Rattle.model.specs.Resolving.{Found, means, several, resolve}
@@ -68,7 +68,7 @@ charge_alike {w} n =
     record { run = λ s t h. go s t h (leb n s.left) (leb n t.left) (ap (leb n) (w.left_is s t h)) }
   where
     paid : State → Bool → Out (Unit {0})
-    paid s b = if b then ok tt (spend n s) else no over_budget no_rivals s.left
+    paid s b = when b then ok tt (spend n s) else no over_budget no_rivals s.left
 
     go : (s t : State) → w.rel s t → (x y : Bool) → x ≡ y → OutAlike w (Same {A = Unit {0}}) (paid s x) (paid t y)
     go s t h true true e = oks same (w.spent n s t h)

@@ -4,7 +4,7 @@ use Prim.Native.Nat.{ℕ, zero, suc}
 use mathlib.Core.Bool.{Bool, true, false, not, ◌&&◌, ◌||◌, true≢false, false≢true}
 use lib.Dec.{eqb}
 use lib.Bits.{bit_or}
-use Rattle.model.specs.Choice.{if◌then◌else◌}
+use Rattle.model.specs.Choice.{when◌then◌else◌}
 use Rattle.model.specs.Scopes.{Scopes, has, only, add, flip, prune, within}
 use Rattle.model.specs.Objects.{Sets, set_at, change_at}
 use borrow.Author.Tests.{eqb-true, eq-eqb}
@@ -67,7 +67,7 @@ module _ (ρ : NewNumbers) where
   unfolding flip
   flip_alike k f a b h = go (has k a) (has k b) (h.same k ∙ ap (λ (j : ℕ). has j b) f)
     where
-      go : (x y : Bool) → x ≡ y → SetAlike ρ (if x then prune (only k) a else add k a) (if y then prune (only k) b else add k b)
+      go : (x y : Bool) → x ≡ y → SetAlike ρ (when x then prune (only k) a else add k a) (when y then prune (only k) b else add k b)
       go true true e = prune_alike (only k) (only k) (only_alike k f) a b h
       go true false e = absurd (true≢false e)
       go false true e = absurd (false≢true e)

@@ -1,6 +1,6 @@
 -- What a call of the replay stream asks for, and the line that answers it.
 use Rattle.std.specs.Prelude.{ℕ, ◌/◌, ◌%◌, List, [], ◌∷◌, ◌++◌, eqb, leb, replicate}
-use Rattle.model.specs.Choice.{if◌then◌else◌}
+use Rattle.model.specs.Choice.{when◌then◌else◌}
 use Rattle.model.specs.Jobs.{Answer, Result, resolve_job, expand_job, parse_job, evaluate_job}
 use Rattle.requests.specs.Panel.{panel_job}
 use Rattle.requests.specs.ScanJob.{scan_job}
@@ -19,9 +19,9 @@ keeping output r = record { answer = r.answer; output = output; table = r.table 
 -- the job of document 01 with that number: resolve 0, expand 1, parse 2, evaluate 3, of image, phase, budget, table and output
 unfoldable pub job_of : ℕ → List ℕ → ℕ → ℕ → List ℕ → List ℕ → Result
 job_of job image ph budget table output =
-    if eqb job 0 then keeping output (resolve_job image ph budget table)
-    else if eqb job 1 then expand_job image ph budget table output
-    else if eqb job 2 then parse_job image budget table output
+    when eqb job 0 then keeping output (resolve_job image ph budget table)
+    else when eqb job 1 then expand_job image ph budget table output
+    else when eqb job 2 then parse_job image budget table output
     else evaluate_job image budget table output
 
 -- words that came back, with an output of so many bytes: what is over is no whole word, and stays as it was filled
@@ -53,11 +53,11 @@ shrink_bytes r = record { answer = r.answer; output = r.output; table = [] }
 -- the request of document 02 with that number, of image, second input and count of the output's bytes
 unfoldable pub request_of : ℕ → List ℕ → List ℕ → ℕ → Result
 request_of job image second bytes =
-    if eqb job 4 then panel_bytes image bytes
-    else if eqb job 5 then scan_bytes image second bytes
-    else if eqb job 6 then text_bytes (read_job image (replicate bytes byte_fill))
-    else if eqb job 8 then summary_bytes image bytes
-    else if eqb job 11 then shrink_bytes (shrink_job image (replicate bytes byte_fill))
+    when eqb job 4 then panel_bytes image bytes
+    else when eqb job 5 then scan_bytes image second bytes
+    else when eqb job 6 then text_bytes (read_job image (replicate bytes byte_fill))
+    else when eqb job 8 then summary_bytes image bytes
+    else when eqb job 11 then shrink_bytes (shrink_job image (replicate bytes byte_fill))
     else text_bytes (print_job image (replicate bytes byte_fill))
 
 -- it is not lent the table, which stays
@@ -68,19 +68,19 @@ leaving table r = record { answer = r.answer; output = r.output; table = table }
 -- empty where a job has none
 unfoldable pub fresh_job : ℕ → List ℕ → List ℕ → ℕ → ℕ → ℕ → ℕ → Result
 fresh_job job image second ph budget words bytes =
-    if leb job 3 then job_of job image ph budget (replicate words word_fill) (replicate bytes byte_fill)
+    when leb job 3 then job_of job image ph budget (replicate words word_fill) (replicate bytes byte_fill)
     else leaving (replicate words word_fill) (request_of job image second bytes)
 
 -- ---- a question to a summary (job 9), which stands behind the image as bytes. Count and first place are its output; none is lent.
 
 unfoldable pub told_bytes : UsesAnswer → List ℕ
 unfolding bytes_of_words
-told_bytes a = if eqb a.code 0 then bytes_of_words (a.count ∷ a.first ∷ []) else []
+told_bytes a = when eqb a.code 0 then bytes_of_words (a.count ∷ a.first ∷ []) else []
 
 unfoldable pub uses_result : List ℕ → UsesAnswer → Result
 unfolding told_bytes
 uses_result table a =
-    record { answer = answered a.code (if eqb a.code 0 then 8 else 0); output = told_bytes a; table = table }
+    record { answer = answered a.code (when eqb a.code 0 then 8 else 0); output = told_bytes a; table = table }
 
 -- the name n
 unfoldable pub uses_line : List ℕ → List ℕ → ℕ → ℕ → List ℕ → List ℕ
@@ -102,6 +102,6 @@ replace_call image summary part place budget table bytes = replaced_line budget 
 unfoldable pub call_line : ℕ → List ℕ → List ℕ → List ℕ → ℕ → ℕ → ℕ → ℕ → List ℕ
 unfolding uses_line replace_call
 call_line job image second third ph budget words bytes =
-    if eqb job 9 then uses_line image second ph budget (replicate words word_fill)
-    else if eqb job 10 then replace_call image second third ph budget (replicate words word_fill) bytes
+    when eqb job 9 then uses_line image second ph budget (replicate words word_fill)
+    else when eqb job 10 then replace_call image second third ph budget (replicate words word_fill) bytes
     else answer_line budget (fresh_job job image second ph budget words bytes)

@@ -1,6 +1,6 @@
 -- The lines of the replay stream: CODE UNITS NAME LENGTH FIRST SECOND TABLE OUTPUT, and in job 10 SUMMARY.
 use Rattle.std.specs.Prelude.{ℕ, ◌+◌, ◌*◌, List, [], ◌∷◌, ◌++◌, Bool, true, ◌&&◌, eqb, leb, length, take, drop, get_or}
-use Rattle.model.specs.Choice.{if◌then◌else◌}
+use Rattle.model.specs.Choice.{when◌then◌else◌}
 use Rattle.model.specs.Limits.{words_per_unit}
 use Rattle.model.specs.Jobs.{Answer, Result, digits}
 use Rattle.text.specs.Hexadecimal.{hex_of}
@@ -35,19 +35,19 @@ number_column n = digits 10 n (32 ∷ [])
 unfoldable pub table_column : ℕ → List ℕ → List ℕ
 unfolding all_are is_clear
 table_column budget table =
-    if all_are word_fill table then 107 ∷ 101 ∷ 112 ∷ 116 ∷ 32 ∷ []
-    else if is_clear budget table then 99 ∷ 108 ∷ 101 ∷ 97 ∷ 114 ∷ 32 ∷ []
+    when all_are word_fill table then 107 ∷ 101 ∷ 112 ∷ 116 ∷ 32 ∷ []
+    else when is_clear budget table then 99 ∷ 108 ∷ 101 ∷ 97 ∷ 114 ∷ 32 ∷ []
     else 98 ∷ 97 ∷ 100 ∷ 32 ∷ []
 
 -- the written bytes in hexadecimal, or `-`
 unfoldable pub written_column : ℕ → List ℕ → List ℕ
 unfolding hex_of
-written_column len output = if eqb len 0 then 45 ∷ [] else hex_of (take len output)
+written_column len output = when eqb len 0 then 45 ∷ [] else hex_of (take len output)
 
 -- and `!` where a byte behind them lost the fill
 unfoldable pub output_column : ℕ → List ℕ → List ℕ
 unfolding written_column all_are
-output_column len output = written_column len output ++ (if all_are byte_fill (drop len output) then [] else 33 ∷ [])
+output_column len output = written_column len output ++ (when all_are byte_fill (drop len output) then [] else 33 ∷ [])
 
 -- ---- the line
 
@@ -77,7 +77,7 @@ summary_front w = take (2 + 2 * get_or w 1 0) w
 -- in hexadecimal, each word low byte first; or `-` after a refusal
 unfoldable pub summary_column : ℕ → List ℕ → List ℕ
 unfolding hex_of bytes_of_words summary_front
-summary_column code w = if eqb code 0 then hex_of (bytes_of_words (summary_front w)) else 45 ∷ []
+summary_column code w = when eqb code 0 then hex_of (bytes_of_words (summary_front w)) else 45 ∷ []
 
 unfoldable pub replace_line : ℕ → Result → List ℕ → List ℕ
 unfolding answer_columns summary_column

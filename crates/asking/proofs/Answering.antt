@@ -8,7 +8,7 @@ use native.Mathlib.Omega.{arith}
 use borrow.Author.Tests.{not-true, not-false, eq-eqb, ne_eqb}
 use lib.ListN.{length}
 use lib.Dec.{eqb}
-use Rattle.model.specs.Choice.{if◌then◌else◌}
+use Rattle.model.specs.Choice.{when◌then◌else◌}
 use Rattle.model.specs.Refusals.{wrong_argument}
 use Rattle.model.specs.Objects.{symbol, Stx, atom, prune_scopes}
 use Rattle.model.specs.Trees.{Tree, stx}
@@ -187,7 +187,7 @@ wrong-is : (p : ℕ) (here : m.Surroundings) (u : Tree) (y : ms.State) → as_id
 unfolding asked_rule or_wrong_kind
 wrong-is p here u y e = rw e refl
 
-asked_is : (p : ℕ) (here : m.Surroundings) (u : Tree) (d : IdAt u) (y : ms.State) → asked_rule p here u y ≡ (if eqb p 7 then value_of here d.id else fit_to_bind here.phase d.id) y
+asked_is : (p : ℕ) (here : m.Surroundings) (u : Tree) (d : IdAt u) (y : ms.State) → asked_rule p here u y ≡ (when eqb p 7 then value_of here d.id else fit_to_bind here.phase d.id) y
 unfolding asked_rule or_wrong_kind
 asked_is p here u d y = rw (id_as d) refl
 
@@ -226,7 +226,7 @@ module _ {l st : List ℕ} {s : State} {i : ℕ} {at : Place} (r : ReadyToAsk l 
               let a2 : Rep l s.top i (stx (atom d.id.sets (symbol d.id.symb))) = rw d.is at a in
               let y = state_of s (store_of st) in
               by_use (λ (j : ℕ) (here : m.Surroundings). Agrees trees 0 0 l l s (store_of st) (asked_rule p here u y) (ended x)) c (λ e zs f b h.
-              let q : asked_rule p (around e zs at) u y ≡ value_of (around e zs at) d.id y = asked_is p (around e zs at) u d y ∙ ap (λ (t : Bool). (if t then value_of (around e zs at) d.id else fit_to_bind at.phase d.id) y) (eq-eqb p 7 z) in
+              let q : asked_rule p (around e zs at) u y ≡ value_of (around e zs at) d.id y = asked_is p (around e zs at) u d y ∙ ap (λ (t : Bool). (when t then value_of (around e zs at) d.id else fit_to_bind at.phase d.id) y) (eq-eqb p 7 z) in
               since 0 0 (later_refl l s) (omega arith) (omega arith) q (v.means d.id e zs a2 b h));
         }
 
@@ -237,7 +237,7 @@ module _ {l st : List ℕ} {s : State} {i : ℕ} {at : Place} (r : ReadyToAsk l 
               let a2 : Rep l s.top i (stx (atom d.id.sets (symbol d.id.symb))) = rw d.is at a in
               let y = state_of s (store_of st) in
               by_use (λ (j : ℕ) (here : m.Surroundings). Agrees trees 0 0 l l1 s (store_of st) (asked_rule p here u y) (ended x)) c (λ e zs f b h.
-              let q : asked_rule p (around e zs at) u y ≡ fit_to_bind at.phase d.id y = asked_is p (around e zs at) u d y ∙ ap (λ (t : Bool). (if t then value_of (around e zs at) d.id else fit_to_bind at.phase d.id) y) (ne_eqb p 7 z) in
+              let q : asked_rule p (around e zs at) u y ≡ fit_to_bind at.phase d.id y = asked_is p (around e zs at) u d y ∙ ap (λ (t : Bool). (when t then value_of (around e zs at) d.id else fit_to_bind at.phase d.id) y) (ne_eqb p 7 z) in
               since 0 0 (later_refl l s) (omega arith) (omega arith) q (v.means d.id a2));
         }
 

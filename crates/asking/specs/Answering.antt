@@ -1,6 +1,6 @@
 -- Primitives 7 and 9: what a name means, and an identifier fit to bind.
 use Rattle.std.specs.Prelude.{List, ℕ, eqb}
-use Rattle.model.specs.Choice.{if◌then◌else◌}
+use Rattle.model.specs.Choice.{when◌then◌else◌}
 use Rattle.model.specs.Objects.{symbol, atom}
 use Rattle.model.specs.Trees.{Tree, stx}
 use Rattle.model.specs.Meanings as m
@@ -57,7 +57,7 @@ pub record ReadyToAsk (l st : List ℕ) (s : State) (i : ℕ) (at : Place) : Typ
 -- primitive p after its charge: 7, or else 9
 unfoldable pub asked_rule : ℕ → m.Surroundings → Tree → Step Tree
 unfolding or_wrong_kind as_id value_of fit_to_bind
-asked_rule p here t = or_wrong_kind (as_id t) (λ i. if eqb p 7 then value_of here i else fit_to_bind here.phase i)
+asked_rule p here t = or_wrong_kind (as_id t) (λ i. when eqb p 7 then value_of here i else fit_to_bind here.phase i)
 
 unfoldable pub answer_rule : ℕ → m.Surroundings → Tree → Step Tree
 unfolding charge asked_rule

@@ -9,7 +9,7 @@ use lib.Dec.{eqb, ltb}
 use lib.ListN.{length, get_or, set, take, length-append}
 use lib.Seq.{get_or-set_same, get_or-set_other, take-suc-set}
 use borrow.Author.Tests.{eq-eqb, ne_eqb, lt-ltb, le-ltb, ltb-true, eqb-true, eqb-false, not-true, not-false}
-use Rattle.model.specs.Choice.{if◌then◌else◌}
+use Rattle.model.specs.Choice.{when◌then◌else◌}
 use Rattle.model.specs.Meanings.{is_among}
 use Rattle.laws.proofs.Tests.{and_both, among-more}
 use Rattle.requests.specs.Panel.{all_differ}
@@ -109,29 +109,29 @@ differ-more (n ∷ l) x = rw (among-more n x l, eqb_turned x n) (go (is_among n 
 
 -- ---- points
 
-mark_told : (b : Bool) → not (eqb (if b then 1 else 0) 0) ≡ b
+mark_told : (b : Bool) → not (eqb (when b then 1 else 0) 0) ≡ b
 mark_told true = refl
 mark_told false = refl
 
-module _ (marks seen : List ℕ) (long : points ≤ length marks) (have : (y : ℕ) → y < points → get_or marks y 0 ≡ (if is_among y seen then 1 else 0)) (x : ℕ) where
+module _ (marks seen : List ℕ) (long : points ≤ length marks) (have : (y : ℕ) → y < points → get_or marks y 0 ≡ (when is_among y seen then 1 else 0)) (x : ℕ) where
   twice-more : (b : Bool) → (b ≡ true → x < points) → {w : Bool} → w ≡ not (all_differ seen)
-      → (w || (b && not (eqb (get_or marks x 0) 0))) ≡ not (all_differ (if b then seen ++ x ∷ [] else seen))
+      → (w || (b && not (eqb (get_or marks x 0) 0))) ≡ not (all_differ (when b then seen ++ x ∷ [] else seen))
   twice-more true h e = rw (e, have x (h refl), mark_told (is_among x seen)) (sym (differ-more seen x))
   twice-more false h {w} e = or-false w ∙ e
 
   marked_more : (b : Bool) → (b ≡ true → x < points) → (y : ℕ) → y < points
-      → get_or (if b then set marks x 1 else marks) y 0 ≡ (if is_among y (if b then seen ++ x ∷ [] else seen) then 1 else 0)
+      → get_or (when b then set marks x 1 else marks) y 0 ≡ (when is_among y (when b then seen ++ x ∷ [] else seen) then 1 else 0)
   marked_more true h y l = rw (among-more y x seen) (go (eqb y x) refl)
     where
-      always : (a : Bool) → ◌≡◌ {A = ℕ} 1 (if a || true then 1 else 0)
+      always : (a : Bool) → ◌≡◌ {A = ℕ} 1 (when a || true then 1 else 0)
       always true = refl
       always false = refl
 
-      as_before : (a : Bool) → ◌≡◌ {A = ℕ} (if a then 1 else 0) (if a || false then 1 else 0)
+      as_before : (a : Bool) → ◌≡◌ {A = ℕ} (when a then 1 else 0) (when a || false then 1 else 0)
       as_before true = refl
       as_before false = refl
 
-      go : (b : Bool) → eqb y x ≡ b → get_or (set marks x 1) y 0 ≡ (if is_among y seen || b then 1 else 0)
+      go : (b : Bool) → eqb y x ≡ b → get_or (set marks x 1) y 0 ≡ (when is_among y seen || b then 1 else 0)
       go true e =
           let q : y ≡ x = eqb-true y x e in
           let k : x < length marks = let z = h refl in omega arith in
@@ -142,12 +142,12 @@ module _ (marks seen : List ℕ) (long : points ≤ length marks) (have : (y : �
 -- ---- names
 
 module _ (names kept : List ℕ) (bits x : ℕ) (e : bits ≡ length kept) where
-  counted-more : (b : Bool) → (if b then bits + 1 else bits) ≡ length (if b then kept ++ x ∷ [] else kept)
+  counted-more : (b : Bool) → (when b then bits + 1 else bits) ≡ length (when b then kept ++ x ∷ [] else kept)
   counted-more true = let l = length-append kept (x ∷ []) in omega arith
   counted-more false = e
 
-  named_more : room ≤ length names → (length kept ≤ room → take bits names ≡ kept) → (b : Bool) → length (if b then kept ++ x ∷ [] else kept) ≤ room
-      → take (if b then bits + 1 else bits) (if b && ltb bits room then set names bits x else names) ≡ (if b then kept ++ x ∷ [] else kept)
+  named_more : room ≤ length names → (length kept ≤ room → take bits names ≡ kept) → (b : Bool) → length (when b then kept ++ x ∷ [] else kept) ≤ room
+      → take (when b then bits + 1 else bits) (when b && ltb bits room then set names bits x else names) ≡ (when b then kept ++ x ∷ [] else kept)
   named_more long h true l =
       let k = length-append kept (x ∷ []) in
       let s : bits < room = omega arith in
@@ -161,7 +161,7 @@ module _ (names kept : List ℕ) (bits x : ℕ) (e : bits ≡ length kept) where
 few : {x : ℕ} (d : Bool) → (d && ltb x points) ≡ true → x < points
 few {x} d e = ltb-true x points (and_both d (ltb x points) e).1
 
-counted-few : (b : Bool) (n : ℕ) → (if b then n + 1 else n) ≤ n + 1
+counted-few : (b : Bool) (n : ℕ) → (when b then n + 1 else n) ≤ n + 1
 counted-few true n = omega arith
 counted-few false n = omega arith
 

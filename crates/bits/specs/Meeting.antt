@@ -1,6 +1,6 @@
 -- What is met along the tokens, as lists, and what the code keeps of it.
 use Rattle.std.specs.Prelude.{ℕ, zero, suc, ◌+◌, ◌≤◌, ◌<◌, ◌≡◌, Bool, false, not, ◌&&◌, List, [], ◌∷◌, ◌++◌, eqb, ltb, length, get_or, set, take}
-use Rattle.model.specs.Choice.{if◌then◌else◌}
+use Rattle.model.specs.Choice.{when◌then◌else◌}
 use Rattle.model.specs.Reading.{Read, got, fault}
 use Rattle.model.specs.Meanings.{is_among}
 use Rattle.model.specs.Trees.{Tree}
@@ -39,8 +39,8 @@ is_out t = eqb t.tag 3 && (eqb t.kind 4 && eqb t.content 3)
 unfoldable pub meet : Met → Token → Met
 unfolding is_out
 meet m t = record {
-  names = if eqb t.tag 2 then m.names ++ t.content ∷ [] else m.names;
-  seen = if m.driving && ltb t.content points then m.seen ++ t.content ∷ [] else m.seen;
+  names = when eqb t.tag 2 then m.names ++ t.content ∷ [] else m.names;
+  seen = when m.driving && ltb t.content points then m.seen ++ t.content ∷ [] else m.seen;
   driving = is_out t;
 }
 
@@ -61,16 +61,16 @@ met_in t = record { names = bits_of t; seen = driven t; driving = false }
 -- ---- as the code keeps it
 
 unfoldable pub marked_at : List ℕ → Bool → ℕ → List ℕ
-marked_at marks driving x = if driving && ltb x points then set marks x 1 else marks
+marked_at marks driving x = when driving && ltb x points then set marks x 1 else marks
 
 unfoldable pub driven_before : List ℕ → Bool → ℕ → Bool
 driven_before marks driving x = driving && ltb x points && not (eqb (get_or marks x 0) 0)
 
 unfoldable pub counted_at : ℕ → Token → ℕ
-counted_at bits t = if eqb t.tag 2 then bits + 1 else bits
+counted_at bits t = when eqb t.tag 2 then bits + 1 else bits
 
 unfoldable pub named_at : List ℕ → ℕ → Token → List ℕ
-named_at names bits t = if eqb t.tag 2 && ltb bits room then set names bits t.content else names
+named_at names bits t = when eqb t.tag 2 && ltb bits room then set names bits t.content else names
 
 pub record NoMarks (marks : List ℕ) : Type 0 where
   pub long : points ≤ length marks
@@ -81,7 +81,7 @@ pub record Holds (m : Met) (marks names : List ℕ) (g : Gathered) : Type 0 wher
   -- where there is room for all
   pub named : length m.names ≤ room → take g.bits names ≡ m.names
   pub twice-is : g.twice ≡ not (all_differ m.seen)
-  pub marked : (x : ℕ) → x < points → get_or marks x 0 ≡ (if is_among x m.seen then 1 else 0)
+  pub marked : (x : ℕ) → x < points → get_or marks x 0 ≡ (when is_among x m.seen then 1 else 0)
   pub driving-is : g.driving ≡ m.driving
 
 -- whatever the code kept before of something met, it keeps of that and this token

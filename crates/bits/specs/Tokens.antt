@@ -1,6 +1,6 @@
 -- The tokens that the bytes of a tree are, where it has neither list nor syntax values.
 use Rattle.std.specs.Prelude.{ℕ, eqb}
-use Rattle.model.specs.Choice.{if◌then◌else◌}
+use Rattle.model.specs.Choice.{when◌then◌else◌}
 use Rattle.model.specs.Reading as m
 use Rattle.model.specs.Reading.{Reader, ◌>>=◌, give, num}
 use Rattle.numbers.specs.Answers.{answer_at}
@@ -27,7 +27,7 @@ read_kind = do
 -- behind any tag
 unfoldable pub read_behind : ℕ → Reader Token
 unfolding read_kind read_content
-read_behind tag = if eqb tag 3 then read_kind else read_content tag 0
+read_behind tag = when eqb tag 3 then read_kind else read_content tag 0
 
 unfoldable pub read_token : Reader Token
 unfolding num read_behind

@@ -9,7 +9,7 @@ use lib.ListN.{length, take, drop, length-drop}
 use lib.Seq.{drop-drop}
 use Rattle.scopes.specs.Sets.{set_scopes}
 use Rattle.numbers.specs.Limits.{most_image}
-use Rattle.model.specs.Choice.{if◌then◌else◌}
+use Rattle.model.specs.Choice.{when◌then◌else◌}
 use Rattle.model.specs.Refusals.{layout, over_limit}
 use Rattle.model.specs.Objects as m
 use Rattle.model.specs.Objects.{no_sets}
@@ -45,7 +45,7 @@ groups-short zero w n v (b ∷ s) rest e =
     omega (arith, ap length p.1, ap length q.1, ap length (got-rest (n + b * w) v f.1 rest f.3))
 groups-short (suc k) w n v (b ∷ s) rest e = go (ltb b 128) e (λ x. groups-short k (w * 128) (n + (b - 128) * w) v s rest x)
   where
-    go : (t : Bool) → (if t then (need layout (not (eqb b 0)) >> give (n + b * w)) else groups k (w * 128) (n + (b - 128) * w)) s ≡ got v rest
+    go : (t : Bool) → (when t then (need layout (not (eqb b 0)) >> give (n + b * w)) else groups k (w * 128) (n + (b - 128) * w)) s ≡ got v rest
         → (groups k (w * 128) (n + (b - 128) * w) s ≡ got v rest → length rest ≤ length s) → length rest ≤ suc (length s)
     go true x h =
         let f = next-got (need layout (not (eqb b 0)) s) _ v rest x in
@@ -58,7 +58,7 @@ unfolding num byte
 num-short v [] rest e = absurd (fault≢got layout v rest e)
 num-short v (b ∷ s) rest e = go (ltb b 128) e (λ x. groups-short 3 128 (b - 128) v s rest x)
   where
-    go : (t : Bool) → (if t then give b else groups 3 128 (b - 128)) s ≡ got v rest → (groups 3 128 (b - 128) s ≡ got v rest → length rest ≤ length s)
+    go : (t : Bool) → (when t then give b else groups 3 128 (b - 128)) s ≡ got v rest → (groups 3 128 (b - 128) s ≡ got v rest → length rest ≤ length s)
         → length rest + 1 ≤ suc (length s)
     go true x h = omega (arith, ap length (got-rest b v s rest x))
     go false x h = omega (arith, h x)

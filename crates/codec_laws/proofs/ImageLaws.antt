@@ -8,7 +8,7 @@ use mathlib.Core.Bool.{Bool, true, false}
 use mathlib.Core.List.{List, [], ◌∷◌, ◌++◌, append_assoc, append-nil}
 use lib.Dec.{leb}
 use lib.ListN.{length}
-use Rattle.model.specs.Choice.{if◌then◌else◌}
+use Rattle.model.specs.Choice.{when◌then◌else◌}
 use Rattle.model.specs.Limits.{most_names, most_scopes, most_nesting, most_image}
 use Rattle.model.specs.Refusals.{layout, over_limit}
 use Rattle.model.specs.Objects.{Stx}
@@ -39,7 +39,7 @@ whole : {R : Type 0} (r : Reader (Image R)) (image rest : List ℕ) (i : Image R
 unfolding read_image
 whole r image rest i e = go (leb (length image) most_image) refl e
   where
-    go : (b : Bool) → leb (length image) most_image ≡ b → (if b then r image else fault over_limit) ≡ got i rest
+    go : (b : Bool) → leb (length image) most_image ≡ b → (when b then r image else fault over_limit) ≡ got i rest
         → (r image ≡ got i rest) × (length image ≤ most_image)
     go true q f = (f, leb-true (length image) most_image q)
     go false q f = absurd (fault≢got over_limit i rest f)

@@ -8,7 +8,7 @@ use mathlib.Core.Bool.{Bool, true, false}
 use mathlib.Core.List.{List, [], ◌∷◌, ◌++◌}
 use lib.Dec.{ltb}
 use lib.ListN.{length, length-append}
-use Rattle.model.specs.Choice.{if◌then◌else◌}
+use Rattle.model.specs.Choice.{when◌then◌else◌}
 use Rattle.model.specs.Objects.{tag_of, content_of, Stx, atom, list, Stxs, nil, cons, count}
 use Rattle.model.specs.Trees.{Tree, var, app, fun, datum, lst, stx, Trees, tnil, tcons, tcount}
 use Rattle.model.specs.Writing.{groups_of, num_bytes, sets_bytes, stx_bytes, stxs_bytes, tree_bytes, trees_bytes}
@@ -24,7 +24,7 @@ pub num-some : (n : ℕ) → 1 ≤ length (num_bytes n)
 unfolding num_bytes groups_of
 num-some n = go (ltb n 128)
   where
-    go : (t : Bool) → 1 ≤ length (if t then n ∷ [] else (n % 128 + 128) ∷ groups_of 3 (n / 128))
+    go : (t : Bool) → 1 ≤ length (when t then n ∷ [] else (n % 128 + 128) ∷ groups_of 3 (n / 128))
     go true = le_refl 1
     go false = suc-le-suc zero-le
 

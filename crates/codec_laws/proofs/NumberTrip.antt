@@ -7,7 +7,7 @@ use native.Mathlib.Omega.{arith}
 use mathlib.Core.Bool.{Bool, true, false}
 use mathlib.Core.List.{List, [], ◌∷◌, ◌++◌}
 use lib.Dec.{eqb, ltb, leb}
-use Rattle.model.specs.Choice.{if◌then◌else◌}
+use Rattle.model.specs.Choice.{when◌then◌else◌}
 use Rattle.model.specs.Refusals.{Refusal, layout, over_limit}
 use Rattle.model.specs.Reading.{Read, got, fault, byte, groups, num}
 use Rattle.model.specs.Writing.{groups_of, num_bytes}
@@ -52,7 +52,7 @@ groups_back (suc k) w n m rest p h = go (ltb m 128) refl (groups_back k (w * 128
   where
     go : (t : Bool) → ltb m 128 ≡ t
         → (0 < m / 128 → m / 128 < room k → groups k (w * 128) (n + (m % 128 + 128 - 128) * w) (groups_of k (m / 128) ++ rest) ≡ got (n + (m % 128 + 128 - 128) * w + m / 128 * (w * 128)) rest)
-        → groups (suc k) w n ((if t then m ∷ [] else (m % 128 + 128) ∷ groups_of k (m / 128)) ++ rest) ≡ got (n + m * w) rest
+        → groups (suc k) w n ((when t then m ∷ [] else (m % 128 + 128) ∷ groups_of k (m / 128)) ++ rest) ≡ got (n + m * w) rest
     go true e below = read_small k w n m rest e (ne_eqb m 0 (pos_ne m p))
     go false e below =
         read_more k w n (m % 128 + 128) (groups_of k (m / 128) ++ rest) (le-ltb (m % 128 + 128) 128 (omega arith))
@@ -64,7 +64,7 @@ pub num_back : (n : ℕ) (rest : List ℕ) → n < 4294967296 → num (num_bytes
 unfolding num byte num_bytes groups_of
 num_back n rest h = go (ltb n 128) refl
   where
-    go : (t : Bool) → ltb n 128 ≡ t → num ((if t then n ∷ [] else (n % 128 + 128) ∷ groups_of 3 (n / 128)) ++ rest) ≡ got n rest
+    go : (t : Bool) → ltb n 128 ≡ t → num ((when t then n ∷ [] else (n % 128 + 128) ∷ groups_of 3 (n / 128)) ++ rest) ≡ got n rest
     go true e = rw e
     go false e = rw (le-ltb (n % 128 + 128) 128 (omega arith))
         (groups_back 3 128 (n % 128 + 128 - 128) (n / 128) rest (omega (arith, ltb-false n 128 e)) (omega arith)

@@ -1,6 +1,6 @@
 -- What the code's work is.
 use Rattle.std.specs.Prelude.{Bool, true, false}
-use Rattle.model.specs.Choice.{if◌then◌else◌}
+use Rattle.model.specs.Choice.{when◌then◌else◌}
 use Rattle.model.specs.Scopes.{Scopes, add, flip, prune}
 use Rattle.model.specs.Objects.{Sets, change_at}
 use Rattle.scopes.specs.Sets.{scopes_of, Declared}
@@ -38,4 +38,4 @@ sets_change w = change_at (set_change w) w.phase
 
 unfoldable pub copying_of : Work → Copying
 unfolding strips set_change_by change_at
-copying_of w = if strips w.act then stripping else changing (sets_change w)
+copying_of w = when strips w.act then stripping else changing (sets_change w)

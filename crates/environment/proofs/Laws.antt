@@ -8,7 +8,7 @@ use native.Mathlib.Omega.{arith}
 use borrow.Author.Tests.{eq-eqb, ne_eqb, eqb-true}
 use lib.ListN.{length}
 use lib.Dec.{eqb}
-use Rattle.model.specs.Choice.{if◌then◌else◌}
+use Rattle.model.specs.Choice.{when◌then◌else◌}
 use Rattle.model.specs.Refusals.{ambiguous}
 use Rattle.model.specs.Objects.{Atom, symbol, number, point, prim, rung, Sets, set_at, Stx, atom, list}
 use Rattle.model.specs.Trees.{Tree, stx}
@@ -175,7 +175,7 @@ entry_small n k w env d r h = by (eqb n k) refl
   where
     by : (t : Bool) → eqb n k ≡ t → n < most_names
     by true e = omega (arith, eqb-true n k e)
-    by false e = r (λ g. h (ap (λ (t : Bool). if t then w else m.meaning n env) e ∙ g))
+    by false e = r (λ g. h (ap (λ (t : Bool). when t then w else m.meaning n env) e ∙ g))
 
 pub meant_small : {l : List ℕ} {top e : ℕ} {env : Env} → RepE l top e env → (n : ℕ) → ¬ (m.meaning n env ≡ unknown) → n < most_names
 unfolding m.meaning

@@ -6,7 +6,7 @@ use mathlib.Core.List.{List, []}
 use lib.ListN.{length}
 use lib.Dec.{leb}
 use borrow.Author.Tests.{le-leb, lt-leb}
-use Rattle.model.specs.Choice.{if◌then◌else◌}
+use Rattle.model.specs.Choice.{when◌then◌else◌}
 use Rattle.model.specs.Limits.{most_entries, last_phase, most_image}
 use Rattle.model.specs.Refusals.{over_limit, unowned}
 use Rattle.model.specs.Trees.{Tree, load_size}
@@ -34,13 +34,13 @@ evaluate-is image budget room = go (leb (length image) most_image) (read_tree_im
     W : Image Tree → m.Ending
     W i = worked budget (after (charge (load_size i.root) (start budget i)) (λ u. evaluate 128 nowhere i.root)) (writes (λ b. tree_images) budget room i.head)
 
-    owned : (i : Image Tree) (t : List ℕ) (b : Bool) → with_image (next (need unowned b t) (λ x u. got i u)) W ≡ (if b then W i else m.refused unowned no_rivals 0)
+    owned : (i : Image Tree) (t : List ℕ) (b : Bool) → with_image (next (need unowned b t) (λ x u. got i u)) W ≡ (when b then W i else m.refused unowned no_rivals 0)
     owned i t true = refl
     owned i t false = refl
 
     go : (b : Bool) (g : Read (Image Tree))
-        → with_image (if b then next g (λ i t. next (need unowned (closed [] i.root) t) (λ x u. got i u)) else fault over_limit) W
-        ≡ with_image (if b then g else fault over_limit) (λ i. if closed [] i.root then W i else m.refused unowned no_rivals 0)
+        → with_image (when b then next g (λ i t. next (need unowned (closed [] i.root) t) (λ x u. got i u)) else fault over_limit) W
+        ≡ with_image (when b then g else fault over_limit) (λ i. when closed [] i.root then W i else m.refused unowned no_rivals 0)
     go false g = refl
     go true (fault f) = refl
     go true (got i t) = owned i t (closed [] i.root)

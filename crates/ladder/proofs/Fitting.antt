@@ -8,7 +8,7 @@ use native.Mathlib.Nat.{le-max_left, le-max_right}
 use lib.Dec.{leb, eqb}
 use lib.ListN.{length, length-append}
 use borrow.Author.Tests.{leb-true, eqb-true}
-use Rattle.model.specs.Choice.{if◌then◌else◌}
+use Rattle.model.specs.Choice.{when◌then◌else◌}
 use Rattle.model.specs.Limits.{most_nesting, last_point}
 use Rattle.model.specs.Objects.{Atom, symbol, number, point, prim, rung}
 use Rattle.model.specs.Trees.{Tree, var, app, fun, datum, lst, stx, Trees, tnil, tcons, tcount, tnesting, tnestings}
@@ -190,7 +190,7 @@ module _ (bits k n m : ℕ) where
   unfolding is_among address_in
   owned-more names around y next o h x = go (eqb x y)
     where
-      go : (t : Bool) → (t || is_among x names) ≡ true → (if t then next else address_in around x) < bits
+      go : (t : Bool) → (t || is_among x names) ≡ true → (when t then next else address_in around x) < bits
       go true e = h
       go false e = o x e
 

@@ -6,7 +6,7 @@ use native.Mathlib.Omega.{arith}
 use lib.Dec.{eqb}
 use lib.ListN.{length, get_or, set}
 use borrow.Author.Tests.{ne_eqb}
-use Rattle.model.specs.Choice.{if◌then◌else◌}
+use Rattle.model.specs.Choice.{when◌then◌else◌}
 use Rattle.requests.specs.Scanning.{both, either, opposite, write_point, write_bit}
 use Rattle.requests.specs.Binary.{Binary}
 use Rattle.requests.proofs.Binary.{binary-at, binary-set, both-binary, either-binary, opposite-binary}
@@ -78,7 +78,7 @@ series-stands [] values v s h k = absurd (omega arith)
 series-stands (a ∷ l) values v s h k =
     record { stands = record { is = go a v s.is s.binary.0 h; binary = (both-binary a v h, s.binary.1); few = s.few }; high = refl }
   where
-    go : (a v : ℕ) → values ≡ number_of l * 2 + a → a ≤ 1 → v ≤ 1 → (if eqb v 0 then values - values % 2 else values) ≡ number_of l * 2 + both a v
+    go : (a v : ℕ) → values ≡ number_of l * 2 + a → a ≤ 1 → v ≤ 1 → (when eqb v 0 then values - values % 2 else values) ≡ number_of l * 2 + both a v
     go zero zero e b h = omega arith
     go zero (suc v) e b h = rw (ne_eqb (suc v) 0 (λ q. omega arith)) (omega arith)
     go (suc a) zero e b h = omega arith
@@ -90,7 +90,7 @@ parallel-stands [] values v s h k = absurd (omega arith)
 parallel-stands (a ∷ l) values v s h k =
     record { stands = record { is = go a v s.is s.binary.0 h; binary = (either-binary a v h, s.binary.1); few = s.few }; high = refl }
   where
-    go : (a v : ℕ) → values ≡ number_of l * 2 + a → a ≤ 1 → v ≤ 1 → (if eqb v 0 then values else values - values % 2 + 1) ≡ number_of l * 2 + either a v
+    go : (a v : ℕ) → values ≡ number_of l * 2 + a → a ≤ 1 → v ≤ 1 → (when eqb v 0 then values else values - values % 2 + 1) ≡ number_of l * 2 + either a v
     go zero zero e b h = e
     go zero (suc v) e b h = rw (ne_eqb (suc v) 0 (λ q. omega arith)) (omega arith)
     go (suc a) zero e b h = omega arith
@@ -102,7 +102,7 @@ inverse-stands [] values s k = absurd (omega arith)
 inverse-stands (a ∷ l) values s k =
     record { stands = record { is = go a s.is s.binary.0; binary = (opposite-binary a, s.binary.1); few = s.few }; high = refl }
   where
-    go : (a : ℕ) → values ≡ number_of l * 2 + a → a ≤ 1 → (if eqb (values % 2) 0 then values + 1 else values - 1) ≡ number_of l * 2 + opposite a
+    go : (a : ℕ) → values ≡ number_of l * 2 + a → a ≤ 1 → (when eqb (values % 2) 0 then values + 1 else values - 1) ≡ number_of l * 2 + opposite a
     go zero e b = let z : values % 2 ≡ 0 = omega arith in rw z (omega arith)
     go (suc a) e b = let z : values % 2 ≡ 1 = omega arith in rw z (omega arith)
 

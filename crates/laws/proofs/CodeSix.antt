@@ -7,7 +7,7 @@ use mathlib.Core.Bool.{Bool, true, false}
 use mathlib.Core.List.{List}
 use lib.Dec.{leb, ltb}
 use lib.ListN.{length}
-use Rattle.model.specs.Choice.{if◌then◌else◌}
+use Rattle.model.specs.Choice.{when◌then◌else◌}
 use Rattle.model.specs.Limits.{most_names, most_scopes, most_bindings}
 use Rattle.model.specs.Refusals.{Refusal, over_budget, code_of}
 use Rattle.model.specs.Scopes.{Scopes, no_scopes}
@@ -33,7 +33,7 @@ module _ (I : State → Type 0) (Q : Refusal → Rivals → Type 0) where
   after-ends (ok a t) f h k = k a t h
   after-ends (no r p u) f h k = h
 
-  choice_ends : {A : Type 0} (b : Bool) (x y : Out A) → Ends I Q x → Ends I Q y → Ends I Q (if b then x else y)
+  choice_ends : {A : Type 0} (b : Bool) (x y : Out A) → Ends I Q x → Ends I Q y → Ends I Q (when b then x else y)
   choice_ends true x y h k = h
   choice_ends false x y h k = k
 

@@ -6,7 +6,7 @@ use Prim.Native.Nat.{ℕ}
 use mathlib.Core.Bool.{Bool, true, false, false≢true}
 use mathlib.Core.List.{List, [], ◌∷◌}
 use lib.Dec.{eqb}
-use Rattle.model.specs.Choice.{if◌then◌else◌}
+use Rattle.model.specs.Choice.{when◌then◌else◌}
 use Rattle.model.specs.Scopes.{Scopes, within}
 use Rattle.model.specs.Resolving.{Bind, Found, means, several, candidate, candidates, over, largest, choose, resolve}
 use borrow.Author.Tests.{eqb-true, eq-eqb}
@@ -79,7 +79,7 @@ largest-is x (b ∷ l) all ne sub rest =
     skip c g miss (inr i) = i
 
     by_test : (t : Bool) → over b all ≡ t → ((over b all ≡ true → ⊥) → Rule x all (largest l all))
-        → Rule x all (if t then means b.target else largest l all)
+        → Rule x all (when t then means b.target else largest l all)
     by_test true e next = found b (record { here = sub b (inl refl); above = over-sound b all e })
     by_test false e next = next (λ h. false≢true (sym e ∙ h))
 
@@ -111,7 +111,7 @@ candidates-sound x s (c ∷ l) b i = go (λ k. candidates-sound x s l b k) (cand
     further k = record { stored = inr k.stored; symbol-is = k.symbol-is; contained = k.contained }
 
     go : (In b (candidates x s l) → Candidate x s l b) → (t : Bool) → candidate x s c ≡ t
-        → In b (if t then c ∷ candidates x s l else candidates x s l) → Candidate x s (c ∷ l) b
+        → In b (when t then c ∷ candidates x s l else candidates x s l) → Candidate x s (c ∷ l) b
     go below true e (inl p) =
         let h = and_both (eqb c.symb x) (within c.set s) e in
         record {
@@ -135,7 +135,7 @@ candidates_complete x s (c ∷ l) b k =
         ∙ both_true (eqb b.symb x) (within b.set s) (eq-eqb b.symb x k.symbol-is) k.contained
 
     go : (b ≡ c) ⊎ In b l → (In b l → In b (candidates x s l)) → (t : Bool) → candidate x s c ≡ t
-        → In b (if t then c ∷ candidates x s l else candidates x s l)
+        → In b (when t then c ∷ candidates x s l else candidates x s l)
     go (inl p) below true e = inl p
     go (inl p) below false e = absurd (false≢true (sym e ∙ passes p))
     go (inr i) below true e = inr (below i)

@@ -7,7 +7,7 @@ use lib.Dec.{eqb, eqb-zero-suc, eqb-suc-zero, eqb-suc-suc}
 use lib.Arith.{bin_ind, digits_div, digits_mod}
 use borrow.Author.Tests.{eqb-true, eq-eqb}
 use lib.Bits.{bit_and, bit_or, bit_xor, differ, and_step, or_step, xor_step}
-use Rattle.model.specs.Choice.{if◌then◌else◌}
+use Rattle.model.specs.Choice.{when◌then◌else◌}
 use Rattle.model.specs.Scopes.{Scopes, digit, has, only, add, flip, prune, within}
 use Rattle.laws.proofs.Tests.{or_left, or_right, same_test}
 
@@ -198,7 +198,7 @@ has-flip k j m = go (has (suc j) m) refl
     put false true f = refl
     put false false f = refl
 
-    go : (t : Bool) → has (suc j) m ≡ t → has k (if t then prune (only (suc j)) m else add (suc j) m) ≡ xor (eqb k (suc j)) (has k m)
+    go : (t : Bool) → has (suc j) m ≡ t → has k (when t then prune (only (suc j)) m else add (suc j) m) ≡ xor (eqb k (suc j)) (has k m)
     go true h = has-prune k (only (suc j)) m ∙ ap (λ (x : Bool). has k m && not x) (has-only k j) ∙ out (eqb k (suc j)) (has k m) (λ e. here e ∙ h)
     go false h = has-add k j m ∙ put (eqb k (suc j)) (has k m) (λ e. here e ∙ h)
 

@@ -8,7 +8,7 @@ use mathlib.Core.Bool.{Bool, true, false, ◌&&◌, false≢true}
 use mathlib.Core.List.{List, [], ◌∷◌}
 use lib.Dec.{eqb}
 use lib.Arith.{lt-one}
-use Rattle.model.specs.Choice.{if◌then◌else◌}
+use Rattle.model.specs.Choice.{when◌then◌else◌}
 use Rattle.model.specs.Scopes.{Scopes, digit, has, within}
 use Rattle.model.specs.Resolving.{Bind, means, bind_before, insert, candidate, candidates, choose, resolve}
 use Rattle.laws.proofs.ScopeSets.{digit-zero, within→sub, within-refl}
@@ -52,11 +52,11 @@ unfolding insert candidates
 candidates-insert x s b [] e = rw e
 candidates-insert x s b (c ∷ l) e = go (bind_before b c) (candidates-insert x s b l e)
   where
-    cong : (t : Bool) (m k : List Bind) → m ≡ k → (if t then c ∷ m else m) ≡ (if t then c ∷ k else k)
-    cong t m k p = ap (λ (z : List Bind). if t then c ∷ z else z) p
+    cong : (t : Bool) (m k : List Bind) → m ≡ k → (when t then c ∷ m else m) ≡ (when t then c ∷ k else k)
+    cong t m k p = ap (λ (z : List Bind). when t then c ∷ z else z) p
 
     go : (t : Bool) → candidates x s (insert b l) ≡ candidates x s l
-        → candidates x s (if t then b ∷ c ∷ l else c ∷ insert b l) ≡ candidates x s (c ∷ l)
+        → candidates x s (when t then b ∷ c ∷ l else c ∷ insert b l) ≡ candidates x s (c ∷ l)
     go true r = rw e
     go false r = cong (candidate x s c) (candidates x s (insert b l)) (candidates x s l) r
 
@@ -96,7 +96,7 @@ unfolding insert
 insert-new b [] = inl refl
 insert-new b (c ∷ l) = go (bind_before b c) (insert-new b l)
   where
-    go : (t : Bool) → In b (insert b l) → In b (if t then b ∷ c ∷ l else c ∷ insert b l)
+    go : (t : Bool) → In b (insert b l) → In b (when t then b ∷ c ∷ l else c ∷ insert b l)
     go true i = inl refl
     go false i = inr i
 
@@ -105,7 +105,7 @@ unfolding insert
 insert-old b d [] i = absurd i
 insert-old b d (c ∷ l) i = go (bind_before b c) i (λ k. insert-old b d l k)
   where
-    go : (t : Bool) → (d ≡ c) ⊎ In d l → (In d l → In d (insert b l)) → In d (if t then b ∷ c ∷ l else c ∷ insert b l)
+    go : (t : Bool) → (d ≡ c) ⊎ In d l → (In d l → In d (insert b l)) → In d (when t then b ∷ c ∷ l else c ∷ insert b l)
     go true i r = inr i
     go false (inl p) r = inl p
     go false (inr k) r = inr (r k)
@@ -120,7 +120,7 @@ insert_cases b d (c ∷ l) i = go (bind_before b c) i (λ k. insert_cases b d l 
     further (inl p) = inl p
     further (inr k) = inr (inr k)
 
-    go : (t : Bool) → In d (if t then b ∷ c ∷ l else c ∷ insert b l) → (In d (insert b l) → (d ≡ b) ⊎ In d l) → (d ≡ b) ⊎ In d (c ∷ l)
+    go : (t : Bool) → In d (when t then b ∷ c ∷ l else c ∷ insert b l) → (In d (insert b l) → (d ≡ b) ⊎ In d l) → (d ≡ b) ⊎ In d (c ∷ l)
     go true (inl p) r = inl p
     go true (inr k) r = inr k
     go false (inl p) r = inr (inl p)

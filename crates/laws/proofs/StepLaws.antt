@@ -3,7 +3,7 @@ use mathlib.Core.Path.{◌≡◌, refl, subst}
 use Prim.Native.Nat.{ℕ, ◌-◌, ◌≤◌}
 use mathlib.Core.Bool.{Bool, true, false}
 use lib.Dec.{leb}
-use Rattle.model.specs.Choice.{if◌then◌else◌}
+use Rattle.model.specs.Choice.{when◌then◌else◌}
 use Rattle.model.specs.Refusals.{Refusal, ambiguous, over_budget}
 use Rattle.model.specs.Objects.{Sets, set_at}
 use Rattle.model.specs.Resolving.{means, several, resolve}
@@ -40,7 +40,7 @@ pub charge-ok : (n : ℕ) (v : Unit {0}) (s t : State) → charge n s ≡ ok v t
 unfolding charge spend
 charge-ok n v s t e = go (leb n s.left) refl e
   where
-    go : (b : Bool) → leb n s.left ≡ b → (if b then ok tt (spend n s) else no over_budget no_rivals s.left) ≡ ok v t → (n ≤ s.left) × (spend n s ≡ t)
+    go : (b : Bool) → leb n s.left ≡ b → (when b then ok tt (spend n s) else no over_budget no_rivals s.left) ≡ ok v t → (n ≤ s.left) × (spend n s ≡ t)
     go true q f = (leb-true n s.left q, ok-state tt v (spend n s) t f)
     go false q f = absurd (no≢ok over_budget s.left v t f)
 

@@ -6,7 +6,7 @@ use native.Mathlib.Omega.{arith}
 use mathlib.Core.Bool.{Bool, true, false, true≢false}
 use mathlib.Core.List.{List, [], ◌∷◌}
 use lib.Dec.{eqb, ltb}
-use Rattle.model.specs.Choice.{if◌then◌else◌}
+use Rattle.model.specs.Choice.{when◌then◌else◌}
 use Rattle.model.specs.Scopes.{Scopes, less_then, list_before, set_before, members}
 use Rattle.model.specs.Resolving.{Bind, bind_before, insert}
 use borrow.Author.Tests.{ltb-false, eqb-false, eqb-true}
@@ -68,7 +68,7 @@ unfolding insert
 after-insert p b [] h u q a = (q, tt)
 after-insert p b (c ∷ l) h u q a = go (bind_before b c) refl (λ r. after-insert c b l h (λ d i. u d (inr i)) r a.1)
   where
-    go : (t : Bool) → bind_before b c ≡ t → (bind_before c b ≡ true → Ascending c (insert b l)) → Ascending p (if t then b ∷ c ∷ l else c ∷ insert b l)
+    go : (t : Bool) → bind_before b c ≡ t → (bind_before c b ≡ true → Ascending c (insert b l)) → Ascending p (when t then b ∷ c ∷ l else c ∷ insert b l)
     go true e r = (q, (e, a.1))
     go false e r = (a.0, r (other_way b c h (u c (inl refl)) e))
 
@@ -77,6 +77,6 @@ unfolding insert
 insert_sorted b [] h u a = tt
 insert_sorted b (c ∷ l) h u a = go (bind_before b c) refl
   where
-    go : (t : Bool) → bind_before b c ≡ t → Sorted (if t then b ∷ c ∷ l else c ∷ insert b l)
+    go : (t : Bool) → bind_before b c ≡ t → Sorted (when t then b ∷ c ∷ l else c ∷ insert b l)
     go true e = (e, a)
     go false e = after-insert c b l h (λ d i. u d (inr i)) (other_way b c h (u c (inl refl)) e) a

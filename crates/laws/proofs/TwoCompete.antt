@@ -9,7 +9,7 @@ use mathlib.Core.Bool.{Bool, true, false, not, ◌&&◌, false≢true}
 use mathlib.Core.List.{List, [], ◌∷◌}
 use lib.Dec.{eqb}
 use lib.ListN.{length}
-use Rattle.model.specs.Choice.{if◌then◌else◌}
+use Rattle.model.specs.Choice.{when◌then◌else◌}
 use Rattle.model.specs.Scopes.{Scopes, within}
 use Rattle.model.specs.Resolving.{Bind, bind_before, several, candidate, candidates, resolve}
 use Rattle.model.specs.Competing.{Rivals, no_rivals, contained, uncontained, competes, competing, first_two, rivals}
@@ -81,13 +81,13 @@ uncontained-is b (d ∷ l) e c (inr i) = uncontained-is b l (and_both (not (cont
 
 -- c where it contains m
 unfoldable up : Bind → Bind → Bind
-up m c = if contained m c then c else m
+up m c = when contained m c then c else m
 
 up_cases : (P : Bind → Type 0) (m c : Bind) → (contained m c ≡ true → P c) → (contained m c ≡ false → P m) → P (up m c)
 unfolding up
 up_cases P m c p q = go (contained m c) refl
   where
-    go : (t : Bool) → contained m c ≡ t → P (if t then c else m)
+    go : (t : Bool) → contained m c ≡ t → P (when t then c else m)
     go true e = p e
     go false e = q e
 
@@ -185,7 +185,7 @@ module _ (x : ℕ) (s : Scopes) (bs : List Bind) where
   competing-rises n [] = tt
   competing-rises n (b ∷ l) = go (competes x s bs b) (competing-rises (suc n) l)
     where
-      go : (t : Bool) → Rising (suc n) (competing x s bs (suc n) l) → Rising n (if t then n ∷ competing x s bs (suc n) l else competing x s bs (suc n) l)
+      go : (t : Bool) → Rising (suc n) (competing x s bs (suc n) l) → Rising n (when t then n ∷ competing x s bs (suc n) l else competing x s bs (suc n) l)
       go true r = (le_refl n, r)
       go false r = rising_sooner n (competing x s bs (suc n) l) r
 
@@ -202,7 +202,7 @@ module _ (x : ℕ) (s : Scopes) (bs : List Bind) where
       further (c, j, h, e, q) = (c, suc j, behind h, e, omega arith)
 
       go : (Among k (competing x s bs (suc (suc n)) l) → Stands (suc n) l k) → (t : Bool) → competes x s bs b ≡ t
-          → Among k (if t then suc n ∷ competing x s bs (suc (suc n)) l else competing x s bs (suc (suc n)) l) → Stands n (b ∷ l) k
+          → Among k (when t then suc n ∷ competing x s bs (suc (suc n)) l else competing x s bs (suc (suc n)) l) → Stands n (b ∷ l) k
       go below true e (inl p) = (b, 1, front, e, omega arith)
       go below true e (inr g) = further (below g)
       go below false e g = further (below g)
@@ -216,7 +216,7 @@ module _ (x : ℕ) (s : Scopes) (bs : List Bind) where
       shifted = omega arith
 
       go : (t : Bool) → Among (suc n + k) (competing x s bs (suc (suc n)) l)
-          → Among (n + suc k) (if t then suc n ∷ competing x s bs (suc (suc n)) l else competing x s bs (suc (suc n)) l)
+          → Among (n + suc k) (when t then suc n ∷ competing x s bs (suc (suc n)) l else competing x s bs (suc (suc n)) l)
       go true i = inr (subst (λ (z : ℕ). Among z (competing x s bs (suc (suc n)) l)) shifted i)
       go false i = subst (λ (z : ℕ). Among z (competing x s bs (suc (suc n)) l)) shifted i
 

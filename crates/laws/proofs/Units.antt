@@ -8,7 +8,7 @@ use lib.Dec.{leb, ltb}
 use lib.ListN.{length}
 use Rattle.model.specs.Limits.{most_names, most_scopes, most_bindings}
 use Rattle.model.specs.Refusals.{Refusal, too_many_entries}
-use Rattle.model.specs.Choice.{if◌then◌else◌}
+use Rattle.model.specs.Choice.{when◌then◌else◌}
 use Rattle.model.specs.Scopes.{Scopes, no_scopes}
 use Rattle.model.specs.Objects.{set_at, Stx}
 use Rattle.model.specs.Trees.{Tree}
@@ -39,7 +39,7 @@ after-left (ok a t) f n h k = le_trans (k a t) h
 after-left (no r p u) f n h k = h
 
 -- both ways of a test leave at most n
-choice_left : {A : Type 0} (b : Bool) (x y : Out A) (n : ℕ) → left_of x ≤ n → left_of y ≤ n → left_of (if b then x else y) ≤ n
+choice_left : {A : Type 0} (b : Bool) (x y : Out A) (n : ℕ) → left_of x ≤ n → left_of y ≤ n → left_of (when b then x else y) ≤ n
 choice_left true x y n h k = h
 choice_left false x y n h k = k
 
@@ -100,7 +100,7 @@ unfolding names_of
 after-names (ok a t) f n h k = names_since (f a t) n t.names h (k a t)
 after-names (no r p u) f n h k = h
 
-choice_names : {A : Type 0} (b : Bool) (x y : Out A) (n : ℕ) → n ≤ names_of x n → n ≤ names_of y n → n ≤ names_of (if b then x else y) n
+choice_names : {A : Type 0} (b : Bool) (x y : Out A) (n : ℕ) → n ≤ names_of x n → n ≤ names_of y n → n ≤ names_of (when b then x else y) n
 choice_names true x y n h k = h
 choice_names false x y n h k = k
 

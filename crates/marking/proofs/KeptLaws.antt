@@ -9,7 +9,7 @@ use lib.ListN.{length, get_or}
 use mir.Syntax.{w64}
 use mir.Val.{Fits}
 use borrow.Author.Tests.{eq-eqb, ne_eqb}
-use Rattle.model.specs.Choice.{if◌then◌else◌}
+use Rattle.model.specs.Choice.{when◌then◌else◌}
 use Rattle.model.specs.Scopes.{Scopes}
 use Rattle.model.specs.Resolving.{Bind}
 use Rattle.shrinking.specs.Shrunk.{scopes_bound}
@@ -31,7 +31,7 @@ kept-none store marks i e =
     ap (λ (n : ℕ). kept_from marks i (binds_from store i n)) z
 
 kept_next : (store marks : List ℕ) (i : ℕ) → i < length marks
-    → kept_behind store marks i ≡ (if marked marks i then bind_at store i ∷ kept_behind store marks (suc i) else kept_behind store marks (suc i))
+    → kept_behind store marks i ≡ (when marked marks i then bind_at store i ∷ kept_behind store marks (suc i) else kept_behind store marks (suc i))
 unfolding kept_from binds_from
 kept_next store marks i h =
     let z : length marks - i ≡ suc (length marks - suc i) = omega arith in
@@ -45,10 +45,10 @@ unmarked-is marks i e = ap not (eq-eqb (get_or marks i 0) 0 e)
 
 module _ (store marks : List ℕ) (i : ℕ) (h : i < length marks) where
   pub kept_there : (get_or marks i 0 ≡ 0 → ⊥) → kept_behind store marks i ≡ bind_at store i ∷ kept_behind store marks (suc i)
-  kept_there n = kept_next store marks i h ∙ ap (λ (t : Bool). if t then bind_at store i ∷ kept_behind store marks (suc i) else kept_behind store marks (suc i)) (marked-is marks i n)
+  kept_there n = kept_next store marks i h ∙ ap (λ (t : Bool). when t then bind_at store i ∷ kept_behind store marks (suc i) else kept_behind store marks (suc i)) (marked-is marks i n)
 
   pub kept_absent : get_or marks i 0 ≡ 0 → kept_behind store marks i ≡ kept_behind store marks (suc i)
-  kept_absent e = kept_next store marks i h ∙ ap (λ (t : Bool). if t then bind_at store i ∷ kept_behind store marks (suc i) else kept_behind store marks (suc i)) (unmarked-is marks i e)
+  kept_absent e = kept_next store marks i h ∙ ap (λ (t : Bool). when t then bind_at store i ∷ kept_behind store marks (suc i) else kept_behind store marks (suc i)) (unmarked-is marks i e)
 
 bound_more : (b : Bind) (l : List Bind) → scopes_bound (b ∷ l) ≡ bit_or b.set (scopes_bound l)
 unfolding scopes_bound

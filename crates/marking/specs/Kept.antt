@@ -1,7 +1,7 @@
 -- The bindings that are marked.
 use Rattle.std.specs.Prelude.{ℕ, suc, ◌≤◌, ◌≡◌, List, [], ◌∷◌, length}
 use Rattle.std.specs.Int.Bits.{bit_or}
-use Rattle.model.specs.Choice.{if◌then◌else◌}
+use Rattle.model.specs.Choice.{when◌then◌else◌}
 use Rattle.model.specs.Scopes.{Scopes}
 use Rattle.model.specs.Resolving.{Bind}
 use Rattle.shrinking.specs.Shrunk.{scopes_bound}
@@ -13,7 +13,7 @@ use Rattle.marking.specs.Marks.{marked}
 -- of bindings whose marks stand from i on
 unfoldable pub kept_from : List ℕ → ℕ → List Bind → List Bind
 kept_from marks i [] = []
-kept_from marks i (b ∷ l) = if marked marks i then b ∷ kept_from marks (suc i) l else kept_from marks (suc i) l
+kept_from marks i (b ∷ l) = when marked marks i then b ∷ kept_from marks (suc i) l else kept_from marks (suc i) l
 
 -- of the store's
 abbrev pub kept_of : List ℕ → List ℕ → List Bind

@@ -1,7 +1,7 @@
 -- Document 02, T-04: who competes. With code 6 come the places of two bindings, in image order and counted from 1: the first two of those
 -- candidates that no other candidate contains.
 use Rattle.std.specs.Prelude.{ℕ, suc, Bool, true, not, ◌&&◌, List, [], ◌∷◌}
-use Rattle.model.specs.Choice.{if◌then◌else◌}
+use Rattle.model.specs.Choice.{when◌then◌else◌}
 use Rattle.model.specs.Scopes.{Scopes, within}
 use Rattle.model.specs.Objects.{Symbol}
 use Rattle.model.specs.Resolving.{Bind, candidate, candidates}
@@ -34,7 +34,7 @@ competes x s bs b = candidate x s b && uncontained b (candidates x s bs)
 unfoldable pub competing : Symbol → Scopes → List Bind → ℕ → List Bind → List ℕ
 unfolding competes
 competing x s bs n [] = []
-competing x s bs n (b ∷ l) = if competes x s bs b then n ∷ competing x s bs (suc n) l else competing x s bs (suc n) l
+competing x s bs n (b ∷ l) = when competes x s bs b then n ∷ competing x s bs (suc n) l else competing x s bs (suc n) l
 
 -- where there are fewer than two nothing is ambiguous
 unfoldable pub first_two : List ℕ → Rivals

@@ -1,7 +1,7 @@
 -- Document 01, 'Parsing and evaluating': evaluating a tree.
 use Rattle.std.specs.Prelude.{ℕ, zero, suc, Bool, true, false, not, List, [], ◌∷◌, eqb}
 use Rattle.std.proofs.Math.Option.{Option, none, some}
-use Rattle.model.specs.Choice.{if◌then◌else◌, given}
+use Rattle.model.specs.Choice.{when◌then◌else◌, given}
 use Rattle.model.specs.Refusals.{unowned, not_applicable, wrong_argument, outside_use}
 use Rattle.model.specs.Scopes.{Scope}
 use Rattle.model.specs.Objects.{Name, Symbol, Phase, Atom, symbol, number, point, prim, rung, Sets, Stx, atom, list, same_atom}
@@ -87,7 +87,7 @@ primitive mk_stx a b c = given (as_stx b) (λ s. given (remade (sets_of s) a) (�
 primitive first a b c = given (as_list a) first_of
 primitive rest a b c = given (as_list a) rest_of
 primitive link a b c = given (as_list b) (λ l. some (lst (tcons a l)))
-primitive same a b c = given (as_atom a) (λ x. given (as_atom b) (λ y. some (datum (number (if same_atom x y then 1 else 0)))))
+primitive same a b c = given (as_atom a) (λ x. given (as_atom b) (λ y. some (datum (number (when same_atom x y then 1 else 0)))))
 primitive pick a b c = given (as_atom a) (λ x. given (as_number x) (λ k. some (picked k b c)))
 
 -- what f does with an argument of the right kind

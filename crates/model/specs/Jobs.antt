@@ -1,7 +1,7 @@
 -- Document 01, 'What the work covers' and 'Numbers given back': the four jobs, what each leaves in output and table, and the
 -- program's line.
 use Rattle.std.specs.Prelude.{ℕ, zero, suc, ◌+◌, ◌-◌, ◌*◌, ◌/◌, ◌%◌, Bool, true, ◌&&◌, List, [], ◌∷◌, ◌++◌, ltb, leb, length, drop, replicate}
-use Rattle.model.specs.Choice.{if◌then◌else◌}
+use Rattle.model.specs.Choice.{when◌then◌else◌}
 use Rattle.model.specs.Limits.{most_entries, most_budget, most_image, last_phase, words_per_unit, program_budget}
 use Rattle.model.specs.Refusals.{Refusal, unowned, small_table, no_phase, too_long, code_of}
 use Rattle.model.specs.Scopes.{no_scopes}
@@ -67,7 +67,7 @@ budget_fits budget words = leb budget most_budget && leb (words_per_unit * budge
 unfoldable pub lent : Units → List ℕ → List ℕ → Ending → Result
 unfolding budget_fits answer_of output_after cleared
 lent budget table output e =
-    if budget_fits budget (length table)
+    when budget_fits budget (length table)
     then record { answer = answer_of e; output = output_after e output; table = cleared budget table }
     else record { answer = answer_of (refused small_table no_rivals 0); output = output; table = table }
 
@@ -75,7 +75,7 @@ lent budget table output e =
 
 unfoldable pub at_phase : Phase → Ending → Ending
 unfolding last_phase
-at_phase ph e = if leb ph last_phase then e else refused no_phase no_rivals 0
+at_phase ph e = when leb ph last_phase then e else refused no_phase no_rivals 0
 
 unfoldable pub with_image : {R : Type 0} → Read (Image R) → (Image R → Ending) → Ending
 with_image (got i s) f = f i
@@ -93,7 +93,7 @@ worked budget (no r p left) f = refused r p (budget - left)
 
 unfoldable pub fitted : ℕ → List ℕ → Units → Ending
 unfolding most_image
-fitted room b u = if leb (length b) room && leb (length b) most_image then written b u else refused too_long no_rivals u
+fitted room b u = when leb (length b) room && leb (length b) most_image then written b u else refused too_long no_rivals u
 
 -- the words read, the counts of names and scopes reached
 unfoldable pub reached : Head → State → Head
@@ -168,7 +168,7 @@ unfoldable pub evaluate_ending : List ℕ → Units → ℕ → Ending
 unfolding with_image read_image read_tree_image worked start evaluate_root fitted tree_image_bytes reached closed
 evaluate_ending image budget room =
     with_image (read_image read_tree_image image) (λ i.
-    if closed [] i.root
+    when closed [] i.root
     then worked budget (evaluate_root i.root (start budget i)) (λ r s.
     fitted room (tree_image_bytes (reached i.head s) r) (budget - s.left))
     else refused unowned no_rivals 0)
@@ -218,7 +218,7 @@ program image = then_parsed (expand_ending image 0 program_budget most_image)
 -- the digits of n, at most k (no number of 32 bits has more than ten)
 unfoldable pub digits : ℕ → ℕ → List ℕ → List ℕ
 digits zero n after = after
-digits (suc k) n after = if ltb n 10 then (48 + n) ∷ after else digits k (n / 10) ((48 + n % 10) ∷ after)
+digits (suc k) n after = when ltb n 10 then (48 + n) ∷ after else digits k (n / 10) ((48 + n % 10) ∷ after)
 
 -- the word `code`, the code, the word `units`, the units, single spaces between
 unfoldable pub line_bytes : Line → List ℕ

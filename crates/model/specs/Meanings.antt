@@ -1,7 +1,7 @@
 -- Document 01, 'Expanding', and request T-08: what names mean, where an object is expanded, and where a tree is evaluated.
 use Rattle.std.specs.Prelude.{zero, suc, Bool, false, ◌||◌, List, [], ◌∷◌, eqb}
 use Rattle.std.proofs.Math.Option.{Option, none, some}
-use Rattle.model.specs.Choice.{if◌then◌else◌}
+use Rattle.model.specs.Choice.{when◌then◌else◌}
 use Rattle.model.specs.Scopes.{Scope}
 use Rattle.model.specs.Objects.{Name, Symbol, Phase, Sets}
 use Rattle.model.specs.Trees.{Tree}
@@ -40,7 +40,7 @@ core_meaning (some f) = core f
 unfoldable pub meaning : Name → Env → Meaning
 unfolding core_meaning form_of
 meaning n core_only = core_meaning (form_of n)
-meaning n (extend k m e) = if eqb n k then m else meaning n e
+meaning n (extend k m e) = when eqb n k then m else meaning n e
 
 unfoldable pub is_among : Name → List Name → Bool
 is_among n [] = false
@@ -49,7 +49,7 @@ is_among n (m ∷ l) = eqb n m || is_among n l
 -- request T-08: with the stops z
 unfoldable pub meaning_among : Name → Env → List Name → Meaning
 unfolding is_among meaning
-meaning_among n e z = if is_among n z then stopped else meaning n e
+meaning_among n e z = when is_among n z then stopped else meaning n e
 
 -- ---- where an object is expanded. Only a local expansion has stops
 

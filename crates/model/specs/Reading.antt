@@ -1,7 +1,7 @@
 -- Document 01, 'The image', and of 'Numbers given back' the order of its faults: reading an image from the front, where the first
 -- fault decides, a number judged when read, a word or binding when whole.
 use Rattle.std.specs.Prelude.{ℕ, zero, suc, ◌+◌, ◌-◌, ◌*◌, Bool, true, false, not, ◌&&◌, ◌||◌, List, [], ◌∷◌, eqb, ltb, leb, length}
-use Rattle.model.specs.Choice.{if◌then◌else◌}
+use Rattle.model.specs.Choice.{when◌then◌else◌}
 use Rattle.model.specs.Limits.{most_scopes, most_names, core_names, most_bindings, most_nesting, most_word_length, most_image, last_point, last_primitive, last_rung_word}
 use Rattle.model.specs.Refusals.{Refusal, layout, over_limit, wrong_kind}
 use Rattle.model.specs.Scopes.{Scope, Scopes, no_scopes, add}
@@ -69,7 +69,7 @@ groups zero w n = do
   give (n + b * w)
 groups (suc k) w n = do
   b ← byte
-  if ltb b 128
+  when ltb b 128
       then (do
         need layout (not (eqb b 0))
         give (n + b * w))
@@ -79,7 +79,7 @@ unfoldable pub num : Reader ℕ
 unfolding byte groups
 num = do
   b ← byte
-  if ltb b 128 then give b else groups 3 128 (b - 128)
+  when ltb b 128 then give b else groups 3 128 (b - 128)
 
 -- a number that is at most m, else fault c
 unfoldable pub num_up_to : Refusal → ℕ → Reader ℕ
@@ -360,4 +360,4 @@ read_tree_image = do
 
 unfoldable pub read_image : {R : Type 0} → Reader (Image R) → Reader (Image R)
 unfolding most_image
-read_image r = λ s. if leb (length s) most_image then r s else fault over_limit
+read_image r = λ s. when leb (length s) most_image then r s else fault over_limit

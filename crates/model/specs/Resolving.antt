@@ -1,6 +1,6 @@
 -- Document 01, 'Resolving': bindings, their order, and what an identifier's name is.
 use Rattle.std.specs.Prelude.{Bool, true, ◌&&◌, List, [], ◌∷◌, eqb, ltb}
-use Rattle.model.specs.Choice.{if◌then◌else◌}
+use Rattle.model.specs.Choice.{when◌then◌else◌}
 use Rattle.model.specs.Scopes.{Scopes, within, less_then, set_before}
 use Rattle.model.specs.Objects.{Name, Symbol}
 
@@ -18,7 +18,7 @@ bind_before a b = less_then (ltb a.symb b.symb) (eqb a.symb b.symb) (set_before 
 unfoldable pub insert : Bind → List Bind → List Bind
 unfolding bind_before
 insert b [] = b ∷ []
-insert b (c ∷ l) = if bind_before b c then b ∷ c ∷ l else c ∷ insert b l
+insert b (c ∷ l) = when bind_before b c then b ∷ c ∷ l else c ∷ insert b l
 
 -- ---- resolving: a name, or several candidates none of which contains every other
 
@@ -34,7 +34,7 @@ candidate x s b = eqb b.symb x && within b.set s
 unfoldable pub candidates : Symbol → Scopes → List Bind → List Bind
 unfolding candidate
 candidates x s [] = []
-candidates x s (b ∷ l) = if candidate x s b then b ∷ candidates x s l else candidates x s l
+candidates x s (b ∷ l) = when candidate x s b then b ∷ candidates x s l else candidates x s l
 
 -- b contains every one of l
 unfoldable pub over : Bind → List Bind → Bool
@@ -46,7 +46,7 @@ over b (c ∷ l) = within c.set b.set && over b l
 unfoldable pub largest : List Bind → List Bind → Found
 unfolding over
 largest [] all = several
-largest (b ∷ l) all = if over b all then means b.target else largest l all
+largest (b ∷ l) all = when over b all then means b.target else largest l all
 
 -- no candidate: the name is the symbol itself
 unfoldable pub choose : Symbol → List Bind → Found

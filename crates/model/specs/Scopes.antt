@@ -2,7 +2,7 @@
 -- A set is a number: scope k, counted from 1, is a member where the binary digit of weight 2 ^ (k - 1) is 1. The empty set is `noScopes`.
 use Rattle.std.specs.Prelude.{ℕ, zero, suc, ◌/◌, ◌%◌, ◌^◌, Bool, true, false, List, [], ◌∷◌, eqb, ltb}
 use Rattle.std.specs.Int.Bits.{bit_and, bit_or, bit_xor}
-use Rattle.model.specs.Choice.{if◌then◌else◌}
+use Rattle.model.specs.Choice.{when◌then◌else◌}
 use Rattle.model.specs.Limits.{most_scopes}
 
 -- Which scopes each operation's result has is a law of its own: `has-only`, `has-add`, `has-prune`, `has-flip`, `within→sub` and `sub→within`; sets with
@@ -43,7 +43,7 @@ prune p m = bit_xor m (bit_and p m)
 -- take scope k out if it is there, else put it in
 unfoldable pub flip : Scope → Scopes → Scopes
 unfolding has only add prune
-flip k m = if has k m then prune (only k) m else add k m
+flip k m = when has k m then prune (only k) m else add k m
 
 -- every member of a is one of b
 unfoldable pub within : Scopes → Scopes → Bool

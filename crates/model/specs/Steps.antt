@@ -1,7 +1,7 @@
 -- Document 01, 'Expanding', its first paragraph, for expand, parse and evaluate alike: a job's state, what is charged, tested and
 -- made, and fresh names and scopes.
 use Rattle.std.specs.Prelude.{ℕ, ◌+◌, ◌-◌, Bool, true, false, List, ltb, leb, length}
-use Rattle.model.specs.Choice.{if◌then◌else◌}
+use Rattle.model.specs.Choice.{when◌then◌else◌}
 use Rattle.model.specs.Limits.{most_names, most_scopes, most_bindings, most_nesting}
 use Rattle.model.specs.Refusals.{Refusal, ambiguous, no_rule, no_name_left, no_scope_left, no_binding_left, too_deep, over_budget}
 use Rattle.model.specs.Scopes.{Scope, Scopes, no_scopes, add}
@@ -62,7 +62,7 @@ unless c false = refuse c
 
 unfoldable pub charge : Units → Step (Unit {0})
 charge n = λ s.
-    if leb n s.left
+    when leb n s.left
     then ok tt (record { left = s.left - n; names = s.names; scopes = s.scopes; binds = s.binds; prunable = s.prunable; uses = s.uses })
     else no over_budget no_rivals s.left
 
@@ -106,14 +106,14 @@ prune_from p ph x = do
 unfoldable pub fresh_name : Step Name
 unfolding most_names
 fresh_name = λ s.
-    if ltb s.names most_names
+    when ltb s.names most_names
     then ok s.names (record { left = s.left; names = s.names + 1; scopes = s.scopes; binds = s.binds; prunable = s.prunable; uses = s.uses })
     else no no_name_left no_rivals s.left
 
 unfoldable pub fresh_scope : Step Scope
 unfolding most_scopes
 fresh_scope = λ s.
-    if ltb s.scopes most_scopes
+    when ltb s.scopes most_scopes
     then ok (s.scopes + 1) (record { left = s.left; names = s.names; scopes = s.scopes + 1; binds = s.binds; prunable = s.prunable; uses = s.uses })
     else no no_scope_left no_rivals s.left
 
@@ -145,7 +145,7 @@ inside f m = λ s. after (m (carrying (f s.prunable) no_scopes s)) (λ a t. ok a
 unfoldable pub bind : Bind → Step (Unit {0})
 unfolding most_bindings insert
 bind b = λ s.
-    if ltb (length s.binds) most_bindings
+    when ltb (length s.binds) most_bindings
     then ok tt (record { left = s.left; names = s.names; scopes = s.scopes; binds = insert b s.binds; prunable = s.prunable; uses = s.uses })
     else no no_binding_left no_rivals s.left
 

@@ -2,7 +2,7 @@
 -- and substituting.
 use Rattle.std.specs.Prelude.{ℕ, suc, ◌+◌, max, eqb}
 use Rattle.std.proofs.Math.Option.{Option, none, some}
-use Rattle.model.specs.Choice.{if◌then◌else◌, given}
+use Rattle.model.specs.Choice.{when◌then◌else◌, given}
 use Rattle.model.specs.Objects.{Name, Atom, symbol, number, point, prim, rung, Stx, atom, list, Stxs, nil, cons, size, nesting}
 
 -- A tree is a variable, an application (of a head and arguments), a function (its name and body), or a value. A value is a
@@ -68,9 +68,9 @@ unfoldable mutual
 -- ---- substitute v for the variable n, also inside list values, but not in syntax values nor in a function of the same name
 unfoldable mutual
   pub substitute : Name → Tree → Tree → Tree
-  substitute n v (var m) = if eqb m n then v else var m
+  substitute n v (var m) = when eqb m n then v else var m
   substitute n v (app h l) = app (substitute n v h) (substitute_all n v l)
-  substitute n v (fun m b) = if eqb m n then fun m b else fun m (substitute n v b)
+  substitute n v (fun m b) = when eqb m n then fun m b else fun m (substitute n v b)
   substitute n v (datum a) = datum a
   substitute n v (lst l) = lst (substitute_all n v l)
   substitute n v (stx s) = stx s

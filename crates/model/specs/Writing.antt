@@ -1,6 +1,6 @@
 -- Document 01, 'The image': writing an image.
 use Rattle.std.specs.Prelude.{ℕ, zero, suc, ◌+◌, ◌-◌, ◌/◌, ◌%◌, List, [], ◌∷◌, ◌++◌, ltb, length}
-use Rattle.model.specs.Choice.{if◌then◌else◌}
+use Rattle.model.specs.Choice.{when◌then◌else◌}
 use Rattle.model.specs.Limits.{core_names}
 use Rattle.model.specs.Scopes.{Scopes, members}
 use Rattle.model.specs.Objects.{tag_of, content_of, Sets, Stx, atom, list, Stxs, nil, cons, count}
@@ -12,7 +12,7 @@ use Rattle.model.specs.Reading.{Head}
 -- (no number of 32 bits has more than four)
 unfoldable pub groups_of : ℕ → ℕ → List ℕ
 groups_of zero n = n ∷ []
-groups_of (suc k) n = if ltb n 128 then n ∷ [] else (n % 128 + 128) ∷ groups_of k (n / 128)
+groups_of (suc k) n = when ltb n 128 then n ∷ [] else (n % 128 + 128) ∷ groups_of k (n / 128)
 
 unfoldable pub num_bytes : ℕ → List ℕ
 unfolding groups_of

@@ -5,7 +5,7 @@ use mathlib.Core.Bool.{Bool, true, false}
 use mathlib.Core.Option.{Option, none, some}
 use mathlib.Core.List.{List}
 use lib.Dec.{eqb}
-use Rattle.model.specs.Choice.{if◌then◌else◌}
+use Rattle.model.specs.Choice.{when◌then◌else◌}
 use Rattle.model.specs.Objects.{Sets}
 use Rattle.model.specs.Trees.{Tree}
 use Rattle.model.specs.Meanings.{Form, form_of, Meaning, core, variable, macro, stopped, unknown, Env, core_only, extend, core_meaning, meaning, is_among, meaning_among, Surroundings, Place, nowhere, macro_use}
@@ -46,7 +46,7 @@ module _ (ρ : NewNumbers) where
   core_alike none = unknowns
   core_alike (some f) = cores
 
-  choice_alike : (b : Bool) {m n o p : Meaning} → MeaningAlike ρ m o → MeaningAlike ρ n p → MeaningAlike ρ (if b then m else n) (if b then o else p)
+  choice_alike : (b : Bool) {m n o p : Meaning} → MeaningAlike ρ m o → MeaningAlike ρ n p → MeaningAlike ρ (when b then m else n) (when b then o else p)
   choice_alike true h i = h
   choice_alike false h i = i
 

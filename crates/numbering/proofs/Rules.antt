@@ -4,7 +4,7 @@ use Prim.Native.Nat.{ℕ, ◌≤◌, ◌<◌}
 use native.Mathlib.Nat.{le_trans}
 use mathlib.Core.Bool.{Bool, true, false, ◌&&◌, true≢false}
 use lib.Dec.{leb}
-use Rattle.model.specs.Choice.{if◌then◌else◌}
+use Rattle.model.specs.Choice.{when◌then◌else◌}
 use borrow.Author.Tests.{le-leb, leb-true, lt-leb}
 use Rattle.laws.proofs.Tests.{and_both, both_true}
 use Rattle.alike.proofs.Alike.{NewNumbers}
@@ -15,7 +15,7 @@ module _ (n : ℕ) (f : ℕ → ℕ) where
   inside : ℕ → Bool
   inside k = leb 1 k && leb k n
 
-  extended-by : (k : ℕ) (b : Bool) → inside k ≡ b → extended n f k ≡ (if b then f k else k)
+  extended-by : (k : ℕ) (b : Bool) → inside k ≡ b → extended n f k ≡ (when b then f k else k)
   unfolding extended inside
   extended-by k b e = rw e
 

@@ -6,7 +6,7 @@ use mathlib.Core.Bool.{Bool, true, false, true≢false, false≢true}
 use mathlib.Core.List.{List}
 use lib.Dec.{ltb}
 use lib.ListN.{length}
-use Rattle.model.specs.Choice.{if◌then◌else◌}
+use Rattle.model.specs.Choice.{when◌then◌else◌}
 use Rattle.model.specs.Limits.{most_names, most_scopes, most_bindings}
 use Rattle.model.specs.Refusals.{no_name_left, no_scope_left, no_binding_left}
 use Rattle.model.specs.Scopes.{Scopes, no_scopes, add, flip, prune}
@@ -112,7 +112,7 @@ module _ (q : Renumbering) where
         where
           named : List Bind → Scopes → Scopes → Bool → Out ℕ
           named z a c x =
-              if x
+              when x
               then ok names (record { left = left; names = names + 1; scopes = reached; binds = z; prunable = a; uses = c })
               else no no_name_left no_rivals left
 
@@ -129,7 +129,7 @@ module _ (q : Renumbering) where
         where
           scoped : List Bind → Scopes → Scopes → Bool → Out ℕ
           scoped z a c x =
-              if x
+              when x
               then ok (reached + 1) (record { left = left; names = names; scopes = reached + 1; binds = z; prunable = a; uses = c })
               else no no_scope_left no_rivals left
 
@@ -190,7 +190,7 @@ module _ (q : Renumbering) where
         where
           bound : List Bind → Scopes → Scopes → Bool → Out (Unit {0})
           bound m c d x =
-              if x
+              when x
               then ok tt (record { left = left; names = names; scopes = reached; binds = m; prunable = c; uses = d })
               else no no_binding_left no_rivals left
 

@@ -6,7 +6,7 @@ use mathlib.Core.Bool.{Bool, true, false}
 use mathlib.Core.Option.{Option, none, some}
 use mathlib.Core.List.{List, [], ◌∷◌}
 use lib.Dec.{eqb}
-use Rattle.model.specs.Choice.{if◌then◌else◌, given}
+use Rattle.model.specs.Choice.{when◌then◌else◌, given}
 use Rattle.model.specs.Objects.{Atom, symbol, number, point, prim, rung, Sets, Stx, Stxs}
 use Rattle.model.specs.Trees.{Tree, Trees, tcount, tsize_by, tsizes_by, tsize, tnesting, tnestings, substitute, substitute_all, as_stx, as_atom, as_list, as_number, from_stxs, to_stxs}
 use Rattle.model.specs.Evaluating.{Plain, stx_e, mk_stx, first, rest, link, same, pick, content, sets_of, remade, first_of, rest_of, picked, primitive, Id, id_of, as_id, as_ids, argument, applicable, is_local}
@@ -76,7 +76,7 @@ module _ (ρ : NewNumbers) where
     tnestings_alike tnils = refl
     tnestings_alike (tconses h i) = ap₂ max (tnesting_alike h) (tnestings_alike i)
 
-  choice_tree : (b : Bool) {t u v w : Tree} → TreeAlike ρ t v → TreeAlike ρ u w → TreeAlike ρ (if b then t else u) (if b then v else w)
+  choice_tree : (b : Bool) {t u v w : Tree} → TreeAlike ρ t v → TreeAlike ρ u w → TreeAlike ρ (when b then t else u) (when b then v else w)
   choice_tree true h i = h
   choice_tree false h i = i
 

@@ -1,7 +1,7 @@
 -- Document 02, T-12: numbering must not matter. What it is to renumber an image, and the statement, `NumberingDoesNotMatter`; the theorem is
 -- `numbering-does-not-matter` (proofs/Numbering).
 use Rattle.std.specs.Prelude.{ℕ, ◌≤◌, ◌≡◌, ◌&&◌, List, [], ◌∷◌, leb, length}
-use Rattle.model.specs.Choice.{if◌then◌else◌}
+use Rattle.model.specs.Choice.{when◌then◌else◌}
 use Rattle.model.specs.Limits.{most_image}
 use Rattle.model.specs.Scopes.{Scope}
 use Rattle.model.specs.Objects.{Stx}
@@ -22,7 +22,7 @@ pub record NumberingRule (n : ℕ) (f : Scope → Scope) : Type 0 where
 
 -- fresh scopes, all past n, are left as they are
 unfoldable pub extended : ℕ → (Scope → Scope) → Scope → Scope
-extended n f k = if leb 1 k && leb k n then f k else k
+extended n f k = when leb 1 k && leb k n then f k else k
 
 -- ---- an image: the sets of every object and binding, and then the bindings in order
 

@@ -7,7 +7,7 @@ use native.Mathlib.Omega.{arith}
 use lib.ListN.{length, drop, length-drop}
 use lib.Seq.{drop-drop}
 use lib.Dec.{eqb, ltb, leb}
-use Rattle.model.specs.Choice.{if◌then◌else◌}
+use Rattle.model.specs.Choice.{when◌then◌else◌}
 use Rattle.model.specs.Refusals.{Refusal, layout, over_limit}
 use Rattle.model.specs.Reading.{Read, Reader, got, fault, next, need, byte, groups, num, num_up_to, num_below}
 
@@ -50,7 +50,7 @@ pub tail_need : (c : Refusal) (t : Bool) (s : List ℕ) → Tail s (need c t s)
 tail_need c true s = tail_give tt s
 tail_need c false s = tail_fault
 
-pub tail_if : {A : Type 0} (t : Bool) (m n : Reader A) {s : List ℕ} → Tail s (m s) → Tail s (n s) → Tail s ((if t then m else n) s)
+pub tail_if : {A : Type 0} (t : Bool) (m n : Reader A) {s : List ℕ} → Tail s (m s) → Tail s (n s) → Tail s ((when t then m else n) s)
 tail_if true m n p q = p
 tail_if false m n p q = q
 

@@ -9,7 +9,7 @@ use lib.ListN.{length, set, length-set}
 use lib.Seq.{sets}
 use lib.Dec.{ltb}
 use borrow.Author.Tests.{lt-ltb, le-ltb}
-use Rattle.model.specs.Choice.{if◌then◌else◌}
+use Rattle.model.specs.Choice.{when◌then◌else◌}
 use Rattle.model.specs.Writing.{groups_of, num_bytes}
 
 -- how large a number can be that takes at most `left` groups before the last, where the fifth group is at most 15
@@ -37,7 +37,7 @@ unfolding groups_of
 some-group zero v = omega arith
 some-group (suc left) v = go (ltb v 128)
   where
-    go : (t : Bool) → 1 ≤ length (if t then v ∷ [] else (v % 128 + 128) ∷ groups_of left (v / 128))
+    go : (t : Bool) → 1 ≤ length (when t then v ∷ [] else (v % 128 + 128) ∷ groups_of left (v / 128))
     go true = omega arith
     go false = omega arith
 
@@ -118,7 +118,7 @@ unfolding groups_of
 groups-few zero v = omega arith
 groups-few (suc left) v = go (ltb v 128) (groups-few left (v / 128))
   where
-    go : (t : Bool) → length (groups_of left (v / 128)) ≤ suc left → length (if t then v ∷ [] else (v % 128 + 128) ∷ groups_of left (v / 128)) ≤ suc (suc left)
+    go : (t : Bool) → length (groups_of left (v / 128)) ≤ suc left → length (when t then v ∷ [] else (v % 128 + 128) ∷ groups_of left (v / 128)) ≤ suc (suc left)
     go true h = omega arith
     go false h = omega arith
 

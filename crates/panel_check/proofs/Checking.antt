@@ -7,7 +7,7 @@ use native.Mathlib.Omega.{arith}
 use lib.Dec.{leb, ltb}
 use lib.ListN.{length, take, drop, length-drop}
 use borrow.Author.Tests.{le-leb, lt-leb, ltb-true, ltb-false, not-true, not-false, lt-ltb, le-ltb}
-use Rattle.model.specs.Choice.{if◌then◌else◌}
+use Rattle.model.specs.Choice.{when◌then◌else◌}
 use Rattle.model.specs.Limits.{most_image, most_nesting}
 use Rattle.model.specs.Refusals.{Refusal, unowned, over_limit, code_of}
 use Rattle.model.specs.Trees.{Tree}
@@ -70,7 +70,7 @@ owned-image : (s : List ℕ) → read_image read_owned s ≡ then_owned (read_im
 unfolding read_image read_owned
 owned-image s = go (leb (length s) most_image)
   where
-    go : (b : Bool) → (if b then read_owned s else fault over_limit) ≡ then_owned (if b then read_tree_image s else fault over_limit)
+    go : (b : Bool) → (when b then read_owned s else fault over_limit) ≡ then_owned (when b then read_tree_image s else fault over_limit)
     go true = refl
     go false = refl
 
@@ -193,7 +193,7 @@ module _ {image : List ℕ} {root : ℕ} (g : RootGood image root) (program : is
     in_profile {r} w = subst (Checks image marks names) (sym w) (go k.twice (ltb room k.bits) refl refl)
       where
         go : (a c : Bool) → k.twice ≡ a → ltb room k.bits ≡ c
-            → Checks image marks names (if a then checked.Refused DrivenTwice else if c then checked.Refused TooManyBits else checked.Passed (record { root = root; bits = k.bits }))
+            → Checks image marks names (when a then checked.Refused DrivenTwice else when c then checked.Refused TooManyBits else checked.Passed (record { root = root; bits = k.bits }))
         go true c p q = twice p
         go false true p q = many p q
         go false false p q = passed p q

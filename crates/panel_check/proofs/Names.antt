@@ -9,7 +9,7 @@ use lib.Dec.{leb}
 use lib.ListN.{length, get_or, set, take, drop, replicate, length-take, length-drop, length-set, length-append, length-replicate}
 use lib.Seq.{length-take-le, drop-append-add, drop-drop, set_split, take_at, take-suc}
 use borrow.Author.Tests.{le-leb, lt-leb}
-use Rattle.model.specs.Choice.{if◌then◌else◌}
+use Rattle.model.specs.Choice.{when◌then◌else◌}
 use Rattle.requests.specs.Panel.{PanelEnding, refused, listed, panel_of, room_for, panel_answer, bits_after}
 use Rattle.refusals.specs.declared.Refusal.TheVariants.{TooLong}
 use Rattle.bits.specs.Meeting.{room}

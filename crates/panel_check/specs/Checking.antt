@@ -1,6 +1,6 @@
 -- What the panel check says of an image, of the marks and names kept, and of the words lent.
 use Rattle.std.specs.Prelude.{ℕ, ◌*◌, ◌≤◌, ◌<◌, ◌≡◌, true, false, List, [], ltb, length, get_or, take, drop}
-use Rattle.model.specs.Choice.{if◌then◌else◌}
+use Rattle.model.specs.Choice.{when◌then◌else◌}
 use Rattle.model.specs.Limits.{most_nesting}
 use Rattle.model.specs.Trees.{Tree}
 use Rattle.model.specs.Reading.{Image, got, read_tree, read_tree_image, read_image}
@@ -61,7 +61,7 @@ pub record Passes (image marks names : List ℕ) (q : Program) : Type 0 where
   pub few : q.bits ≤ room
   pub counted : q.bits ≡ length (bits_of good.read.root)
   pub named : take q.bits names ≡ bits_of good.read.root
-  pub marked : (x : ℕ) → x < points → get_or marks x 0 ≡ (if is_among x (driven good.read.root) then 1 else 0)
+  pub marked : (x : ℕ) → x < points → get_or marks x 0 ≡ (when is_among x (driven good.read.root) then 1 else 0)
 
 abbrev pub ending_in : List ℕ → Checked → PanelEnding
 ending_in names (checked.Passed q) = listed (take q.bits names)
@@ -74,8 +74,8 @@ pub record Checks (image marks names : List ℕ) (r : Checked) : Type 0 where
 -- 22 before 23
 unfoldable pub within_of : ℕ → Gathered → Checked
 within_of root g =
-    if g.twice then checked.Refused DrivenTwice
-    else if ltb room g.bits then checked.Refused TooManyBits
+    when g.twice then checked.Refused DrivenTwice
+    else when ltb room g.bits then checked.Refused TooManyBits
     else checked.Passed (record { root = root; bits = g.bits })
 
 abbrev pub Within : ℕ → Gathered → Checked → Type 0

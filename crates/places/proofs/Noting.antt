@@ -8,7 +8,7 @@ use lib.Dec.{eqb}
 use lib.ListN.{length, get_or, set, length-set}
 use lib.Seq.{get_or-set_same, get_or-set_other}
 use borrow.Author.Tests.{eq-eqb, ne_eqb, eqb-true, eqb-false}
-use Rattle.model.specs.Choice.{if◌then◌else◌}
+use Rattle.model.specs.Choice.{when◌then◌else◌}
 use Rattle.requests.specs.Uses as u
 use Rattle.requests.specs.Uses.{variable, other, is_use, uses, first_use}
 use Rattle.requests.proofs.Uses.{uses_append, first-left, first_right, first-none}
@@ -20,7 +20,7 @@ use Rattle.places.specs.declared.Thing.{Thing}
 
 -- ---- one thing behind a list
 
-one : (n : ℕ) (x : u.Thing) → uses n (x ∷ []) ≡ (if is_use n x then 1 else 0)
+one : (n : ℕ) (x : u.Thing) → uses n (x ∷ []) ≡ (when is_use n x then 1 else 0)
 unfolding uses
 one n x = refl
 

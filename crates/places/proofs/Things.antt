@@ -7,7 +7,7 @@ use native.Mathlib.Omega.{arith}
 use lib.Dec.{eqb}
 use lib.ListN.{length, drop}
 use borrow.Author.Tests.{eq-eqb, ne_eqb}
-use Rattle.model.specs.Choice.{if◌then◌else◌}
+use Rattle.model.specs.Choice.{when◌then◌else◌}
 use Rattle.model.specs.Limits.{most_nesting}
 use Rattle.model.specs.Reading.{num}
 use Rattle.refusals.specs.declared.Refusal.{Refusal}
@@ -55,7 +55,7 @@ passed_tail k s = tail_next _ (object_tail k.symbols k.scopes 64 s) (λ n t. tai
 behind_tail : (k : Counts) (tag : ℕ) (s : List ℕ) → Tail s (read_behind k tag s)
 unfolding read_behind
 behind_tail k tag s =
-    tail_if (eqb tag 3) read_atom (if eqb tag 5 then read_object k else read_content tag) (atom_tail s)
+    tail_if (eqb tag 3) read_atom (when eqb tag 5 then read_object k else read_content tag) (atom_tail s)
     (tail_if (eqb tag 5) (read_object k) (read_content tag) (passed_tail k s) (content_tail tag s))
 
 pub thing_tail : (k : Counts) (s : List ℕ) → Tail s (read_thing k s)

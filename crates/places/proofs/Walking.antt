@@ -8,7 +8,7 @@ use lib.Dec.{eqb}
 use lib.ListN.{length, drop, length-drop, length-append}
 use lib.Seq.{drop-drop, append_snoc}
 use borrow.Author.Tests.{eq-eqb, ne_eqb}
-use Rattle.model.specs.Choice.{if◌then◌else◌}
+use Rattle.model.specs.Choice.{when◌then◌else◌}
 use Rattle.requests.specs.Uses as u
 use Rattle.requests.specs.Uses.{variable, other, is_use, uses, first_use}
 use Rattle.requests.proofs.Uses.{uses-few, uses_append, first_right}
@@ -155,7 +155,7 @@ use_is : (n : ℕ) (t : Thing) (b : Bool) → is_use_of n t ≡ b → is_use n (
 unfolding is_use_of is_use thing_of
 use_is n t b e = go (eqb t.tag 0) refl e
   where
-    go : (c : Bool) → eqb t.tag 0 ≡ c → (c && eqb t.content n) ≡ b → is_use n (if c then variable t.content else other) ≡ b
+    go : (c : Bool) → eqb t.tag 0 ≡ c → (c && eqb t.content n) ≡ b → is_use n (when c then variable t.content else other) ≡ b
     go true q h = h
     go false q h = h
 

@@ -1,6 +1,6 @@
 -- What the words of a summary hold of some things, and where a name is found among them.
 use Rattle.std.specs.Prelude.{ℕ, ◌+◌, ◌*◌, ◌≤◌, ◌<◌, ◌≡◌, Bool, ◌&&◌, List, [], ◌∷◌, ◌++◌, eqb, length, get_or}
-use Rattle.model.specs.Choice.{if◌then◌else◌}
+use Rattle.model.specs.Choice.{when◌then◌else◌}
 use Rattle.requests.specs.Uses as u
 use Rattle.requests.specs.Uses.{uses, first_use}
 use Rattle.head.specs.Fronts.{most_names}
@@ -47,4 +47,4 @@ pub record Tallied (names : ℕ) (l : List u.Thing) (words words' : List ℕ) : 
 -- the place of the first use of n among `count` things, or `count`
 unfoldable pub found : ℕ → ℕ → List u.Thing → ℕ
 unfolding uses first_use
-found n count l = if eqb (uses n l) 0 then count else first_use n l
+found n count l = when eqb (uses n l) 0 then count else first_use n l

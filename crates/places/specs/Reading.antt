@@ -1,6 +1,6 @@
 -- A tree's bytes as its things, one after another.
 use Rattle.std.specs.Prelude.{ℕ, zero, suc, List, [], ◌∷◌, eqb}
-use Rattle.model.specs.Choice.{if◌then◌else◌}
+use Rattle.model.specs.Choice.{when◌then◌else◌}
 use Rattle.model.specs.Limits.{most_nesting}
 use Rattle.model.specs.Reading as m
 use Rattle.model.specs.Reading.{got, fault, Reader, ◌>>=◌, ◌>>◌, give, num}
@@ -46,7 +46,7 @@ read_object k = do
 
 unfoldable pub read_behind : Counts → ℕ → Reader Thing
 unfolding read_atom read_object read_content
-read_behind k tag = if eqb tag 3 then read_atom else if eqb tag 5 then read_object k else read_content tag
+read_behind k tag = when eqb tag 3 then read_atom else when eqb tag 5 then read_object k else read_content tag
 
 unfoldable pub read_thing : Counts → Reader Thing
 unfolding num read_behind
@@ -56,11 +56,11 @@ read_thing k = do
 
 -- how many parts follow
 unfoldable pub parts_of : Thing → ℕ
-parts_of t = if eqb t.tag 1 then t.content else if eqb t.tag 2 then 1 else if eqb t.tag 4 then t.content else 0
+parts_of t = when eqb t.tag 1 then t.content else when eqb t.tag 2 then 1 else when eqb t.tag 4 then t.content else 0
 
 -- as the definition has it
 unfoldable pub thing_of : Thing → u.Thing
-thing_of t = if eqb t.tag 0 then u.variable t.content else u.other
+thing_of t = when eqb t.tag 0 then u.variable t.content else u.other
 
 abbrev pub onward : m.Read Thing → (Thing → List ℕ → List u.Thing) → List u.Thing
 onward (got t rest) k = k t rest

@@ -7,7 +7,7 @@ use Prim.Native.Nat.{ℕ, zero, suc, ◌+◌, ◌≤◌, ◌<◌}
 use native.Mathlib.Omega.{arith}
 use borrow.Author.Tests.{eq-eqb, ne_eqb}
 use lib.Dec.{eqb, eqb-suc-suc}
-use Rattle.model.specs.Choice.{if◌then◌else◌}
+use Rattle.model.specs.Choice.{when◌then◌else◌}
 use Rattle.model.specs.Objects as m
 use Rattle.model.specs.Objects.{Atom, number, tag_of, content_of, same_atom}
 use Rattle.model.specs.Trees.{Tree, datum, as_atom, as_number}
@@ -80,9 +80,9 @@ module _ {l : List ℕ} {top x y : ℕ} {p q : Node} (e : p ≡ get_node l x) (k
             ap (λ (j : ℕ). eqb j q.tag) w.tag ∙ ap (eqb (atom_value_tag + tag_of w.value)) z.tag ∙ shifted atom_value_tag (tag_of w.value) (tag_of z.value) in
             let contents : eqb p.content q.content ≡ eqb (content_of w.value) (content_of z.value) =
             ap (λ (j : ℕ). eqb j q.content) w.content ∙ ap (eqb (content_of w.value)) z.content in
-            let is : (if same_atom w.value z.value then 1 else 0) ≡ n =
-            sym (h ∙ ap (λ (c : Bool). if c && eqb p.content q.content then 1 else 0) kinds
-            ∙ ap (λ (c : Bool). if eqb (tag_of w.value) (tag_of z.value) && c then 1 else 0) contents) in
+            let is : (when same_atom w.value z.value then 1 else 0) ≡ n =
+            sym (h ∙ ap (λ (c : Bool). when c && eqb p.content q.content then 1 else 0) kinds
+            ∙ ap (λ (c : Bool). when eqb (tag_of w.value) (tag_of z.value) && c then 1 else 0) contents) in
             let value : same t u ≡ some (datum (number n)) =
             ap (λ (v : Tree). same v u) w.is ∙ ap (λ (v : Tree). same (datum w.value) v) z.is ∙ ap (λ (j : ℕ). some (datum (number j))) is in
             added (datum (number n)) value (made-datum (number n) s) s;

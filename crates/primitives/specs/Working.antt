@@ -1,7 +1,7 @@
 -- What the primitives ask and give.
 use Rattle.std.specs.Prelude.{◌≡◌, List, Bool, true, false, ◌&&◌, ℕ, ◌+◌, ◌≤◌, eqb}
 use Rattle.std.proofs.Math.Option.{Option, none, some}
-use Rattle.model.specs.Choice.{if◌then◌else◌}
+use Rattle.model.specs.Choice.{when◌then◌else◌}
 use Rattle.model.specs.Objects.{Stxs}
 use Rattle.model.specs.Trees.{Tree, Trees, tnil, tcons, tcount, from_stxs, to_stxs}
 use Rattle.model.specs.Evaluating as m
@@ -96,4 +96,4 @@ pub record AllSyntax (l : List ℕ) (c : ℕ) (r : Bool) : Type 0 where
 
 -- 1 where tag and content agree
 unfoldable pub agreed : Node → Node → ℕ
-agreed a b = if eqb a.tag b.tag && eqb a.content b.content then 1 else 0
+agreed a b = when eqb a.tag b.tag && eqb a.content b.content then 1 else 0

@@ -1,6 +1,6 @@
 -- T-01: the rules of the profile as the code has them, by what a place asks for.
 use Rattle.std.specs.Prelude.{ℕ, Bool, true, false, ◌&&◌, eqb, leb}
-use Rattle.model.specs.Choice.{if◌then◌else◌}
+use Rattle.model.specs.Choice.{when◌then◌else◌}
 use Rattle.model.specs.Limits.{last_point}
 use Rattle.requests.specs.Panel.{Word, bit, and, or, not, out, set, all, free}
 use Rattle.profile.specs.declared.rules.Wanted.{Wanted}
@@ -47,7 +47,7 @@ bit_rule Start = no_rule
 
 -- every rule asks for a first argument
 unfoldable pub takes_count : Rule → ℕ → Bool
-takes_count r n = if eqb n 0 then false else if r.exactly then eqb n r.count else leb r.count n
+takes_count r n = when eqb n 0 then false else when r.exactly then eqb n r.count else leb r.count n
 
 unfoldable pub takes_variable : Wanted → Bool
 takes_variable Program = false

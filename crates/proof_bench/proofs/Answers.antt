@@ -8,7 +8,7 @@ use mathlib.Core.Bool.{Bool, true, false, ◌&&◌}
 use mathlib.Core.List.{List, [], ◌++◌}
 use lib.Dec.{leb}
 use lib.ListN.{length, drop, replicate, length-append, length-drop, length-replicate}
-use Rattle.model.specs.Choice.{if◌then◌else◌}
+use Rattle.model.specs.Choice.{when◌then◌else◌}
 use Rattle.model.specs.Refusals.{Refusal, layout, over_limit, unowned, wrong_kind, small_table, ambiguous, no_meaning, no_rule, no_syntax, not_applicable, wrong_argument, no_phase, no_name_left, no_scope_left, no_binding_left, too_deep, too_many_entries, over_budget, too_long, outside_use, code_of}
 use Rattle.model.specs.Competing.{Rivals, no_rivals}
 use Rattle.model.specs.Reading.{Read, got, fault, Image, read_syntax, read_tree_image, read_image}
@@ -92,7 +92,7 @@ the_table_keeps_its_length budget table output e = go (budget_fits budget (lengt
     whole a b h = omega arith
 
     go : (b : Bool) → budget_fits budget (length table) ≡ b
-        → length (if b then after-ending budget table output e else untouched table output).table ≡ length table
+        → length (when b then after-ending budget table output e else untouched table output).table ≡ length table
     go true q =
         length-append (replicate (40 * budget) 0) (drop (40 * budget) table)
         ∙ ap (λ (n : ℕ). n + length (drop (40 * budget) table)) (length-replicate (40 * budget) 0)
@@ -126,7 +126,7 @@ unfolding with_image
 image-within budget (got i s) f h = h i
 image-within budget (fault r) f h = zero-le
 
-if_within : (budget : ℕ) (b : Bool) (x y : Ending) → Within budget x → Within budget y → Within budget (if b then x else y)
+if_within : (budget : ℕ) (b : Bool) (x y : Ending) → Within budget x → Within budget y → Within budget (when b then x else y)
 if_within budget true x y p q = p
 if_within budget false x y p q = q
 

@@ -7,7 +7,7 @@ use mathlib.Core.Bool.{Bool, true, false, ◌&&◌}
 use mathlib.Core.List.{List, []}
 use lib.Dec.{leb}
 use lib.ListN.{length}
-use Rattle.model.specs.Choice.{if◌then◌else◌}
+use Rattle.model.specs.Choice.{when◌then◌else◌}
 use Rattle.model.specs.Limits.{most_image, last_phase}
 use Rattle.model.specs.Refusals.{Refusal, layout, over_limit, unowned, wrong_kind, small_table, ambiguous, no_meaning, no_rule, no_syntax, not_applicable, wrong_argument, no_phase, no_name_left, no_scope_left, no_binding_left, too_deep, too_many_entries, over_budget, too_long, outside_use, code_of}
 use Rattle.model.specs.Scopes.{Scopes}
@@ -62,7 +62,7 @@ Faulted Q (got a rest) = Unit {0}
 Faulted Q (fault r) = Q r no_rivals
 
 module _ (Q : Refusal → Rivals → Type 0) where
-  either-ends : (t : Bool) (e d : Ending) → EndsBy Q e → EndsBy Q d → EndsBy Q (if t then e else d)
+  either-ends : (t : Bool) (e d : Ending) → EndsBy Q e → EndsBy Q d → EndsBy Q (when t then e else d)
   either-ends true e d h k = h
   either-ends false e d h k = k
 

@@ -7,7 +7,7 @@ use native.Mathlib.Omega.{arith}
 use lib.Dec.{eqb, leb}
 use lib.ListN.{length, drop, length-drop}
 use borrow.Author.Tests.{le-leb, leb-true}
-use Rattle.model.specs.Choice.{if◌then◌else◌}
+use Rattle.model.specs.Choice.{when◌then◌else◌}
 use Rattle.model.specs.Limits as limits
 use Rattle.model.specs.Limits.{last_point}
 use Rattle.model.specs.Refusals as m
@@ -36,7 +36,7 @@ use Rattle.recordings.proofs.Checking.{scans-more}
 -- ---- a change that is read names a mark where it names a driven point
 
 module _ (d marks : List ℕ) (h : MarksOf d marks) where
-  told : (b : Bool) → not (eqb (if b then 1 else 0) 0) ≡ b
+  told : (b : Bool) → not (eqb (when b then 1 else 0) 0) ≡ b
   told true = refl
   told false = refl
 
@@ -140,7 +140,7 @@ module _ (t : Tree) (marks : List ℕ) (h : MarksOf (driven t) marks) (s : List 
         let w : ToEnd n rest r = to_end n rest left r e in
         go (any_marked marks r) (scans-same (driven t) marks h n rest [] r w.is) w
       where
-        go : (m : Bool) → m ≡ any_driven (driven t) r → ToEnd n rest r → Means t s (if m then Driven else Kept n (record { at = length s - length rest }))
+        go : (m : Bool) → m ≡ any_driven (driven t) r → ToEnd n rest r → Means t s (when m then Driven else Kept n (record { at = length s - length rest }))
         go true k w = short-is l ∙ ap (recorded t) (q ∙ e) ∙ rw (← k)
         go false k w = plays r w (short-is l ∙ ap (recorded t) (q ∙ e) ∙ rw (← k))
 
@@ -153,7 +153,7 @@ module _ (t : Tree) (marks : List ℕ) (h : MarksOf (driven t) marks) (s : List 
   unfolding judged_of
   means = go (leb (length s) most_image) refl
     where
-      go : (b : Bool) → leb (length s) most_image ≡ b → Means t s (if b then judged_count marks (length s) (num s) else Broken)
+      go : (b : Bool) → leb (length s) most_image ≡ b → Means t s (when b then judged_count marks (length s) (num s) else Broken)
       go true e = by_count (leb-true (length s) most_image e) (num s) refl (num_tail s)
       go false e = too_long_lem s t e
 

@@ -1,6 +1,6 @@
 -- What the code says of a recording, with a mark at each driven point: whether it keeps its layout, and whether a change names a mark.
 use Rattle.std.specs.Prelude.{ℕ, ◌-◌, ◌<◌, ◌≡◌, Bool, false, not, ◌||◌, List, [], ◌∷◌, eqb, leb, length, get_or}
-use Rattle.model.specs.Choice.{if◌then◌else◌}
+use Rattle.model.specs.Choice.{when◌then◌else◌}
 use Rattle.model.specs.Reading as m
 use Rattle.model.specs.Reading.{got, fault, num}
 use Rattle.model.specs.Meanings.{is_among}
@@ -19,7 +19,7 @@ checked_at end g = answer_at Past Fault end g
 
 -- the marks are at the points of d
 abbrev pub MarksOf : List ℕ → List ℕ → Type 0
-MarksOf d marks = (x : ℕ) → x < points → get_or marks x 0 ≡ (if is_among x d then 1 else 0)
+MarksOf d marks = (x : ℕ) → x < points → get_or marks x 0 ≡ (when is_among x d then 1 else 0)
 
 unfoldable pub is_marked : List ℕ → ℕ → Bool
 is_marked marks x = not (eqb (get_or marks x 0) 0)
@@ -41,7 +41,7 @@ any_marked marks (l ∷ r) = changes_marked marks l || any_marked marks r
 -- n scans, the first of them at c
 unfoldable pub judged_all : List ℕ → ℕ → Cursor → m.Read (List (List Change)) → Recording
 unfolding any_marked
-judged_all marks n c (got r rest) = if any_marked marks r then Driven else Kept n c
+judged_all marks n c (got r rest) = when any_marked marks r then Driven else Kept n c
 judged_all marks n c (fault f) = Broken
 
 -- by the count of scans, of a recording that ends at the place `end`
@@ -52,4 +52,4 @@ judged_count marks end (fault f) = Broken
 
 unfoldable pub judged_of : List ℕ → List ℕ → Recording
 unfolding judged_count num
-judged_of marks s = if leb (length s) most_image then judged_count marks (length s) (num s) else Broken
+judged_of marks s = when leb (length s) most_image then judged_count marks (length s) (num s) else Broken

@@ -8,7 +8,7 @@ use lib.Dec.{eqb, ltb}
 use lib.ListN.{length, drop, length-drop, length-append}
 use lib.Seq.{drop-drop, drop_at}
 use borrow.Author.Tests.{eq-eqb, ne_eqb, lt-ltb, le-ltb}
-use Rattle.model.specs.Choice.{if◌then◌else◌}
+use Rattle.model.specs.Choice.{when◌then◌else◌}
 use Rattle.model.specs.Limits.{most_nesting}
 use Rattle.model.specs.Trees as m
 use Rattle.model.specs.Trees.{var, app, fun, datum, lst, stx, Trees, tnil, tcons, tcount, tsize, tsize_by, tsizes_by, tnesting, tnestings}
@@ -66,7 +66,7 @@ unfolding replaced_among tcount
 same_count u tnil p = refl
 same_count u (tcons t l) p = go (ltb p (tsize t)) (same_count u l (p - tsize t))
   where
-    go : (b : Bool) → tcount (replaced_among u l (p - tsize t)) ≡ tcount l → tcount (if b then tcons (replaced u t p) l else tcons t (replaced_among u l (p - tsize t))) ≡ suc (tcount l)
+    go : (b : Bool) → tcount (replaced_among u l (p - tsize t)) ≡ tcount l → tcount (when b then tcons (replaced u t p) l else tcons t (replaced_among u l (p - tsize t))) ≡ suc (tcount l)
     go true e = refl
     go false e = ap suc e
 
@@ -75,8 +75,8 @@ unfolding replaced replaced_among parts front_bytes tree_bytes trees_bytes tsize
 enter_bytes u (var n) p h = absurd (omega arith)
 enter_bytes u (app g l) p h = go (ltb p (tsize g))
   where
-    go : (b : Bool) → tree_bytes (if b then app (replaced u g p) l else app g (replaced_among u l (p - tsize g)))
-        ≡ (num_bytes 1 ++ num_bytes (suc (tcount l))) ++ trees_bytes (if b then tcons (replaced u g p) l else tcons g (replaced_among u l (p - tsize g)))
+    go : (b : Bool) → tree_bytes (when b then app (replaced u g p) l else app g (replaced_among u l (p - tsize g)))
+        ≡ (num_bytes 1 ++ num_bytes (suc (tcount l))) ++ trees_bytes (when b then tcons (replaced u g p) l else tcons g (replaced_among u l (p - tsize g)))
     go true = append_assoc (num_bytes 1 ++ num_bytes (suc (tcount l))) (tree_bytes (replaced u g p)) (trees_bytes l)
     go false =
         ap (λ (n : ℕ). num_bytes 1 ++ num_bytes (suc n) ++ tree_bytes g ++ trees_bytes (replaced_among u l (p - tsize g))) (same_count u l (p - tsize g))

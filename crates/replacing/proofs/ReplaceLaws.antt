@@ -11,7 +11,7 @@ use mir.Syntax.{w8}
 use mir.Val.{Fits}
 use borrow.Author.Tests.{le-leb, lt-leb, lt-ltb, le-ltb, leb-true, eqb-true, not-true, not-false}
 use Rattle.laws.proofs.Tests.{and_both}
-use Rattle.model.specs.Choice.{if◌then◌else◌}
+use Rattle.model.specs.Choice.{when◌then◌else◌}
 use Rattle.model.specs.Limits as limit
 use Rattle.model.specs.Refusals.{too_long}
 use Rattle.model.specs.Trees as m
@@ -135,7 +135,7 @@ mutual
   spot-levels l low (app h r) zero = omega arith
   spot-levels l low (app h r) (suc p) = either (ltb p (tsize h)) (spot-levels (l - 1) 0 h p) (among-levels (l - 1) 0 r (p - tsize h))
     where
-      either : (b : Bool) → (spot (l - 1) 0 h p).levels ≤ l - 1 → (spot_among (l - 1) 0 r (p - tsize h)).levels ≤ l - 1 → (if b then spot (l - 1) 0 h p else spot_among (l - 1) 0 r (p - tsize h)).levels ≤ l
+      either : (b : Bool) → (spot (l - 1) 0 h p).levels ≤ l - 1 → (spot_among (l - 1) 0 r (p - tsize h)).levels ≤ l - 1 → (when b then spot (l - 1) 0 h p else spot_among (l - 1) 0 r (p - tsize h)).levels ≤ l
       either true x y = omega arith
       either false x y = omega arith
   spot-levels l low (fun n b) zero = omega arith
@@ -151,7 +151,7 @@ mutual
   among-levels l low tnil p = omega arith
   among-levels l low (tcons t r) p = either (ltb p (tsize t)) (spot-levels l low t p) (among-levels l low r (p - tsize t))
     where
-      either : (b : Bool) → (spot l low t p).levels ≤ l → (spot_among l low r (p - tsize t)).levels ≤ l → (if b then spot l low t p else spot_among l low r (p - tsize t)).levels ≤ l
+      either : (b : Bool) → (spot l low t p).levels ≤ l → (spot_among l low r (p - tsize t)).levels ≤ l → (when b then spot l low t p else spot_among l low r (p - tsize t)).levels ≤ l
       either true x y = x
       either false x y = y
 
@@ -402,7 +402,7 @@ module _ {image part words : List ℕ} {place : ℕ} {o : Opened} {sp : code.Spo
 
     module _ (out : List ℕ) where
       ending-is : replace_in (length out) words place part (read_image read_tree_image image)
-          ≡ (if leb (length new_bytes) (length out) && leb (length new_bytes) 65536 then q.made new_bytes (brought_up (change_of place R.new root) B.read.head.names words) else q.refused (u.base too_long))
+          ≡ (when leb (length new_bytes) (length out) && leb (length new_bytes) 65536 then q.made new_bytes (brought_up (change_of place R.new root) B.read.head.names words) else q.refused (u.base too_long))
       unfolding with_part new_bytes limit.most_image
       ending-is = ending-asked image part words out place R.asked ∙ rw R.reads refl
 

@@ -10,7 +10,7 @@ use lib.Seq.{get_or-set_same, get_or-set_other}
 use mir.Syntax.{w32}
 use mir.Val.{Fits}
 use borrow.Author.Tests.{eq-eqb, ne_eqb, lt-ltb, le-ltb, le-leb, lt-leb, eqb-true, eqb-false, ltb-true, ltb-false}
-use Rattle.model.specs.Choice.{if◌then◌else◌}
+use Rattle.model.specs.Choice.{when◌then◌else◌}
 use Rattle.requests.specs.Uses as u
 use Rattle.requests.specs.Uses.{uses, first_use, entry_in}
 use Rattle.requests.specs.Replacing as q
@@ -83,7 +83,7 @@ place_of (Is x) d = x
 place_of Searched d = d
 
 chosen : (a b c d : Bool) (v w x z y : ℕ)
-    → (if a then v else if b then w else if c then x else if d then y else z) ≡ place_of (if a then Is v else if b then Is w else if c then Is x else if d then Searched else Is z) y
+    → (when a then v else when b then w else when c then x else when d then y else z) ≡ place_of (when a then Is v else when b then Is w else when c then Is x else when d then Searched else Is z) y
 unfolding place_of
 chosen true b c d v w x z y = refl
 chosen false true c d v w x z y = refl
@@ -101,7 +101,7 @@ module _ (e come : Entry) (gone count n x : ℕ) (c : Change) (s : List ℕ) (k 
     unfolding first_after first_of stays_before
     first_agrees z =
         rw (← z, ← W.place_is, ← W.old-is, ← W.New-is, ← h, ← f)
-        (chosen (eqb x 0) (not (eqb e.count 0) && ltb e.first c.place) (not (eqb come.count 0)) (ltb e.first (c.place + c.old)) 0 e.first (c.place + come.first) (capped (e.first - c.old + c.new)) (if eqb (uses n M.behind) 0 then 0 else c.place + c.new + first_use n M.behind))
+        (chosen (eqb x 0) (not (eqb e.count 0) && ltb e.first c.place) (not (eqb come.count 0)) (ltb e.first (c.place + c.old)) 0 e.first (c.place + come.first) (capped (e.first - c.old + c.new)) (when eqb (uses n M.behind) 0 then 0 else c.place + c.new + first_use n M.behind))
 
 module _ (e come : Entry) (gone count n x d : ℕ) (c : Change) (s : List ℕ) (k : Counts) (p : d ≡ e.count - gone) (r : x ≡ capped (d + come.count)) {y : First} (fi : y ≡ first_of e x come c) where
   pub renew_is : {v : ℕ} → y ≡ Is v → RenewsEntry e gone come c count s k n (record { count = x; first = v })
@@ -115,7 +115,7 @@ module _ (e come : Entry) (gone count n x d : ℕ) (c : Change) (s : List ℕ) (
     unfolding place_of
     search_is M W g h f = first_agrees e come gone count n x c s k M W g h f (count_agrees e come gone count n x c s k M W g h f p r) ∙ ap (λ (j : First). place_of j (searched M n)) (sym fi ∙ z)
 
-    found-is : (M : q.Change) → Means M c count s k → at ≡ (if eqb (uses n M.behind) 0 then count else first_use n M.behind)
+    found-is : (M : q.Change) → Means M c count s k → at ≡ (when eqb (uses n M.behind) 0 then count else first_use n M.behind)
     unfolding found
     found-is M W = w ∙ rw W.behind-is refl
 
@@ -123,7 +123,7 @@ module _ (e come : Entry) (gone count n x d : ℕ) (c : Change) (s : List ℕ) (
     unfolding searched
     renew_found l M W g h f = record { count-is = count_agrees e come gone count n x c s k M W g h f p r; first-is = by-uses (eqb (uses n M.behind) 0) refl (found-is M W) ∙ sym (search_is M W g h f) }
       where
-        by-uses : (b : Bool) → eqb (uses n M.behind) 0 ≡ b → at ≡ (if eqb (uses n M.behind) 0 then count else first_use n M.behind) → c.place + c.new + at ≡ searched M n
+        by-uses : (b : Bool) → eqb (uses n M.behind) 0 ≡ b → at ≡ (when eqb (uses n M.behind) 0 then count else first_use n M.behind) → c.place + c.new + at ≡ searched M n
         by-uses true j o = let i : at ≡ count = o ∙ rw j refl in absurd (omega arith)
         by-uses false j o = let i : at ≡ first_use n M.behind = o ∙ rw j refl in rw (j, W.place_is, W.New-is, i) refl
 
@@ -135,7 +135,7 @@ module _ (e come : Entry) (gone count n x d : ℕ) (c : Change) (s : List ℕ) (
         some zero j d = absurd (d j)
         some (suc m) j d = omega arith
 
-        by-uses : (b : Bool) → eqb (uses n M.behind) 0 ≡ b → at ≡ (if eqb (uses n M.behind) 0 then count else first_use n M.behind) → 0 ≡ searched M n
+        by-uses : (b : Bool) → eqb (uses n M.behind) 0 ≡ b → at ≡ (when eqb (uses n M.behind) 0 then count else first_use n M.behind) → 0 ≡ searched M n
         by-uses true j o = rw j refl
         by-uses false j o =
             let i : at ≡ first_use n M.behind = o ∙ rw j refl in

@@ -1,6 +1,6 @@
 -- What is known of a place that was found among the bytes of a tree.
 use Rattle.std.specs.Prelude.{ℕ, ◌+◌, ◌-◌, ◌≤◌, ◌<◌, ◌≡◌, List, ◌++◌, eqb, length, drop}
-use Rattle.model.specs.Choice.{if◌then◌else◌}
+use Rattle.model.specs.Choice.{when◌then◌else◌}
 use Rattle.model.specs.Trees as m
 use Rattle.model.specs.Trees.{tsize}
 use Rattle.model.specs.Writing.{tree_bytes}
@@ -13,7 +13,7 @@ use Rattle.places.specs.Standing.{At, Tree}
 use Rattle.replacing.specs.declared.locating.Spot.{Spot}
 
 unfoldable pub lowest : Thing → ℕ
-lowest t = if eqb t.tag 4 then 2 else 0
+lowest t = when eqb t.tag 4 then 2 else 0
 
 -- some tree stands at the front of s that has such a place
 pub record Inside (k : Counts) (s : List ℕ) (place : ℕ) : Type 0 where

@@ -1,6 +1,6 @@
 -- What an entry is brought up to, in the code's words; and that this is the definition's.
 use Rattle.std.specs.Prelude.{ℕ, ◌+◌, ◌-◌, ◌*◌, ◌≤◌, ◌<◌, ◌≡◌, Bool, not, ◌&&◌, List, eqb, ltb, length, get_or}
-use Rattle.model.specs.Choice.{if◌then◌else◌}
+use Rattle.model.specs.Choice.{when◌then◌else◌}
 use Rattle.requests.specs.Uses as u
 use Rattle.requests.specs.Uses.{uses, first_use, entry_in}
 use Rattle.requests.specs.Replacing as q
@@ -20,10 +20,10 @@ stays_before e place = not (eqb e.count 0) && ltb e.first place
 unfoldable pub first_of : Entry → ℕ → Entry → Change → First
 unfolding capped stays_before
 first_of e count come c =
-    if eqb count 0 then Is 0
-    else if stays_before e c.place then Is e.first
-    else if not (eqb come.count 0) then Is (c.place + come.first)
-    else if ltb e.first (c.place + c.old) then Searched
+    when eqb count 0 then Is 0
+    else when stays_before e c.place then Is e.first
+    else when not (eqb come.count 0) then Is (c.place + come.first)
+    else when ltb e.first (c.place + c.old) then Searched
     else Is (capped (e.first - c.old + c.new))
 
 pub record Small (c : Change) : Type 0 where

@@ -1,6 +1,6 @@
 -- Where lines start on the page.
 use Rattle.std.specs.Prelude.{ℕ, leb}
-use Rattle.model.specs.Choice.{if◌then◌else◌}
+use Rattle.model.specs.Choice.{when◌then◌else◌}
 
 -- at the latest
 abbrev pub last_start : ℕ
@@ -8,4 +8,4 @@ last_start = 65536
 
 -- behind so many bytes, or on the page that is empty once those are written
 abbrev pub start_of : ℕ → ℕ
-start_of count = if leb count last_start then count else 0
+start_of count = when leb count last_start then count else 0

@@ -1,6 +1,6 @@
 -- Numbers of the stream, and inputs.
 use Rattle.std.specs.Prelude.{ℕ, ◌+◌, ◌≤◌, ◌≡◌, Bool, false, ◌||◌, eqb, ltb}
-use Rattle.model.specs.Choice.{if◌then◌else◌}
+use Rattle.model.specs.Choice.{when◌then◌else◌}
 use Rattle.replay.specs.declared.stream.Input.{Input}
 use Rattle.replay.specs.declared.stream.Number.{Number}
 use Rattle.replay.specs.declared.stream.Number.TheVariants.{Read, Cut}
@@ -11,7 +11,7 @@ use Rattle.replay.specs.declared.inputs.Inputs.TheVariants as inputs
 
 -- what the groups of a number come to: more than 32 bits break the format
 abbrev pub whole_of : ℕ → Input → Number
-whole_of value past = if ltb 4294967295 value then Cut else Read value past
+whole_of value past = when ltb 4294967295 value then Cut else Read value past
 
 -- an input that was read has so many bytes at most
 abbrev pub Within : ℕ → Length → Type 0

@@ -12,7 +12,7 @@ use lib.Seq.{take-suc-set, length-take-le}
 use borrow.Author.Tests.{lt-ltb, le-ltb, le-leb, lt-leb, leb-true, leb-false, ne_eqb}
 use mir.Syntax.{w64}
 use mir.Val.{Fits}
-use Rattle.model.specs.Choice.{if◌then◌else◌, given}
+use Rattle.model.specs.Choice.{when◌then◌else◌, given}
 use Rattle.model.specs.Reading.{got, byte, groups, num}
 use Rattle.model.specs.Jobs.{Line}
 use Rattle.numbers.specs.Limits.{most_image}
@@ -30,8 +30,8 @@ long-answered : (n : ℕ) (rest : List ℕ) → most_image < n → answered sing
 unfolding cut_off
 long-answered n rest h = by (leb n (length rest)) refl
   where
-    by : (t : Bool) → leb n (length rest) ≡ t → answered single (if t then some (take n rest, drop n rest) else none)
-        ≡ answered (λ image. too_long_line) (if t then some (take n rest, drop n rest) else none)
+    by : (t : Bool) → leb n (length rest) ≡ t → answered single (when t then some (take n rest, drop n rest) else none)
+        ≡ answered (λ image. too_long_line) (when t then some (take n rest, drop n rest) else none)
     by true e =
         let l = length-take-le n rest (leb-true n (length rest) e) in
         ap (λ (a : Line). given (answers_in (drop n rest)) (λ l. some (a ∷ l))) (single_too_long (take n rest) (rw (l, ← image-is) h))
@@ -116,8 +116,8 @@ cut-behind left b rest answer = by (leb left (length rest)) (leb (suc left) (suc
         by_test true e = let l = leb-true m n e in le-leb (suc m) (suc n) (omega arith)
         by_test false e = let l = leb-false m n e in lt-leb (suc m) (suc n) (omega arith)
 
-    by : (t u : Bool) → u ≡ t → answered answer (if u then some (b ∷ take left rest, drop left rest) else none)
-        ≡ answered (λ image. answer (b ∷ image)) (if t then some (take left rest, drop left rest) else none)
+    by : (t u : Bool) → u ≡ t → answered answer (when u then some (b ∷ take left rest, drop left rest) else none)
+        ≡ answered (λ image. answer (b ∷ image)) (when t then some (take left rest, drop left rest) else none)
     by true u e = rw e
     by false u e = rw e
 

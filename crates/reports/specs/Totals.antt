@@ -1,7 +1,7 @@
 -- What is kept of the answers: counts and sums of 64 bits. One that has come to the top stays there.
 use Rattle.std.specs.Prelude.{ℕ, ◌+◌, List, [], ◌∷◌, leb, get_or, set, replicate}
 use Rattle.std.proofs.Math.Option.{Option, none, some}
-use Rattle.model.specs.Choice.{if◌then◌else◌, given}
+use Rattle.model.specs.Choice.{when◌then◌else◌, given}
 use Rattle.model.specs.Jobs.{Line}
 use Rattle.requests.specs.Report.{report_of, cut_line}
 use Rattle.reports.specs.declared.totals.Sums.{Sums}
@@ -17,7 +17,7 @@ abbrev pub top : ℕ
 top = 18446744073709551615
 
 unfoldable pub capped : ℕ → ℕ
-capped n = if leb n top then n else top
+capped n = when leb n top then n else top
 
 -- how often each code was given, the units of all answers, and the number of images
 pub record Totals : Type 0 where
@@ -52,7 +52,7 @@ totals_from here room t rest = given (answers_from here room rest) (λ l. some (
 
 -- the same once no byte is to come
 unfoldable pub ended : Reading → Totals → Option Totals
-ended here t = if is_between here then some t else none
+ended here t = when is_between here then some t else none
 
 -- the report of the totals
 unfoldable pub reported : Option Totals → List ℕ

@@ -9,7 +9,7 @@ use lib.Dec.{eqb, ltb, leb}
 use lib.ListN.{length, take, drop, length-append, length-drop}
 use lib.Seq.{take-append-le, drop-append-le}
 use borrow.Author.Tests.{le-leb, leb-true}
-use Rattle.model.specs.Choice.{if◌then◌else◌, given}
+use Rattle.model.specs.Choice.{when◌then◌else◌, given}
 use Rattle.model.specs.Refusals.{Refusal, layout, over_limit}
 use Rattle.model.specs.Reading.{Read, got, fault, Reader, next, give, need, byte, groups, num}
 use Rattle.codec_laws.proofs.NumberTrip.{fault≢got, got-value, got-rest}
@@ -45,7 +45,7 @@ front-next {A} {B} m f h k = record { more = further; less = shorter }
         let n = next-got (m s) f v rest e in
         omega (arith, h.less s n.1 n.0 n.2, (k n.0).less n.1 rest v n.3)
 
-front_if : {A : Type 0} (b : Bool) (m n : Reader A) → Front m → Front n → Front (if b then m else n)
+front_if : {A : Type 0} (b : Bool) (m n : Reader A) → Front m → Front n → Front (when b then m else n)
 front_if true m n h k = h
 front_if false m n h k = k
 
@@ -75,23 +75,23 @@ front-groups zero w n =
     front-next (need over_limit (leb b 15)) (λ a s. next (need layout (not (eqb b 0)) s) (λ a. give (n + b * w))) (front-need over_limit (leb b 15)) (λ a.
     front-last b w n))
 front-groups (suc k) w n =
-    front-next byte (λ b. if ltb b 128 then (λ s. next (need layout (not (eqb b 0)) s) (λ a. give (n + b * w))) else groups k (w * 128) (n + (b - 128) * w)) front-byte (λ b.
+    front-next byte (λ b. when ltb b 128 then (λ s. next (need layout (not (eqb b 0)) s) (λ a. give (n + b * w))) else groups k (w * 128) (n + (b - 128) * w)) front-byte (λ b.
     front_if (ltb b 128) (λ s. next (need layout (not (eqb b 0)) s) (λ a. give (n + b * w))) (groups k (w * 128) (n + (b - 128) * w)) (front-last b w n)
     (front-groups k (w * 128) (n + (b - 128) * w)))
 
-front_rest : (b : ℕ) → Front (if ltb b 128 then give b else groups 3 128 (b - 128))
+front_rest : (b : ℕ) → Front (when ltb b 128 then give b else groups 3 128 (b - 128))
 front_rest b = front_if (ltb b 128) (give b) (groups 3 128 (b - 128)) (front-give b) (front-groups 3 128 (b - 128))
 
 pub num-more : (s t rest : List ℕ) (n : ℕ) → num s ≡ got n rest → num (s ++ t) ≡ got n (rest ++ t)
 unfolding num
 num-more s t rest n e =
-    (front-next byte (λ b. if ltb b 128 then give b else groups 3 128 (b - 128)) front-byte front_rest).more s t rest n e
+    (front-next byte (λ b. when ltb b 128 then give b else groups 3 128 (b - 128)) front-byte front_rest).more s t rest n e
 
 num_less : (b : ℕ) (s rest : List ℕ) (n : ℕ) → num (b ∷ s) ≡ got n rest → length rest ≤ length s
 unfolding num byte
 num_less b s rest n e = (front_rest b).less s rest n e
 
-cut_off-is : (n : ℕ) (s : List ℕ) → cut_off (got n s) ≡ (if leb n (length s) then some (take n s, drop n s) else none)
+cut_off-is : (n : ℕ) (s : List ℕ) → cut_off (got n s) ≡ (when leb n (length s) then some (take n s, drop n s) else none)
 unfolding cut_off
 cut_off-is n s = refl
 
@@ -110,7 +110,7 @@ first-same f g [] h = refl
 first-same f g (b ∷ s) h = go (num (b ∷ s)) refl
   where
     cut : (n : ℕ) (rest : List ℕ) → length rest ≤ length s → (t : Bool)
-        → and_then f (if t then some (take n rest, drop n rest) else none) ≡ and_then g (if t then some (take n rest, drop n rest) else none)
+        → and_then f (when t then some (take n rest, drop n rest) else none) ≡ and_then g (when t then some (take n rest, drop n rest) else none)
     cut n rest k true =
         ap (λ (z : Option (List (List ℕ))). given z (λ l. some (take n rest ∷ l))) (h (drop n rest) (omega (arith, length-drop n rest)))
     cut n rest k false = refl
@@ -187,7 +187,7 @@ behind-first b [] x h e = given-same (images_of b) ∙ ap (λ (z : List (List �
 behind-first b (c ∷ a) x h e = go (num (c ∷ a)) refl (sym (one_image_at_a_time (c ∷ a)) ∙ e)
   where
     cut : (n : ℕ) (rest : List ℕ) → num (c ∷ a) ≡ got n rest → (t : Bool) → leb n (length rest) ≡ t
-        → and_then images_of (if t then some (take n rest, drop n rest) else none) ≡ some x → Behind (c ∷ a) b x
+        → and_then images_of (when t then some (take n rest, drop n rest) else none) ≡ some x → Behind (c ∷ a) b x
     cut n rest k false l q = absurd (none≢some x q)
     cut n rest k true l q =
         let g = given-some (images_of (drop n rest)) (take n rest) x q in
@@ -200,7 +200,7 @@ behind-first b (c ∷ a) x h e = go (num (c ∷ a)) refl (sym (one_image_at_a_ti
         ∙ ap (λ (z : List (List ℕ)). given (images_of b) (λ y. some (z ++ y))) g.2
 
     opened : (n : ℕ) (rest : List ℕ) → and_then images_of (cut_off (got n rest)) ≡ some x
-        → and_then images_of (if leb n (length rest) then some (take n rest, drop n rest) else none) ≡ some x
+        → and_then images_of (when leb n (length rest) then some (take n rest, drop n rest) else none) ≡ some x
     opened n rest q = sym (ap (λ (o : Option (List ℕ × List ℕ)). and_then images_of o) (cut_off-is n rest)) ∙ q
 
     go : (o : Read ℕ) → num (c ∷ a) ≡ o → and_then images_of (cut_off o) ≡ some x → Behind (c ∷ a) b x

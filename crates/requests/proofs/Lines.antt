@@ -8,7 +8,7 @@ use lib.Dec.{eqb}
 use lib.ListN.{length, take, drop}
 use lib.Seq.{drop-append_seam}
 use borrow.Author.Tests.{eqb-true, eqb-false, eq-eqb, ne_eqb}
-use Rattle.model.specs.Choice.{if◌then◌else◌}
+use Rattle.model.specs.Choice.{when◌then◌else◌}
 use Rattle.model.specs.Trees.{Tree}
 use Rattle.model.specs.Meanings.{is_among}
 use Rattle.requests.specs.Recording.{Change}
@@ -65,7 +65,7 @@ unfolding ascending is_among
 below_none zero x y d h = refl
 below_none (suc c) x y d h = go (is_among x d) (below_none c (suc x) y d (omega arith))
   where
-    go : (t : Bool) → is_among y (ascending c (suc x) d) ≡ false → is_among y (if t then x ∷ ascending c (suc x) d else ascending c (suc x) d) ≡ false
+    go : (t : Bool) → is_among y (ascending c (suc x) d) ≡ false → is_among y (when t then x ∷ ascending c (suc x) d else ascending c (suc x) d) ≡ false
     go true q = rw (ne_eqb y x (λ e. omega arith)) q
     go false q = q
 
@@ -74,15 +74,15 @@ unfolding ascending is_among
 shown_exactly zero x y d h k = absurd (omega arith)
 shown_exactly (suc c) x y d h k = go (eqb x y) refl (λ q. shown_exactly c (suc x) y d q (omega arith))
   where
-    same : x ≡ y → (t : Bool) → is_among x d ≡ t → is_among y (if t then x ∷ ascending c (suc x) d else ascending c (suc x) d) ≡ is_among y d
+    same : x ≡ y → (t : Bool) → is_among x d ≡ t → is_among y (when t then x ∷ ascending c (suc x) d else ascending c (suc x) d) ≡ is_among y d
     same e true q = rw (eq-eqb y x (sym e)) (sym q ∙ ap (λ (z : ℕ). is_among z d) e)
     same e false q = below_none c (suc x) y d (omega arith) ∙ sym q ∙ ap (λ (z : ℕ). is_among z d) e
 
     other : (x ≡ y → ⊥) → is_among y (ascending c (suc x) d) ≡ is_among y d → (t : Bool)
-        → is_among y (if t then x ∷ ascending c (suc x) d else ascending c (suc x) d) ≡ is_among y d
+        → is_among y (when t then x ∷ ascending c (suc x) d else ascending c (suc x) d) ≡ is_among y d
     other e q true = rw (ne_eqb y x (λ z. e (sym z))) q
     other e q false = q
 
-    go : (t : Bool) → eqb x y ≡ t → (suc x ≤ y → is_among y (ascending c (suc x) d) ≡ is_among y d) → is_among y (if is_among x d then x ∷ ascending c (suc x) d else ascending c (suc x) d) ≡ is_among y d
+    go : (t : Bool) → eqb x y ≡ t → (suc x ≤ y → is_among y (ascending c (suc x) d) ≡ is_among y d) → is_among y (when is_among x d then x ∷ ascending c (suc x) d else ascending c (suc x) d) ≡ is_among y d
     go true q f = same (eqb-true x y q) (is_among x d) refl
     go false q f = let e = eqb-false x y q in other e (f (omega arith)) (is_among x d)

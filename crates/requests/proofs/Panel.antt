@@ -7,7 +7,7 @@ use mathlib.Core.Bool.{Bool, true, false, not, ◌||◌, false≢true}
 use mathlib.Core.List.{List, [], ◌∷◌, ◌++◌}
 use lib.Dec.{eqb, leb}
 use lib.ListN.{length, get_or, drop}
-use Rattle.model.specs.Choice.{if◌then◌else◌}
+use Rattle.model.specs.Choice.{when◌then◌else◌}
 use Rattle.model.specs.Refusals.{unowned, too_long}
 use Rattle.model.specs.Trees.{Tree}
 use Rattle.model.specs.Reading.{Read, got, fault, Image, read_tree_image, read_image}
@@ -76,7 +76,7 @@ unfolding profile
 profile_case t = go (closed [] t) (is_program t) (all_differ (driven t)) (leb (length (bits_of t)) most_bits) refl refl refl refl
   where
     go : (a b c d : Bool) → closed [] t ≡ a → is_program t ≡ b → all_differ (driven t) ≡ c → leb (length (bits_of t)) most_bits ≡ d
-        → Listed (Profile t) (if a then if b then if c then if d then listed (bits_of t) else refused too_many_bits else refused driven_twice else refused outside else refused (base unowned))
+        → Listed (Profile t) (when a then when b then when c then when d then listed (bits_of t) else refused too_many_bits else refused driven_twice else refused outside else refused (base unowned))
     go true true true true p q r s = record { owned = p; program = q; once = r; few = s; names = refl }
     go true true true false p q r s = tt
     go true true false d p q r s = tt
@@ -103,7 +103,7 @@ unfolding room_for
 roomed Q room (refused r) p = tt
 roomed Q room (listed l) p = go (leb (length l) room) refl
   where
-    go : (t : Bool) → leb (length l) room ≡ t → Listed (λ l. Q l × (length l ≤ room)) (if t then listed l else refused (base too_long))
+    go : (t : Bool) → leb (length l) room ≡ t → Listed (λ l. Q l × (length l ≤ room)) (when t then listed l else refused (base too_long))
     go true e = (p, leb-true (length l) room e)
     go false e = tt
 

@@ -9,7 +9,7 @@ use lib.Dec.{eqb, ltb}
 use lib.ListN.{length, drop, length-append}
 use lib.Seq.{drop_at}
 use borrow.Author.Tests.{eq-eqb, ne_eqb, lt-ltb, le-ltb, le-leb, ltb-true, ltb-false}
-use Rattle.model.specs.Choice.{if◌then◌else◌}
+use Rattle.model.specs.Choice.{when◌then◌else◌}
 use Rattle.model.specs.Objects.{Name}
 use Rattle.model.specs.Trees.{Tree, var, app, fun, datum, lst, stx, Trees, tnil, tcons, tsize, tsize_by, tsizes_by}
 use Rattle.requests.specs.Uses.{Thing, other, things, things_all, uses, first_use, Entry, entry_of, entry_words, summary_words, summary_of, entry_in}
@@ -58,8 +58,8 @@ mutual
   parted l low (app g r) (suc p) h = by_test (ltb p (tsize g)) refl (λ k. parted (l - 1) 0 g p k) (λ k. among_parted (l - 1) 0 r (p - tsize g) k)
     where
       Goal : Bool → Type 0
-      Goal b = Parted (other ∷ (things g ++ things_all r)) (things (if b then spot (l - 1) 0 g p else spot_among (l - 1) 0 r (p - tsize g)).part) (suc p)
-          (λ u. things (if b then app (replaced u g p) r else app g (replaced_among u r (p - tsize g))))
+      Goal b = Parted (other ∷ (things g ++ things_all r)) (things (when b then spot (l - 1) 0 g p else spot_among (l - 1) 0 r (p - tsize g)).part) (suc p)
+          (λ u. things (when b then app (replaced u g p) r else app g (replaced_among u r (p - tsize g))))
 
       by_test : (b : Bool) → ltb p (tsize g) ≡ b
           → (p < tsize g → Parted (things g) (things (spot (l - 1) 0 g p).part) p (λ u. things (replaced u g p)))
@@ -91,8 +91,8 @@ mutual
       by_test : (b : Bool) → ltb p (tsize t) ≡ b
           → (p < tsize t → Parted (things t) (things (spot l low t p).part) p (λ u. things (replaced u t p)))
           → (p - tsize t < tsizes r → Parted (things_all r) (things (spot_among l low r (p - tsize t)).part) (p - tsize t) (λ u. things_all (replaced_among u r (p - tsize t))))
-          → Parted (things t ++ things_all r) (things (if b then spot l low t p else spot_among l low r (p - tsize t)).part) p
-          (λ u. things_all (if b then tcons (replaced u t p) r else tcons t (replaced_among u r (p - tsize t))))
+          → Parted (things t ++ things_all r) (things (when b then spot l low t p else spot_among l low r (p - tsize t)).part) p
+          (λ u. things_all (when b then tcons (replaced u t p) r else tcons t (replaced_among u r (p - tsize t))))
       by_test true e x y = same_parted (around [] (things_all r) (x (ltb-true p (tsize t) e))) refl (omega arith) (λ u. refl)
       by_test false e x y =
           let k = ltb-false p (tsize t) e in

@@ -8,7 +8,7 @@ use lib.Dec.{eqb}
 use lib.ListN.{length, get_or, set, length-set, length-replicate, get_or-replicate}
 use lib.Seq.{get_or-set_same, get_or-set_other}
 use borrow.Author.Tests.{eqb-true, eqb-false}
-use Rattle.model.specs.Choice.{if◌then◌else◌}
+use Rattle.model.specs.Choice.{when◌then◌else◌}
 use Rattle.model.specs.Limits.{last_point}
 use Rattle.model.specs.Objects.{symbol, number, point, prim, rung}
 use Rattle.model.specs.Trees.{Tree, var, app, fun, datum, lst, stx, Trees, tnil, tcons}
@@ -162,10 +162,10 @@ scan-sized n t c s h = work-keeps (Sized n) (out-sized n) (set-sized n) [] 0 t (
 
 -- ---- so an undriven point shows what was recorded last
 
-written_at : (l : List ℕ) (y v x : ℕ) → x < length l → get_or (set l y v) x 0 ≡ (if eqb x y then v else get_or l x 0)
+written_at : (l : List ℕ) (y v x : ℕ) → x < length l → get_or (set l y v) x 0 ≡ (when eqb x y then v else get_or l x 0)
 written_at l y v x h = go (eqb x y) refl
   where
-    go : (t : Bool) → eqb x y ≡ t → get_or (set l y v) x 0 ≡ (if t then v else get_or l x 0)
+    go : (t : Bool) → eqb x y ≡ t → get_or (set l y v) x 0 ≡ (when t then v else get_or l x 0)
     go true e =
         let q = eqb-true x y e in
         ap (λ (z : ℕ). get_or (set l y v) z 0) q ∙ get_or-set_same l y v 0 (subst (λ (z : ℕ). z < length l) q h)

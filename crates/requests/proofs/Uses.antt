@@ -8,7 +8,7 @@ use native.Mathlib.Omega.{arith}
 use lib.Dec.{eqb}
 use lib.ListN.{length, get_or, length-append, get_or-append}
 use borrow.Author.Tests.{eq-eqb, ne_eqb}
-use Rattle.model.specs.Choice.{if◌then◌else◌}
+use Rattle.model.specs.Choice.{when◌then◌else◌}
 use Rattle.model.specs.Objects.{Name}
 use Rattle.model.specs.Trees.{Tree, var, app, fun, datum, lst, stx, Trees, tnil, tcons, tsize, tsize_by, tsizes_by}
 use Rattle.requests.specs.Uses.{Thing, things, things_all, is_use, uses, first_use, Entry, entry_of, entry_words, summary_words, summary_of, entry_in}
@@ -41,7 +41,7 @@ unfolding uses
 uses-few n [] = omega arith
 uses-few n (x ∷ l) = go (is_use n x) (uses-few n l)
   where
-    go : (b : Bool) → uses n l ≤ length l → (if b then suc (uses n l) else uses n l) ≤ suc (length l)
+    go : (b : Bool) → uses n l ≤ length l → (when b then suc (uses n l) else uses n l) ≤ suc (length l)
     go true r = omega arith
     go false r = omega arith
 
@@ -50,7 +50,7 @@ unfolding uses
 uses_append n [] b = omega arith
 uses_append n (x ∷ a) b = go (is_use n x) (uses_append n a b)
   where
-    go : (t : Bool) → uses n (a ++ b) ≡ uses n a + uses n b → (if t then suc (uses n (a ++ b)) else uses n (a ++ b)) ≡ (if t then suc (uses n a) else uses n a) + uses n b
+    go : (t : Bool) → uses n (a ++ b) ≡ uses n a + uses n b → (when t then suc (uses n (a ++ b)) else uses n (a ++ b)) ≡ (when t then suc (uses n a) else uses n a) + uses n b
     go true r = omega arith
     go false r = r
 
@@ -59,8 +59,8 @@ unfolding uses first_use
 first-within n [] h = absurd (omega arith)
 first-within n (x ∷ l) h = go (is_use n x) h (first-within n l)
   where
-    go : (t : Bool) → 0 < (if t then suc (uses n l) else uses n l) → (0 < uses n l → first_use n l < length l)
-        → (if t then 0 else if eqb (uses n l) 0 then 0 else suc (first_use n l)) < suc (length l)
+    go : (t : Bool) → 0 < (when t then suc (uses n l) else uses n l) → (0 < uses n l → first_use n l < length l)
+        → (when t then 0 else when eqb (uses n l) 0 then 0 else suc (first_use n l)) < suc (length l)
     go true k r = omega arith
     go false k r = let e = ne_eqb (uses n l) 0 (λ q. omega arith) in rw e (omega (arith, r k))
 
@@ -70,8 +70,8 @@ unfolding uses first_use
 first-left n [] b h = absurd (omega arith)
 first-left n (x ∷ a) b h = go (is_use n x) h (first-left n a b)
   where
-    go : (t : Bool) → 0 < (if t then suc (uses n a) else uses n a) → (0 < uses n a → first_use n (a ++ b) ≡ first_use n a)
-        → (if t then 0 else if eqb (uses n (a ++ b)) 0 then 0 else suc (first_use n (a ++ b))) ≡ (if t then 0 else if eqb (uses n a) 0 then 0 else suc (first_use n a))
+    go : (t : Bool) → 0 < (when t then suc (uses n a) else uses n a) → (0 < uses n a → first_use n (a ++ b) ≡ first_use n a)
+        → (when t then 0 else when eqb (uses n (a ++ b)) 0 then 0 else suc (first_use n (a ++ b))) ≡ (when t then 0 else when eqb (uses n a) 0 then 0 else suc (first_use n a))
     go true k r = refl
     go false k r =
         let e = ne_eqb (uses n a) 0 (λ q. omega arith) in
@@ -83,8 +83,8 @@ unfolding uses first_use
 first_right n [] b h k = omega arith
 first_right n (x ∷ a) b h k = go (is_use n x) h (λ q. first_right n a b q k)
   where
-    go : (t : Bool) → (if t then suc (uses n a) else uses n a) ≡ 0 → (uses n a ≡ 0 → first_use n (a ++ b) ≡ length a + first_use n b)
-        → (if t then 0 else if eqb (uses n (a ++ b)) 0 then 0 else suc (first_use n (a ++ b))) ≡ suc (length a) + first_use n b
+    go : (t : Bool) → (when t then suc (uses n a) else uses n a) ≡ 0 → (uses n a ≡ 0 → first_use n (a ++ b) ≡ length a + first_use n b)
+        → (when t then 0 else when eqb (uses n (a ++ b)) 0 then 0 else suc (first_use n (a ++ b))) ≡ suc (length a) + first_use n b
     go true q r = absurd (omega arith)
     go false q r =
         let d = ne_eqb (uses n (a ++ b)) 0 (λ z. omega (arith, uses_append n a b)) in
@@ -95,7 +95,7 @@ unfolding uses first_use
 first-none n [] h = refl
 first-none n (x ∷ a) h = go (is_use n x) h
   where
-    go : (t : Bool) → (if t then suc (uses n a) else uses n a) ≡ 0 → (if t then 0 else if eqb (uses n a) 0 then 0 else suc (first_use n a)) ≡ 0
+    go : (t : Bool) → (when t then suc (uses n a) else uses n a) ≡ 0 → (when t then 0 else when eqb (uses n a) 0 then 0 else suc (first_use n a)) ≡ 0
     go true q = refl
     go false q = rw (eq-eqb (uses n a) 0 q) refl
 

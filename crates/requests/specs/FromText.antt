@@ -1,7 +1,7 @@
 -- Document 02, T-05: from text to a syntax image with no scopes, words numbered as first met.
 use Rattle.std.specs.Prelude.{ℕ, zero, suc, ◌+◌, ◌-◌, Bool, true, false, ◌&&◌, List, [], ◌∷◌, ◌++◌, eqb, ltb, leb, length}
 use Rattle.std.proofs.Math.Option.{Option, none, some}
-use Rattle.model.specs.Choice.{if◌then◌else◌}
+use Rattle.model.specs.Choice.{when◌then◌else◌}
 use Rattle.model.specs.Limits.{most_names, core_names, most_nesting, most_word_length, last_point, last_primitive, last_rung_word}
 use Rattle.model.specs.Refusals.{Refusal, over_limit, code_of}
 use Rattle.model.specs.Objects.{Atom, symbol, no_sets, Stx, atom, list, Stxs, nil, cons, nesting}
@@ -29,11 +29,11 @@ pub data Made (A : Type 0) : Type 0 where
 
 -- whatever starts a second object, where d parentheses are open
 unfoldable pub unless_second : ℕ → Bool → Option TextRefusal → Option TextRefusal
-unless_second d begun after = if begun && eqb d 0 then some bad_text else after
+unless_second d begun after = when begun && eqb d 0 then some bad_text else after
 
 -- at the end something open is 27, no object 26
 unfoldable pub at_last : ℕ → Bool → Option TextRefusal
-at_last zero begun = if begun then none else some bad_text
+at_last zero begun = when begun then none else some bad_text
 at_last (suc d) begun = some unbalanced
 
 -- d parentheses are open, and an object has begun or not
@@ -98,7 +98,7 @@ read_object ts = unless (judged 0 false ts) (the_object (built ts))
 unfoldable pub met : List (List ℕ) → List Token → List (List ℕ)
 unfolding among
 met seen [] = []
-met seen (one (word w) ∷ ts) = if among w seen then met seen ts else w ∷ met (w ∷ seen) ts
+met seen (one (word w) ∷ ts) = when among w seen then met seen ts else w ∷ met (w ∷ seen) ts
 met seen (one (number n) ∷ ts) = met seen ts
 met seen (one (point n) ∷ ts) = met seen ts
 met seen (one (prim n) ∷ ts) = met seen ts
@@ -162,7 +162,7 @@ within ts i = all_fit ts && leb (length i.head.words) (most_names - core_names) 
 
 unfoldable pub limited : List Token → Image Stx → Made (Image Stx)
 unfolding within
-limited ts i = if within ts i then made i else refused (base over_limit)
+limited ts i = when within ts i then made i else refused (base over_limit)
 
 unfoldable pub numbered_from : List Token → Made Obj → Made (Image Stx)
 unfolding limited image_of met core_words

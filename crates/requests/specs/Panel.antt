@@ -2,7 +2,7 @@
 -- tree image.
 use Rattle.std.specs.Prelude.{ℕ, zero, suc, ◌*◌, Bool, true, false, ◌&&◌, List, [], ◌∷◌, ◌++◌, eqb, leb, length, drop}
 use Rattle.std.proofs.Math.Bool as b
-use Rattle.model.specs.Choice.{if◌then◌else◌}
+use Rattle.model.specs.Choice.{when◌then◌else◌}
 use Rattle.model.specs.Refusals.{Refusal, unowned, too_long, code_of}
 use Rattle.model.specs.Objects.{Atom, symbol, number, point, prim, rung}
 use Rattle.model.specs.Trees.{Tree, var, app, fun, datum, lst, stx, Trees, tnil, tcons, tcount}
@@ -250,10 +250,10 @@ pub data PanelEnding : Type 0 where
 unfoldable pub profile : Tree → PanelEnding
 unfolding closed is_program all_differ driven bits_of most_bits
 profile t =
-    if closed [] t then
-    if is_program t then
-    if all_differ (driven t) then
-    if leb (length (bits_of t)) most_bits then listed (bits_of t) else refused too_many_bits
+    when closed [] t then
+    when is_program t then
+    when all_differ (driven t) then
+    when leb (length (bits_of t)) most_bits then listed (bits_of t) else refused too_many_bits
     else refused driven_twice
     else refused outside
     else refused (base unowned)
@@ -271,7 +271,7 @@ panel_of image = of_image (read_image read_tree_image image)
 -- and last 20, where there is no room for so many words
 unfoldable pub room_for : ℕ → PanelEnding → PanelEnding
 room_for room (refused r) = refused r
-room_for room (listed l) = if leb (length l) room then listed l else refused (base too_long)
+room_for room (listed l) = when leb (length l) room then listed l else refused (base too_long)
 
 unfoldable pub panel_answer : PanelEnding → Answer
 panel_answer (refused r) = record { code = panel_code r; units = 0; name = 0; len = 0; first = 0; second = 0 }

@@ -1,6 +1,6 @@
 -- Document 02, T-10, where is this bit used: one part of a tree replaced by another, and the summary brought up to date.
 use Rattle.std.specs.Prelude.{ℕ, zero, suc, ◌+◌, ◌-◌, not, ◌&&◌, List, ◌++◌, eqb, ltb, leb, length, drop, get_or}
-use Rattle.model.specs.Choice.{if◌then◌else◌}
+use Rattle.model.specs.Choice.{when◌then◌else◌}
 use Rattle.model.specs.Limits.{most_nesting, most_image}
 use Rattle.model.specs.Refusals.{too_long, over_limit}
 use Rattle.model.specs.Objects.{Name, number}
@@ -31,7 +31,7 @@ unfoldable mutual
   spot l low (var n) zero = here l low (var n)
   spot l low (var n) (suc p) = nowhere
   spot l low (app h r) zero = here l low (app h r)
-  spot l low (app h r) (suc p) = if ltb p (tsize h) then spot (l - 1) 0 h p else spot_among (l - 1) 0 r (p - tsize h)
+  spot l low (app h r) (suc p) = when ltb p (tsize h) then spot (l - 1) 0 h p else spot_among (l - 1) 0 r (p - tsize h)
   spot l low (fun n b) zero = here l low (fun n b)
   spot l low (fun n b) (suc p) = spot (l - 1) 0 b p
   spot l low (datum a) zero = here l low (datum a)
@@ -43,7 +43,7 @@ unfoldable mutual
 
   pub spot_among : ℕ → ℕ → Trees → ℕ → Spot
   spot_among l low tnil p = nowhere
-  spot_among l low (tcons t r) p = if ltb p (tsize t) then spot l low t p else spot_among l low r (p - tsize t)
+  spot_among l low (tcons t r) p = when ltb p (tsize t) then spot l low t p else spot_among l low r (p - tsize t)
 
 unfoldable pub spot_in : ℕ → Tree → Spot
 unfolding spot most_nesting
@@ -58,7 +58,7 @@ unfoldable mutual
   replaced u (var n) zero = u
   replaced u (var n) (suc p) = var n
   replaced u (app h r) zero = u
-  replaced u (app h r) (suc p) = if ltb p (tsize h) then app (replaced u h p) r else app h (replaced_among u r (p - tsize h))
+  replaced u (app h r) (suc p) = when ltb p (tsize h) then app (replaced u h p) r else app h (replaced_among u r (p - tsize h))
   replaced u (fun n b) zero = u
   replaced u (fun n b) (suc p) = fun n (replaced u b p)
   replaced u (datum a) zero = u
@@ -70,7 +70,7 @@ unfoldable mutual
 
   pub replaced_among : Tree → Trees → ℕ → Trees
   replaced_among u tnil p = tnil
-  replaced_among u (tcons t r) p = if ltb p (tsize t) then tcons (replaced u t p) r else tcons t (replaced_among u r (p - tsize t))
+  replaced_among u (tcons t r) p = when ltb p (tsize t) then tcons (replaced u t p) r else tcons t (replaced_among u r (p - tsize t))
 
 -- ---- what the summary is brought up to date from: the place, the things of both parts, and those behind the old one, which are
 -- looked at for a name whose first place was in the old part and that the new one has not
@@ -87,7 +87,7 @@ largest = 4294967295
 -- an invented summary may have entries that are too large
 unfoldable pub capped : ℕ → ℕ
 unfolding largest
-capped n = if leb n largest then n else largest
+capped n = when leb n largest then n else largest
 
 unfoldable pub count_after : Change → Name → ℕ → ℕ
 unfolding capped uses
@@ -95,15 +95,15 @@ count_after c n k = capped (k - uses n c.old + uses n c.new)
 
 unfoldable pub searched : Change → Name → ℕ
 unfolding uses first_use
-searched c n = if eqb (uses n c.behind) 0 then 0 else c.place + length c.new + first_use n c.behind
+searched c n = when eqb (uses n c.behind) 0 then 0 else c.place + length c.new + first_use n c.behind
 
 unfoldable pub first_after : Change → Name → Entry → ℕ
 unfolding count_after searched capped uses first_use
 first_after c n e =
-    if eqb (count_after c n e.count) 0 then 0
-    else if not (eqb e.count 0) && ltb e.first c.place then e.first
-    else if not (eqb (uses n c.new) 0) then c.place + first_use n c.new
-    else if ltb e.first (c.place + length c.old) then searched c n
+    when eqb (count_after c n e.count) 0 then 0
+    else when not (eqb e.count 0) && ltb e.first c.place then e.first
+    else when not (eqb (uses n c.new) 0) then c.place + first_use n c.new
+    else when ltb e.first (c.place + length c.old) then searched c n
     else capped (e.first - length c.old + length c.new)
 
 unfoldable pub entry_after : Change → (Name → Entry) → Name → Entry
@@ -127,7 +127,7 @@ change_of p u t =
 unfoldable pub read_part : Head → Spot → Reader Tree
 unfolding read_tree at_end most_image
 read_part h o s =
-    if leb (length s) most_image then (do
+    when leb (length s) most_image then (do
       u ← read_tree o.levels h o.low
       at_end
       give u) s
@@ -143,13 +143,13 @@ unfolding tree_image_bytes replaced brought_up change_of most_image
 with_part room w p i (fault r) = refused (base r)
 with_part room w p i (got u s) =
     let b = tree_image_bytes i.head (replaced u i.root p) in
-    if leb (length b) room && leb (length b) most_image then made b (brought_up (change_of p u i.root) i.head.names w) else refused (base too_long)
+    when leb (length b) room && leb (length b) most_image then made b (brought_up (change_of p u i.root) i.head.names w) else refused (base too_long)
 
 unfoldable pub replace_in : ℕ → List ℕ → ℕ → List ℕ → Read (Image Tree) → ReplaceEnding
 unfolding belongs tsize with_part read_part spot_in
 replace_in room w p part (fault r) = refused (base r)
 replace_in room w p part (got i s) =
-    if belongs w i && ltb p (tsize i.root) then with_part room w p i (read_part i.head (spot_in p i.root) part)
+    when belongs w i && ltb p (tsize i.root) then with_part room w p i (read_part i.head (spot_in p i.root) part)
     else refused other_tree
 
 unfoldable pub replace_answer : ReplaceEnding → Answer

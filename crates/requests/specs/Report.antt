@@ -1,7 +1,7 @@
 -- Document 02, T-13, term report: how a file falls into images, the answers to them, and the report of a list of answers.
 use Rattle.std.specs.Prelude.{ℕ, zero, suc, ◌+◌, ◌/◌, ◌%◌, Bool, true, false, List, [], ◌∷◌, eqb, leb, length, take, drop}
 use Rattle.std.proofs.Math.Option.{Option, none, some}
-use Rattle.model.specs.Choice.{if◌then◌else◌, given}
+use Rattle.model.specs.Choice.{when◌then◌else◌, given}
 use Rattle.model.specs.Limits.{most_image, program_budget}
 use Rattle.model.specs.Reading.{Read, got, fault, num}
 use Rattle.model.specs.Jobs.{Line, line_of, expand_ending, digits}
@@ -12,7 +12,7 @@ use Rattle.model.specs.Jobs.{Line, line_of, expand_ending, digits}
 -- an image of the length read, and the bytes after it
 unfoldable pub cut_off : Read ℕ → Option (List ℕ × List ℕ)
 cut_off (fault c) = none
-cut_off (got n s) = if leb n (length s) then some (take n s, drop n s) else none
+cut_off (got n s) = when leb n (length s) then some (take n s, drop n s) else none
 
 -- one image and the others, which `rest` gives of the bytes after it
 abbrev pub and_then : (List ℕ → Option (List (List ℕ))) → Option (List ℕ × List ℕ) → Option (List (List ℕ))

@@ -1,6 +1,6 @@
 -- Document 02, T-02, scan runner: the line after a scan, all lines, the refusals, and the job.
 use Rattle.std.specs.Prelude.{ℕ, zero, suc, Bool, false, ◌||◌, List, [], ◌∷◌, ◌++◌, leb, length, get_or, drop}
-use Rattle.model.specs.Choice.{if◌then◌else◌}
+use Rattle.model.specs.Choice.{when◌then◌else◌}
 use Rattle.model.specs.Limits.{most_image, last_point}
 use Rattle.model.specs.Refusals.{too_long}
 use Rattle.model.specs.Trees.{Tree}
@@ -17,7 +17,7 @@ use Rattle.requests.specs.Scanning.{State, at_start, scan}
 unfoldable pub ascending : ℕ → ℕ → List ℕ → List ℕ
 unfolding is_among
 ascending zero x d = []
-ascending (suc c) x d = if is_among x d then x ∷ ascending c (suc x) d else ascending c (suc x) d
+ascending (suc c) x d = when is_among x d then x ∷ ascending c (suc x) d else ascending c (suc x) d
 
 unfoldable pub shown : List ℕ → List ℕ → List ℕ → List ℕ
 unfolding digits
@@ -73,12 +73,12 @@ any_driven d (c ∷ l) = changes_driven d c || any_driven d l
 
 unfoldable pub recorded : Tree → Read (List (List Change)) → ScanEnding
 unfolding any_driven driven text_of
-recorded t (got r s) = if any_driven (driven t) r then stopped driven_change else printed (text_of t r)
+recorded t (got r s) = when any_driven (driven t) r then stopped driven_change else printed (text_of t r)
 recorded t (fault c) = stopped bad_recording
 
 unfoldable pub with_recording : List ℕ → Tree → ScanEnding
 unfolding recorded read_recording most_image
-with_recording recording t = if leb (length recording) most_image then recorded t (read_recording recording) else stopped bad_recording
+with_recording recording t = when leb (length recording) most_image then recorded t (read_recording recording) else stopped bad_recording
 
 unfoldable pub then_scanned : Tree → List ℕ → PanelEnding → ScanEnding
 unfolding with_recording
@@ -97,7 +97,7 @@ scan_of image recording = scan_of_image recording (read_image read_tree_image im
 -- and last 20; the text is no image, so 65,536 is no limit here
 unfoldable pub scan_room : ℕ → ScanEnding → ScanEnding
 scan_room room (stopped r) = stopped r
-scan_room room (printed b) = if leb (length b) room then printed b else stopped (panel (base too_long))
+scan_room room (printed b) = when leb (length b) room then printed b else stopped (panel (base too_long))
 
 unfoldable pub scan_answer : ScanEnding → Answer
 scan_answer (stopped r) = record { code = scan_code r; units = 0; name = 0; len = 0; first = 0; second = 0 }

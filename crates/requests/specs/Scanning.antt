@@ -1,7 +1,7 @@
 -- Document 02, T-02, scan runner: the state, which is each point's value and each bit's; what contacts come to, what coils write, and one
 -- scan over the rungs.
 use Rattle.std.specs.Prelude.{ℕ, zero, suc, ◌+◌, List, [], ◌∷◌, ◌++◌, eqb, length, get_or, set, replicate}
-use Rattle.model.specs.Choice.{if◌then◌else◌}
+use Rattle.model.specs.Choice.{when◌then◌else◌}
 use Rattle.model.specs.Limits.{last_point}
 use Rattle.model.specs.Objects.{Atom, symbol, number, point, prim, rung}
 use Rattle.model.specs.Trees.{Tree, var, app, fun, datum, lst, stx, Trees, tnil, tcons}
@@ -75,7 +75,7 @@ pub record Bit : Type 0 where
 
 unfoldable pub address_in : List Bit → ℕ → ℕ
 address_in [] n = 0
-address_in (b ∷ around) n = if eqb n b.name then b.address else address_in around n
+address_in (b ∷ around) n = when eqb n b.name then b.address else address_in around n
 
 -- ---- contacts: the value of an expression, 0 or 1. `and` is contacts in series, `or` in parallel, `not` a contact that is closed at rest.
 

@@ -1,6 +1,6 @@
 -- Document 02, T-05: the two jobs, text to image and image to text; and last 20, where what is made is longer than the output or 65,536 bytes.
 use Rattle.std.specs.Prelude.{ℕ, ◌&&◌, List, ◌++◌, leb, length, drop}
-use Rattle.model.specs.Choice.{if◌then◌else◌}
+use Rattle.model.specs.Choice.{when◌then◌else◌}
 use Rattle.model.specs.Limits.{most_image}
 use Rattle.model.specs.Refusals.{too_long}
 use Rattle.model.specs.Objects.{Stx}
@@ -16,7 +16,7 @@ TextEnding = Made (List ℕ)
 -- b, for an output of `room` bytes
 unfoldable pub fitted : ℕ → List ℕ → TextEnding
 unfolding most_image
-fitted room b = if leb (length b) room && leb (length b) most_image then made b else refused (base too_long)
+fitted room b = when leb (length b) room && leb (length b) most_image then made b else refused (base too_long)
 
 -- ---- text to image
 

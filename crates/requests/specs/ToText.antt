@@ -1,6 +1,6 @@
 -- Document 02, T-05: from a syntax image to text with single spaces and no comments.
 use Rattle.std.specs.Prelude.{ℕ, List, [], ◌∷◌, ◌++◌, ltb, get_or}
-use Rattle.model.specs.Choice.{if◌then◌else◌}
+use Rattle.model.specs.Choice.{when◌then◌else◌}
 use Rattle.model.specs.Objects.{Atom, symbol, Stx, atom, list, Stxs, nil, cons}
 use Rattle.model.specs.Objects as o
 use Rattle.model.specs.Reading.{core_words, Image}
@@ -32,7 +32,7 @@ unfoldable mutual
 
 unfoldable pub rung_text : ℕ → List ℕ
 unfolding rung_words digits
-rung_text n = if ltb n 6 then get_or rung_words n [] else digits 10 n []
+rung_text n = when ltb n 6 then get_or rung_words n [] else digits 10 n []
 
 unfoldable pub leaf_text : Leaf → List ℕ
 unfolding digits rung_text

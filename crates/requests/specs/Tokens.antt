@@ -1,6 +1,6 @@
 -- Document 02, T-05: what a text is cut into, and what each token is.
 use Rattle.std.specs.Prelude.{ℕ, suc, ◌+◌, ◌-◌, ◌*◌, Bool, true, false, not, ◌&&◌, ◌||◌, List, [], ◌∷◌, ◌++◌, eqb, leb}
-use Rattle.model.specs.Choice.{if◌then◌else◌}
+use Rattle.model.specs.Choice.{when◌then◌else◌}
 use Rattle.model.specs.Reading.{good_word, same_bytes, among}
 
 -- ---- pieces: parted by spaces, tabs or line ends; parentheses and comments end one too
@@ -28,18 +28,18 @@ unfoldable mutual
   pub cut : List ℕ → List ℕ → List (List ℕ)
   cut w [] = ended w []
   cut w (b ∷ s) =
-      if space b
+      when space b
       then ended w (cut [] s)
-      else if paren b
+      else when paren b
       then ended w ((b ∷ []) ∷ cut [] s)
-      else if eqb b 59
+      else when eqb b 59
       then ended w (comment s)
       else cut (w ++ (b ∷ [])) s
 
   -- to the end of the line
   pub comment : List ℕ → List (List ℕ)
   comment [] = []
-  comment (b ∷ s) = if line_end b then cut [] s else comment s
+  comment (b ∷ s) = when line_end b then cut [] s else comment s
 
 -- ---- decimal numbers without leading zeros
 
@@ -83,19 +83,19 @@ rung_words =
 unfoldable pub place : List ℕ → List (List ℕ) → ℕ
 unfolding same_bytes
 place w [] = 0
-place w (v ∷ l) = if same_bytes w v then 0 else suc (place w l)
+place w (v ∷ l) = when same_bytes w v then 0 else suc (place w l)
 
 unfoldable pub numbered : (ℕ → Leaf) → List ℕ → Token
 unfolding numeral value
-numbered k w = if numeral w then one (k (value 0 w)) else bad
+numbered k w = when numeral w then one (k (value 0 w)) else bad
 
 -- the named rung words, and the free ones 6 to 15
 unfoldable pub rung_token : List ℕ → Token
 unfolding among rung_words place numeral value
 rung_token w =
-    if among w rung_words
+    when among w rung_words
     then one (rung (place w rung_words))
-    else if numeral w && leb 6 (value 0 w) && leb (value 0 w) 15
+    else when numeral w && leb 6 (value 0 w) && leb (value 0 w) 15
     then one (rung (value 0 w))
     else bad
 
@@ -104,19 +104,19 @@ unfoldable pub token_of : List ℕ → Token
 unfolding numbered rung_token digit good_word
 token_of [] = bad
 token_of (b ∷ w) =
-    if eqb b 40
+    when eqb b 40
     then opening
-    else if eqb b 41
+    else when eqb b 41
     then closing
-    else if eqb b 64
+    else when eqb b 64
     then numbered point w
-    else if eqb b 35
+    else when eqb b 35
     then numbered prim w
-    else if eqb b 39
+    else when eqb b 39
     then rung_token w
-    else if digit b
+    else when digit b
     then numbered number (b ∷ w)
-    else if good_word (b ∷ w)
+    else when good_word (b ∷ w)
     then one (word (b ∷ w))
     else bad
 

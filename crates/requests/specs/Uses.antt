@@ -1,6 +1,6 @@
 -- Document 02, T-10, where is this bit used: the things of a tree, the summary that is kept beside it, and a question to a summary.
 use Rattle.std.specs.Prelude.{ℕ, zero, suc, ◌+◌, ◌*◌, Bool, false, ◌&&◌, List, [], ◌∷◌, ◌++◌, eqb, ltb, leb, length, drop, get_or}
-use Rattle.model.specs.Choice.{if◌then◌else◌}
+use Rattle.model.specs.Choice.{when◌then◌else◌}
 use Rattle.model.specs.Refusals.{Refusal, too_long, code_of}
 use Rattle.model.specs.Objects.{Name}
 use Rattle.model.specs.Trees.{Tree, var, app, fun, datum, lst, stx, Trees, tnil, tcons, tsize}
@@ -35,12 +35,12 @@ is_use n other = false
 unfoldable pub uses : Name → List Thing → ℕ
 unfolding is_use
 uses n [] = 0
-uses n (x ∷ l) = if is_use n x then suc (uses n l) else uses n l
+uses n (x ∷ l) = when is_use n x then suc (uses n l) else uses n l
 
 unfoldable pub first_use : Name → List Thing → ℕ
 unfolding is_use uses
 first_use n [] = 0
-first_use n (x ∷ l) = if is_use n x then 0 else if eqb (uses n l) 0 then 0 else suc (first_use n l)
+first_use n (x ∷ l) = when is_use n x then 0 else when eqb (uses n l) 0 then 0 else suc (first_use n l)
 
 -- ---- the summary: the tree's size, the count of names, and for each name from 0 its entry
 
@@ -88,7 +88,7 @@ pub data SummaryEnding : Type 0 where
 unfoldable pub summary_in : ℕ → Read (Image Tree) → SummaryEnding
 unfolding summary_of
 summary_in room (fault r) = refused (base r)
-summary_in room (got i s) = if leb (2 + 2 * i.head.names) room then made (summary_of i.head.names i.root) else refused (base too_long)
+summary_in room (got i s) = when leb (2 + 2 * i.head.names) room then made (summary_of i.head.names i.root) else refused (base too_long)
 
 unfoldable pub summary_answer : SummaryEnding → Answer
 unfolding refused_answer
@@ -129,8 +129,8 @@ unfoldable pub uses_in : List ℕ → Name → Read (Image Tree) → UsesEnding
 unfolding belongs entry_in
 uses_in w n (fault r) = refused (base r)
 uses_in w n (got i s) =
-    if belongs w i then
-    if ltb n i.head.names then told (entry_in w n)
+    when belongs w i then
+    when ltb n i.head.names then told (entry_in w n)
     else refused no_name
     else refused other_tree
 

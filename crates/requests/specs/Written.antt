@@ -1,6 +1,6 @@
 -- Document 02, T-02, scan runner: what the scans write where, for laws: the addresses that `set` writes, and what was recorded last for a point.
 use Rattle.std.specs.Prelude.{ℕ, suc, ◌+◌, List, [], ◌∷◌, ◌++◌, eqb, length}
-use Rattle.model.specs.Choice.{if◌then◌else◌}
+use Rattle.model.specs.Choice.{when◌then◌else◌}
 use Rattle.model.specs.Trees.{Tree, var, app, fun, datum, lst, stx, Trees, tnil, tcons}
 use Rattle.requests.specs.Panel as p
 use Rattle.requests.specs.Panel.{Word, bit, and, or, out, all, free, head_word, bits_of}
@@ -60,7 +60,7 @@ unfoldable mutual
 -- what was recorded last for point x, or v
 unfoldable pub recorded_in : ℕ → List Change → ℕ → ℕ
 recorded_in x [] v = v
-recorded_in x (c ∷ l) v = recorded_in x l (if eqb x c.place then c.value else v)
+recorded_in x (c ∷ l) v = recorded_in x l (when eqb x c.place then c.value else v)
 
 unfoldable pub recorded_last : ℕ → List (List Change) → ℕ → ℕ
 unfolding recorded_in

@@ -11,7 +11,7 @@ use mir.Val.{Fits}
 use lib.Dec.{eqb, ltb}
 use lib.ListN.{length, get_or, length-append}
 use borrow.Author.Tests.{ltb-true, ltb-false, eq-eqb, ne_eqb}
-use Rattle.model.specs.Choice.{if◌then◌else◌}
+use Rattle.model.specs.Choice.{when◌then◌else◌}
 use Rattle.model.specs.Jobs.{digits}
 use Rattle.text.proofs.Decimal.{one-digit, more-digits}
 use Rattle.bits.specs.Meeting.{points}
@@ -85,11 +85,11 @@ mark_one {mark} x m e = rw (ne_eqb mark 0 m) (ap (λ (z : ℕ). 4 + z) e)
 
 pub ruleset mark_laws = (mark_none, mark_one)
 
-first-long : (mark x : ℕ) (l : List ℕ) → places_length (if eqb mark 0 then l else x ∷ l) ≡ mark_length mark x + places_length l
+first-long : (mark x : ℕ) (l : List ℕ) → places_length (when eqb mark 0 then l else x ∷ l) ≡ mark_length mark x + places_length l
 unfolding mark_length places_length
 first-long mark x l = by (eqb mark 0)
   where
-    by : (t : Bool) → places_length (if t then l else x ∷ l) ≡ (if t then 0 else 4 + number_length x) + places_length l
+    by : (t : Bool) → places_length (when t then l else x ∷ l) ≡ (when t then 0 else 4 + number_length x) + places_length l
     by true = omega arith
     by false = refl
 
@@ -115,7 +115,7 @@ places_few zero x marks h = omega arith
 places_few (suc c) x marks h = by (eqb (get_or marks x 0) 0) (places_few c (suc x) marks (omega arith)) (four_at_most x (omega arith))
   where
     by : (t : Bool) → places_length (marked c (suc x) marks) ≤ 8 * c → number_length x ≤ 4
-        → places_length (if t then marked c (suc x) marks else x ∷ marked c (suc x) marks) ≤ 8 * suc c
+        → places_length (when t then marked c (suc x) marks else x ∷ marked c (suc x) marks) ≤ 8 * suc c
     by true q f = omega arith
     by false q f = omega arith
 

@@ -11,7 +11,7 @@ use lib.Seq.{take-suc-set}
 use borrow.Author.Tests.{eq-eqb, ne_eqb}
 use mir.Syntax.{w16}
 use mir.Val.{Fits}
-use Rattle.model.specs.Choice.{if◌then◌else◌}
+use Rattle.model.specs.Choice.{when◌then◌else◌}
 use Rattle.bits.specs.Meeting.{points}
 use Rattle.scan_lines.specs.Lines.{marked, marked_places, Listed, Lists, Points}
 
@@ -19,7 +19,7 @@ one_fewer : (i : ℕ) → i < points → points - i ≡ suc (points - suc i)
 one_fewer i h = omega arith
 
 pub marked-first : (marks : List ℕ) (i : ℕ) → i < points
-    → marked (points - i) i marks ≡ (if eqb (get_or marks i 0) 0 then marked (points - suc i) (suc i) marks else i ∷ marked (points - suc i) (suc i) marks)
+    → marked (points - i) i marks ≡ (when eqb (get_or marks i 0) 0 then marked (points - suc i) (suc i) marks else i ∷ marked (points - suc i) (suc i) marks)
 unfolding marked
 marked-first marks i h = ap (λ (c : ℕ). marked c i marks) (one_fewer i h)
 
@@ -72,8 +72,8 @@ module _ {marks places₀ places : List ℕ} {n i : ℕ} (w : Listing marks plac
       rest : List ℕ
       rest = marked (points - suc i) (suc i) marks
 
-      by : (t : Bool) → take r places' ≡ (if t then take n places else take n places ++ (i ∷ []))
-          → take n places ++ marked (points - i) i marks ≡ take n places ++ (if t then rest else i ∷ rest)
+      by : (t : Bool) → take r places' ≡ (when t then take n places else take n places ++ (i ∷ []))
+          → take n places ++ marked (points - i) i marks ≡ take n places ++ (when t then rest else i ∷ rest)
           → take r places' ++ rest ≡ take n places ++ marked (points - i) i marks
       by true e q = ap (λ (l : List ℕ). l ++ rest) e ∙ sym q
       by false e q = ap (λ (l : List ℕ). l ++ rest) e ∙ append_assoc (take n places) (i ∷ []) rest ∙ sym q
@@ -98,7 +98,7 @@ marked-below marks zero x h i = none i
 marked-below marks (suc c) x h i = by (eqb (get_or marks x 0) 0) i (marked-below marks c (suc x) (omega arith))
   where
     by : (t : Bool) (i : ℕ) → ((j : ℕ) → get_or (marked c (suc x) marks) j 0 < points)
-        → get_or (if t then marked c (suc x) marks else x ∷ marked c (suc x) marks) i 0 < points
+        → get_or (when t then marked c (suc x) marks else x ∷ marked c (suc x) marks) i 0 < points
     by true i q = q i
     by false zero q = omega arith
     by false (suc j) q = q j

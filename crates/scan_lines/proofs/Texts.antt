@@ -6,7 +6,7 @@ use mathlib.Core.List.{List, [], ◌∷◌}
 use native.Mathlib.Omega.{arith}
 use lib.Dec.{eqb}
 use lib.ListN.{length, get_or, take, length-append}
-use Rattle.model.specs.Choice.{if◌then◌else◌}
+use Rattle.model.specs.Choice.{when◌then◌else◌}
 use Rattle.model.specs.Limits.{last_point}
 use Rattle.model.specs.Objects.{point}
 use Rattle.model.specs.Trees.{Tree, datum}
@@ -30,8 +30,8 @@ module _ {d marks : List ℕ} (m : Marks d marks) where
   marked-are zero x h = refl
   marked-are (suc c) x h = go (is_among x d) (m.has x (omega arith)) (marked-are c (suc x) (omega arith))
     where
-      go : (t : Bool) → get_or marks x 0 ≡ (if t then 1 else 0) → marked c (suc x) marks ≡ ascending c (suc x) d
-          → (if eqb (get_or marks x 0) 0 then marked c (suc x) marks else x ∷ marked c (suc x) marks) ≡ (if t then x ∷ ascending c (suc x) d else ascending c (suc x) d)
+      go : (t : Bool) → get_or marks x 0 ≡ (when t then 1 else 0) → marked c (suc x) marks ≡ ascending c (suc x) d
+          → (when eqb (get_or marks x 0) 0 then marked c (suc x) marks else x ∷ marked c (suc x) marks) ≡ (when t then x ∷ ascending c (suc x) d else ascending c (suc x) d)
       go true e q = rw (e, q)
       go false e q = rw (e, q)
 

@@ -1,6 +1,6 @@
 -- How long the lines are where each value is one digit.
 use Rattle.std.specs.Prelude.{ℕ, zero, suc, ◌+◌, List, [], ◌∷◌, eqb, length}
-use Rattle.model.specs.Choice.{if◌then◌else◌}
+use Rattle.model.specs.Choice.{when◌then◌else◌}
 use Rattle.model.specs.Jobs.{digits}
 use Rattle.scan_lines.specs.Lines.{marked_places}
 
@@ -25,7 +25,7 @@ places_length (x ∷ l) = 4 + number_length x + places_length l
 -- one point, where it has a mark
 unfoldable pub mark_length : ℕ → ℕ → ℕ
 unfolding number_length
-mark_length mark x = if eqb mark 0 then 0 else 4 + number_length x
+mark_length mark x = when eqb mark 0 then 0 else 4 + number_length x
 
 -- and the line end
 unfoldable pub fixed_length : List ℕ → ℕ

@@ -1,6 +1,6 @@
 -- The line after a scan, of what the code holds: a mark for each point that is driven, the list of these points, and each point's value.
 use Rattle.std.specs.Prelude.{ℕ, zero, suc, ◌+◌, ◌≤◌, ◌<◌, ◌≡◌, List, [], ◌∷◌, ◌++◌, eqb, length, get_or, take}
-use Rattle.model.specs.Choice.{if◌then◌else◌}
+use Rattle.model.specs.Choice.{when◌then◌else◌}
 use Rattle.model.specs.Meanings.{is_among}
 use Rattle.model.specs.Jobs.{digits}
 use Rattle.requests.specs.Scanning.{State}
@@ -9,12 +9,12 @@ use Rattle.bits.specs.Meeting.{points}
 
 -- these marks stand for these points
 pub record Marks (d marks : List ℕ) : Type 0 where
-  pub has : (x : ℕ) → x < points → get_or marks x 0 ≡ (if is_among x d then 1 else 0)
+  pub has : (x : ℕ) → x < points → get_or marks x 0 ≡ (when is_among x d then 1 else 0)
 
 -- those of the c points from x on that have a mark
 unfoldable pub marked : ℕ → ℕ → List ℕ → List ℕ
 marked zero x marks = []
-marked (suc c) x marks = if eqb (get_or marks x 0) 0 then marked c (suc x) marks else x ∷ marked c (suc x) marks
+marked (suc c) x marks = when eqb (get_or marks x 0) 0 then marked c (suc x) marks else x ∷ marked c (suc x) marks
 
 unfoldable pub marked_places : List ℕ → List ℕ
 unfolding marked
@@ -24,7 +24,7 @@ marked_places marks = marked points 0 marks
 pub record Listed (mark x : ℕ) (was now : List ℕ) (n r : ℕ) : Type 0 where
   pub same : length now ≡ length was
   pub few : r ≤ n + 1
-  pub is : take r now ≡ (if eqb mark 0 then take n was else take n was ++ (x ∷ []))
+  pub is : take r now ≡ (when eqb mark 0 then take n was else take n was ++ (x ∷ []))
 
 -- the first r places are those with a mark
 pub record Lists (marks places : List ℕ) (r : ℕ) : Type 0 where

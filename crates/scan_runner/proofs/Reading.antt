@@ -6,7 +6,7 @@ use mathlib.Core.Bool.{Bool, true, false}
 use mathlib.Core.List.{List, [], ◌∷◌}
 use lib.Dec.{leb}
 use lib.ListN.{length, drop, length-drop}
-use Rattle.model.specs.Choice.{if◌then◌else◌}
+use Rattle.model.specs.Choice.{when◌then◌else◌}
 use Rattle.model.specs.Reading.{Read, got, fault, num}
 use Rattle.codec_laws.proofs.NumberTrip.{got-value, got-rest, fault≢got}
 use Rattle.codec_laws.proofs.Sequence.{next-got}
@@ -100,7 +100,7 @@ first-behind marks s n c = go (leb (length s) most_image)
     scans : (m : ℕ) (a : Cursor) (g : Read (List (List Change))) → judged_all marks m a g ≡ Kept n c → a ≡ c
     scans m a (got r rest) d = by (any_marked marks r) d
       where
-        by : (b : Bool) → (if b then Driven else Kept m a) ≡ Kept n c → a ≡ c
+        by : (b : Bool) → (when b then Driven else Kept m a) ≡ Kept n c → a ≡ c
         by true e = absurd (let z : ◌≡◌ {A = ℕ} 0 1 = cc in omega arith)
         by false e = cc
     scans m a (fault f) e = absurd (let z : ◌≡◌ {A = ℕ} 0 1 = cc in omega arith)
@@ -109,7 +109,7 @@ first-behind marks s n c = go (leb (length s) most_image)
     count (got m rest) (shrinks_got k) e = let z = ap (λ (a : Cursor). a.at) (scans m (record { at = length s - length rest }) (read_to_end m rest) e) in omega arith
     count (fault f) k e = absurd (let z : ◌≡◌ {A = ℕ} 0 1 = cc in omega arith)
 
-    go : (b : Bool) → (if b then judged_count marks (length s) (num s) else Broken) ≡ Kept n c → 0 < c.at
+    go : (b : Bool) → (when b then judged_count marks (length s) (num s) else Broken) ≡ Kept n c → 0 < c.at
     go true e = count (num s) (num_shrinks s) e
     go false e = absurd (let z : ◌≡◌ {A = ℕ} 0 1 = cc in omega arith)
 

@@ -1,7 +1,7 @@
 -- Fresh names and scopes, binders, and the marks of a macro's use.
 use Rattle.std.specs.Prelude.{◌≡◌, List, Bool, true, false, ℕ, ◌+◌, ◌≤◌, ◌<◌, length, leb}
 use Rattle.store.specs.Sizes.{most_bindings}
-use Rattle.model.specs.Choice.{if◌then◌else◌}
+use Rattle.model.specs.Choice.{when◌then◌else◌}
 use Rattle.model.specs.Scopes.{add}
 use Rattle.model.specs.Objects.{Sets, set_at, change_at, symbol, Stx, atom, add_scope, flip_scope}
 use Rattle.model.specs.Trees.{stx}
@@ -141,7 +141,7 @@ pub record BindsFresh (ph : ℕ) (st st' l l' : List ℕ) (s : State) (i : ℕ) 
 
 unfoldable pub fresh_scope_of : State → Charged
 fresh_scope_of s =
-    if leb set_scopes s.scopes
+    when leb set_scopes s.scopes
     then charged.Refused (stop_of NoScopeLeft s)
     else charged.Paid (record { top = s.top; left = s.left; names = s.names; scopes = s.scopes + 1; bindings = s.bindings })
 

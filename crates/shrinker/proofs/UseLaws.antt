@@ -7,7 +7,7 @@ use native.Mathlib.Omega.{arith}
 use lib.Dec.{eqb}
 use lib.Bits.{bit_or}
 use lib.ListN.{length, drop, length-drop}
-use Rattle.model.specs.Choice.{if◌then◌else◌}
+use Rattle.model.specs.Choice.{when◌then◌else◌}
 use Rattle.model.specs.Limits.{most_nesting, most_scopes, most_names}
 use Rattle.model.specs.Scopes.{Scopes}
 use Rattle.model.specs.Objects.{Stx}
@@ -154,7 +154,7 @@ module _ {image store : List ℕ} {j : Judgement} {lasts befores marks : List �
     unfolding kept_from binds_from kept
     kept_from_lem i zero e = refl
     kept_from_lem i (suc c) e =
-        (λ z. if mark_is i (omega arith) z then bind_at store i ∷ kept_from_lem (suc i) c (omega arith) z else kept_from_lem (suc i) c (omega arith) z)
+        (λ z. when mark_is i (omega arith) z then bind_at store i ∷ kept_from_lem (suc i) c (omega arith) z else kept_from_lem (suc i) c (omega arith) z)
 
     kept-are : kept_of marks' store ≡ kept_in image
     unfolding binds_of

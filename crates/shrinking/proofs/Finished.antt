@@ -5,7 +5,7 @@ use mathlib.Core.Bool.{Bool, true, false, ◌&&◌}
 use mathlib.Core.List.{List}
 use lib.Dec.{leb}
 use lib.ListN.{length}
-use Rattle.model.specs.Choice.{if◌then◌else◌}
+use Rattle.model.specs.Choice.{when◌then◌else◌}
 use Rattle.model.specs.Limits.{most_image}
 use Rattle.model.specs.Refusals.{too_long}
 use Rattle.model.specs.Objects.{Stx}
@@ -47,7 +47,7 @@ pub shrink_answers : (image : List ℕ) (room : ℕ) → ShrinkEnds image (shrin
 unfolding shrink_ending with_image fitted
 shrink_answers image room = go (read_image read_syntax image) refl (image-reads image)
   where
-    sized : (b : List ℕ) → smaller image ≡ b → (t : Bool) → ShrinkEnds image (if t then written b 0 else refused too_long no_rivals 0)
+    sized : (b : List ℕ) → smaller image ≡ b → (t : Bool) → ShrinkEnds image (when t then written b 0 else refused too_long no_rivals 0)
     sized b e true = subst (λ (z : List ℕ). ShrinkEnds image (written z 0)) e with_smaller
     sized b e false = with_20
 

@@ -10,7 +10,7 @@ use lib.Dec.{eqb}
 use lib.ListN.{length}
 use lib.Bits.{bit_or, or_lt}
 use lib.Pow.{pow_pos}
-use Rattle.model.specs.Choice.{if◌then◌else◌}
+use Rattle.model.specs.Choice.{when◌then◌else◌}
 use Rattle.model.specs.Scopes.{Scopes, within}
 use Rattle.model.specs.Objects.{symbol, number, point, prim, rung, Sets, set_at, Stx, atom, list, Stxs, nil, cons}
 use Rattle.model.specs.Resolving.{Bind, bind_before, candidate, candidates, choose, resolve}
@@ -31,7 +31,7 @@ unfolding kept
 kept_in_lem x [] b i = i
 kept_in_lem x (c ∷ l) b i = go (used_in c x) (kept_in_lem x l b) i
   where
-    go : (t : Bool) → (In b (kept x l) → In b l) → In b (if t then c ∷ kept x l else kept x l) → In b (c ∷ l)
+    go : (t : Bool) → (In b (kept x l) → In b l) → In b (when t then c ∷ kept x l else kept x l) → In b (c ∷ l)
     go true f (inl p) = inl p
     go true f (inr j) = inr (f j)
     go false f j = inr (f j)
@@ -41,7 +41,7 @@ unfolding kept
 kept-used x [] b i = absurd i
 kept-used x (c ∷ l) b i = go (used_in c x) refl (kept-used x l b) i
   where
-    go : (t : Bool) → used_in c x ≡ t → (In b (kept x l) → used_in b x ≡ true) → In b (if t then c ∷ kept x l else kept x l) → used_in b x ≡ true
+    go : (t : Bool) → used_in c x ≡ t → (In b (kept x l) → used_in b x ≡ true) → In b (when t then c ∷ kept x l else kept x l) → used_in b x ≡ true
     go true e f (inl p) = ap (λ (z : Bind). used_in z x) p ∙ e
     go true e f (inr j) = f j
     go false e f j = f j
@@ -57,7 +57,7 @@ unfolding kept
 kept-length x [] = le_refl 0
 kept-length x (c ∷ l) = go (used_in c x) (kept-length x l)
   where
-    go : (t : Bool) → length (kept x l) ≤ length l → length (if t then c ∷ kept x l else kept x l) ≤ suc (length l)
+    go : (t : Bool) → length (kept x l) ≤ length l → length (when t then c ∷ kept x l else kept x l) ≤ suc (length l)
     go true h = omega arith
     go false h = omega arith
 
@@ -66,7 +66,7 @@ unfolding kept
 kept-fit k m n x [] f = tt
 kept-fit k m n x (c ∷ l) f = go (used_in c x) (kept-fit k m n x l f.1)
   where
-    go : (t : Bool) → BindsFit k m n (kept x l) → BindsFit k m n (if t then c ∷ kept x l else kept x l)
+    go : (t : Bool) → BindsFit k m n (kept x l) → BindsFit k m n (when t then c ∷ kept x l else kept x l)
     go true h = (f.0, h)
     go false h = h
 
@@ -79,7 +79,7 @@ unfolding kept
 kept-ascending x b [] a = tt
 kept-ascending x b (c ∷ l) a = go (used_in c x) (kept-ascending x c l a.1)
   where
-    go : (t : Bool) → Ascending c (kept x l) → Ascending b (if t then c ∷ kept x l else kept x l)
+    go : (t : Bool) → Ascending c (kept x l) → Ascending b (when t then c ∷ kept x l else kept x l)
     go true h = (a.0, h)
     go false h = skip b c (kept x l) a.0 h
 
@@ -92,7 +92,7 @@ kept_sorted x (c ∷ l) a = go (used_in c x) (kept-ascending x c l a)
     loose [] h = tt
     loose (d ∷ r) h = h.1
 
-    go : (t : Bool) → Ascending c (kept x l) → Sorted (if t then c ∷ kept x l else kept x l)
+    go : (t : Bool) → Ascending c (kept x l) → Sorted (when t then c ∷ kept x l else kept x l)
     go true h = h
     go false h = loose (kept x l) h
 
@@ -105,11 +105,11 @@ candidates-kept y x s [] h = refl
 candidates-kept y x s (b ∷ l) h = go (used_in b y) refl (candidates-kept y x s l h)
   where
     go : (t : Bool) → used_in b y ≡ t → candidates x s (kept y l) ≡ candidates x s l
-        → candidates x s (if t then b ∷ kept y l else kept y l) ≡ (if candidate x s b then b ∷ candidates x s l else candidates x s l)
-    go true e r = ap (λ (z : List Bind). if candidate x s b then b ∷ z else z) r
+        → candidates x s (when t then b ∷ kept y l else kept y l) ≡ (when candidate x s b then b ∷ candidates x s l else candidates x s l)
+    go true e r = ap (λ (z : List Bind). when candidate x s b then b ∷ z else z) r
     go false e r = test (candidate x s b) refl
       where
-        test : (c : Bool) → candidate x s b ≡ c → candidates x s (kept y l) ≡ (if c then b ∷ candidates x s l else candidates x s l)
+        test : (c : Bool) → candidate x s b ≡ c → candidates x s (kept y l) ≡ (when c then b ∷ candidates x s l else candidates x s l)
         test true q = absurd (true≢false (sym (h b q) ∙ e))
         test false q = r
 

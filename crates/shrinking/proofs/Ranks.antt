@@ -8,7 +8,7 @@ use mathlib.Core.Bool.{Bool, true, false, ◌||◌, true≢false, false≢true}
 use mathlib.Core.List.{List, [], ◌∷◌}
 use lib.Dec.{eqb, ltb, leb}
 use lib.ListN.{length}
-use Rattle.model.specs.Choice.{if◌then◌else◌}
+use Rattle.model.specs.Choice.{when◌then◌else◌}
 use Rattle.model.specs.Scopes.{Scopes, has, members, less_then, list_before}
 use borrow.Author.Tests.{eq-eqb, eqb-true, le-leb, le-ltb, leb-false, leb-true, lt-leb, lt-ltb, ltb-false, ltb-true, ne_eqb}
 use Rattle.laws.proofs.Members.{member, Small, member_has}
@@ -28,7 +28,7 @@ rank-more : (j : ℕ) (l : List ℕ) (k : ℕ) → rank_in l k ≤ rank_in (j �
 unfolding rank_in
 rank-more j l k = go (leb j k)
   where
-    go : (t : Bool) → rank_in l k ≤ (if t then suc (rank_in l k) else rank_in l k)
+    go : (t : Bool) → rank_in l k ≤ (when t then suc (rank_in l k) else rank_in l k)
     go true = omega arith
     go false = le_refl (rank_in l k)
 
@@ -38,7 +38,7 @@ rank_mono [] j k h = le_refl 0
 rank_mono (i ∷ l) j k h = go (leb i j) refl (rank_mono l j k h)
   where
     go : (t : Bool) → leb i j ≡ t → rank_in l j ≤ rank_in l k
-        → (if t then suc (rank_in l j) else rank_in l j) ≤ (if leb i k then suc (rank_in l k) else rank_in l k)
+        → (when t then suc (rank_in l j) else rank_in l j) ≤ (when leb i k then suc (rank_in l k) else rank_in l k)
     go true e r =
         let low : i ≤ j = leb-true i j e in
         omega (arith, rank-yes i l k (le_trans low h))
@@ -84,7 +84,7 @@ unfolding rank_in
 rank_most [] k = le_refl 0
 rank_most (i ∷ l) k = go (leb i k) (rank_most l k)
   where
-    go : (t : Bool) → rank_in l k ≤ length l → (if t then suc (rank_in l k) else rank_in l k) ≤ suc (length l)
+    go : (t : Bool) → rank_in l k ≤ length l → (when t then suc (rank_in l k) else rank_in l k) ≤ suc (length l)
     go true r = omega arith
     go false r = omega arith
 

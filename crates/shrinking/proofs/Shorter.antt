@@ -8,7 +8,7 @@ use mathlib.Core.Bool.{Bool, true, false}
 use mathlib.Core.List.{List, [], ◌∷◌, ◌++◌}
 use lib.Dec.{ltb, leb}
 use lib.ListN.{length, length-append}
-use Rattle.model.specs.Choice.{if◌then◌else◌}
+use Rattle.model.specs.Choice.{when◌then◌else◌}
 use Rattle.model.specs.Limits.{most_image, core_names}
 use Rattle.model.specs.Scopes.{Scopes, members}
 use Rattle.model.specs.Objects.{Sets, Stx, atom, list, Stxs, nil, cons, tag_of, content_of, count, on_sets, on_sets_all}
@@ -52,8 +52,8 @@ groups_mono zero a b h = le_refl 1
 groups_mono (suc k) a b h = go (ltb a 128) refl (ltb b 128) refl (groups_mono k (a / 128) (b / 128) (omega arith))
   where
     go : (s : Bool) → ltb a 128 ≡ s → (t : Bool) → ltb b 128 ≡ t → length (groups_of k (a / 128)) ≤ length (groups_of k (b / 128))
-        → length (if s then a ∷ [] else (a % 128 + 128) ∷ groups_of k (a / 128))
-        ≤ length (if t then b ∷ [] else (b % 128 + 128) ∷ groups_of k (b / 128))
+        → length (when s then a ∷ [] else (a % 128 + 128) ∷ groups_of k (a / 128))
+        ≤ length (when t then b ∷ [] else (b % 128 + 128) ∷ groups_of k (b / 128))
     go true p true q r = le_refl 1
     go true p false q r = omega arith
     go false p true q r = absurd (no (ltb-false a 128 p) (ltb-true b 128 q))
@@ -73,7 +73,7 @@ unfolding rank_in
 rank-none p n [] a k h = refl
 rank-none p n (j ∷ l) a k h = go (leb j k) refl (rank-none j n l a.2 k (omega (arith, a.0)))
   where
-    go : (t : Bool) → leb j k ≡ t → rank_in l k ≡ 0 → (if t then suc (rank_in l k) else rank_in l k) ≡ 0
+    go : (t : Bool) → leb j k ≡ t → rank_in l k ≡ 0 → (when t then suc (rank_in l k) else rank_in l k) ≡ 0
     go true e r = absurd (no (leb-true j k e) a.0)
       where
         no : j ≤ k → p < j → ⊥
@@ -85,7 +85,7 @@ unfolding rank_in
 rank-within p n [] a k h = omega arith
 rank-within p n (j ∷ l) a k h = go (leb j k) refl (rank-within j n l a.2 k)
   where
-    go : (t : Bool) → leb j k ≡ t → (j ≤ k → j + rank_in l k ≤ k) → p + (if t then suc (rank_in l k) else rank_in l k) ≤ k
+    go : (t : Bool) → leb j k ≡ t → (j ≤ k → j + rank_in l k ≤ k) → p + (when t then suc (rank_in l k) else rank_in l k) ≤ k
     go true e r = omega (arith, r (leb-true j k e), a.0)
     go false e r = omega (arith, rank-none j n l a.2 k (low (leb-false j k e)))
       where
@@ -158,7 +158,7 @@ kept_shorter x [] = same []
 kept_shorter x (b ∷ l) = go (used_in b x) (kept_shorter x l)
   where
     go : (t : Bool) → Shorter (binds_bytes (kept x l)) (binds_bytes l)
-        → Shorter (binds_bytes (if t then b ∷ kept x l else kept x l)) (bind_bytes b ++ binds_bytes l)
+        → Shorter (binds_bytes (when t then b ∷ kept x l else kept x l)) (bind_bytes b ++ binds_bytes l)
     go true h = join (same (bind_bytes b)) h
     go false h = join {a = []} {c = bind_bytes b} (record { le = zero-le }) h
 

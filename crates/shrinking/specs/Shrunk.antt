@@ -2,7 +2,7 @@
 -- the smaller image is `Finished`.
 use Rattle.std.specs.Prelude.{ℕ, suc, Bool, false, ◌&&◌, ◌||◌, List, [], ◌∷◌, eqb, leb, length}
 use Rattle.std.specs.Int.Bits.{bit_or}
-use Rattle.model.specs.Choice.{if◌then◌else◌}
+use Rattle.model.specs.Choice.{when◌then◌else◌}
 use Rattle.model.specs.Scopes.{Scope, Scopes, no_scopes, within, members}
 use Rattle.model.specs.Objects.{symbol, number, point, prim, rung, Sets, Stx, atom, list, Stxs, nil, cons}
 use Rattle.model.specs.Resolving.{Bind}
@@ -35,7 +35,7 @@ unfoldable mutual
 unfoldable pub kept : Stx → List Bind → List Bind
 unfolding used_in
 kept x [] = []
-kept x (b ∷ l) = if used_in b x then b ∷ kept x l else kept x l
+kept x (b ∷ l) = when used_in b x then b ∷ kept x l else kept x l
 
 -- ---- scopes: dropped where they are in no remaining set, be it a kept binding's or an object's
 
@@ -65,7 +65,7 @@ remaining l x = bit_or (scopes_bound (kept x l)) (scopes_in x)
 
 unfoldable pub rank_in : List Scope → Scope → Scope
 rank_in [] k = 0
-rank_in (j ∷ l) k = if leb j k then suc (rank_in l k) else rank_in l k
+rank_in (j ∷ l) k = when leb j k then suc (rank_in l k) else rank_in l k
 
 unfoldable pub rank : Scopes → Scope → Scope
 unfolding rank_in members

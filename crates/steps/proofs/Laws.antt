@@ -7,7 +7,7 @@ use native.Mathlib.Omega.{arith}
 use borrow.Author.Tests.{ltb-true, ltb-false, ne_eqb, le-leb, lt-leb}
 use lib.ListN.{length}
 use lib.Dec.{ltb}
-use Rattle.model.specs.Choice.{if◌then◌else◌}
+use Rattle.model.specs.Choice.{when◌then◌else◌}
 use Rattle.model.specs.Refusals as r
 use Rattle.model.specs.Steps as m
 use Rattle.model.specs.Steps.{ok, no, after, Step, charge, unless}
@@ -26,7 +26,7 @@ use Rattle.table.specs.Sizes.{unit_size}
 
 -- ---- the code's charge
 
-pub on_test : {A : Type 0} (c : Bool) (x y : A) (P : A → Type 0) → (c ≡ true → P x) → (c ≡ false → P y) → P (if c then x else y)
+pub on_test : {A : Type 0} (c : Bool) (x y : A) (P : A → Type 0) → (c ≡ true → P x) → (c ≡ false → P y) → P (when c then x else y)
 on_test true x y P f g = f refl
 on_test false x y P f g = g refl
 

@@ -1,6 +1,6 @@
 -- The code's state as the rules' state, and what the code's charges do to it.
 use Rattle.std.specs.Prelude.{List, [], ℕ, ◌+◌, ◌-◌, ◌*◌, ◌≤◌, length, eqb, ltb}
-use Rattle.model.specs.Choice.{if◌then◌else◌}
+use Rattle.model.specs.Choice.{when◌then◌else◌}
 use Rattle.model.specs.Scopes.{Scopes, no_scopes}
 use Rattle.model.specs.Resolving.{Bind}
 use Rattle.model.specs.Steps as m
@@ -59,12 +59,12 @@ abbrev pub raised_to : ℕ → State → State
 raised_to n s = record { top = n; left = s.left; names = s.names; scopes = s.scopes; bindings = s.bindings }
 
 unfoldable pub charge_of : ℕ → State → Charged
-charge_of n s = if ltb s.left n then Refused (stop_of OverBudget s) else Paid (paid n s)
+charge_of n s = when ltb s.left n then Refused (stop_of OverBudget s) else Paid (paid n s)
 
 -- with so many entries to spare
 unfoldable pub enter_of : ℕ → State → Charged
 unfolding charge_of
-enter_of entries s = if eqb entries 0 then Refused (stop_of TooManyEntries s) else charge_of 1 s
+enter_of entries s = when eqb entries 0 then Refused (stop_of TooManyEntries s) else charge_of 1 s
 
 -- the words that the state may still come to use end here: what is left of the budget pays for them
 abbrev pub end : State → ℕ

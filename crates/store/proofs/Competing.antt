@@ -6,7 +6,7 @@ use Prim.Native.Nat.{ℕ, suc, ◌+◌, ◌-◌, ◌≤◌, ◌<◌}
 use native.Mathlib.Omega.{arith}
 use lib.Dec.{eqb}
 use borrow.Author.Tests.{eq-eqb, ne_eqb}
-use Rattle.model.specs.Choice.{if◌then◌else◌}
+use Rattle.model.specs.Choice.{when◌then◌else◌}
 use Rattle.model.specs.Scopes.{Scopes, within}
 use Rattle.model.specs.Resolving as model
 use Rattle.model.specs.Resolving.{Bind, candidate, candidates, resolve}
@@ -99,7 +99,7 @@ module _ {x : ℕ} {s : Scopes} {b : Bind} {l : List ℕ} {n i : ℕ} (w : Decid
         others : List Bind
         others = candidates x s (binds_from l (i + 1) (n - (i + 1)))
 
-        by : (p : Bool) → uncontained b (if p then bind_at l i ∷ others else others) ≡ (not (p && contained b (bind_at l i)) && uncontained b others)
+        by : (p : Bool) → uncontained b (when p then bind_at l i ∷ others else others) ≡ (not (p && contained b (bind_at l i)) && uncontained b others)
         by true = refl
         by false = refl
 
@@ -147,13 +147,13 @@ module _ {x : ℕ} {s : Scopes} {l : List ℕ} {n past i : ℕ} (w : Seeking x s
     one_on : suc i ≡ i + 1
     one_on = omega arith
 
-    there : competing_from x s l n past ≡ (if t then suc i ∷ competing_from x s l n (i + 1) else competing_from x s l n (i + 1))
+    there : competing_from x s l n past ≡ (when t then suc i ∷ competing_from x s l n (i + 1) else competing_from x s l n (i + 1))
     unfolding competing
     there =
         sym w.same
         ∙ ap (competing x s (binds_of l n) (suc i)) (run_step l n i h)
-        ∙ ap (λ (z : Bool). if z then suc i ∷ after (suc i) else after (suc i)) (sym (k ∙ ap (competes x s (binds_of l n)) e))
-        ∙ ap (λ (z : ℕ). if t then suc i ∷ after z else after z) one_on
+        ∙ ap (λ (z : Bool). when z then suc i ∷ after (suc i) else after (suc i)) (sym (k ∙ ap (competes x s (binds_of l n)) e))
+        ∙ ap (λ (z : ℕ). when t then suc i ∷ after z else after z) one_on
       where
         after : ℕ → List ℕ
         after z = competing x s (binds_of l n) (suc z) (binds_from l (i + 1) (n - (i + 1)))
@@ -164,7 +164,7 @@ module _ {x : ℕ} {s : Scopes} {l : List ℕ} {n past i : ℕ} (w : Seeking x s
       some = λ z. (
         omega arith,
         there
-            ∙ ap (λ (b : Bool). if b then suc i ∷ competing_from x s l n (i + 1) else competing_from x s l n (i + 1)) q
+            ∙ ap (λ (b : Bool). when b then suc i ∷ competing_from x s l n (i + 1) else competing_from x s l n (i + 1)) q
             ∙ ap (λ (z : ℕ). z ∷ competing_from x s l n (i + 1)) one_on,
       );
     }
@@ -172,7 +172,7 @@ module _ {x : ℕ} {s : Scopes} {l : List ℕ} {n past i : ℕ} (w : Seeking x s
     pub seeking_on : t ≡ false → Seeking x s l n past (i + 1)
     seeking_on q = record {
       inside = omega arith;
-      same = sym (there ∙ ap (λ (b : Bool). if b then suc i ∷ competing_from x s l n (i + 1) else competing_from x s l n (i + 1)) q);
+      same = sym (there ∙ ap (λ (b : Bool). when b then suc i ∷ competing_from x s l n (i + 1) else competing_from x s l n (i + 1)) q);
     }
 
 pub ruleset seeking_laws = (seeking_begun, seeking_ended, seeking_found, seeking_on)

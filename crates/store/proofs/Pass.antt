@@ -4,7 +4,7 @@ use mathlib.Core.Bool.{Bool, true, false, ◌&&◌, ◌||◌, false≢true}
 use mathlib.Core.List.{List, [], ◌∷◌, ◌++◌, append_assoc, append-nil}
 use Prim.Native.Nat.{ℕ}
 use lib.Bits.{bit_or}
-use Rattle.model.specs.Choice.{if◌then◌else◌}
+use Rattle.model.specs.Choice.{when◌then◌else◌}
 use Rattle.model.specs.Scopes.{Scopes, has, within}
 use Rattle.model.specs.Resolving.{Bind, means, several, candidate, candidates, over, largest, choose, resolve}
 use Rattle.laws.proofs.Tests.{not_so}
@@ -113,7 +113,7 @@ sees_more d (one pre b post p q) = go (within d.set b.set) refl (within b.set d.
     later h = subst (λ (l : List Bind). Sees l (alone b)) (sym (append_assoc pre (b ∷ post) (d ∷ []))) h
 
     go : (t : Bool) → within d.set b.set ≡ t → (r : Bool) → within b.set d.set ≡ r
-        → Sees (all ++ d ∷ []) (if t then alone b else (if r then alone d else joined b.set d))
+        → Sees (all ++ d ∷ []) (when t then alone b else (when r then alone d else joined b.set d))
     go true e r f =
         later (one pre b (post ++ d ∷ []) p (subst (All (Within b.set)) (append_assoc pre (b ∷ post) (d ∷ [])) (both q (more e empty))))
     go false e true f =
@@ -127,7 +127,7 @@ sees_more d (one pre b post p q) = go (within d.set b.set) refl (within b.set d.
         f
 sees_more d (apart l u n p q least) = go (within u d.set) refl
   where
-    go : (r : Bool) → within u d.set ≡ r → Sees (l ++ d ∷ []) (if r then alone d else joined u d)
+    go : (r : Bool) → within u d.set ≡ r → Sees (l ++ d ∷ []) (when r then alone d else joined u d)
     go true f =
         largest_yet l d (each (λ c h. above_not u c.set d.set h f) q)
         (each (λ c h. within_trans c.set u d.set h f) p)
@@ -191,8 +191,8 @@ pass_on x s (b ∷ l) {done} {seen} w =
   where
     go : (t : Bool) → meaning x (passing x s (taking seen b) l) ≡ choose x (done ++ b ∷ candidates x s l)
         → meaning x (passing x s seen l) ≡ choose x (done ++ candidates x s l)
-        → meaning x (passing x s (if t then taking seen b else seen) l)
-        ≡ choose x (done ++ (if t then b ∷ candidates x s l else candidates x s l))
+        → meaning x (passing x s (when t then taking seen b else seen) l)
+        ≡ choose x (done ++ (when t then b ∷ candidates x s l else candidates x s l))
     go true p q = p
     go false p q = q
 

@@ -9,7 +9,7 @@ use native.Mathlib.Omega.{arith}
 use lib.ListN.{length, get_or, set, length-set}
 use lib.Seq.{sets, length-sets, get_or-set_same, get_or-set_other}
 use Rattle.model.specs.Limits as m
-use Rattle.model.specs.Choice.{if◌then◌else◌}
+use Rattle.model.specs.Choice.{when◌then◌else◌}
 use Rattle.model.specs.Scopes.{Scopes}
 use Rattle.model.specs.Resolving.{Bind, bind_before, insert}
 use Rattle.scopes.specs.Sets.{words_from, set_words}
@@ -144,7 +144,7 @@ module _ {b : Bind} {l : List ℕ} {n i : ℕ} (w : Passed b l n i) where
         w.so_far ∙ ap (λ (r : List Bind). binds_from l 0 i ++ insert b r) (run_step l n i h)
         ∙ ap
         (λ (t : Bool). binds_from l 0 i
-        ++ (if t then b ∷ bind_at l i ∷ binds_from l (i + 1) (n - (i + 1)) else bind_at l i ∷ insert b (binds_from l (i + 1) (n - (i + 1)))))
+        ++ (when t then b ∷ bind_at l i ∷ binds_from l (i + 1) (n - (i + 1)) else bind_at l i ∷ insert b (binds_from l (i + 1) (n - (i + 1)))))
         e
         ∙ ap (λ (r : List Bind). binds_from l 0 i ++ b ∷ r) (sym (run_step l n i h));
   }
@@ -157,7 +157,7 @@ module _ {b : Bind} {l : List ℕ} {n i : ℕ} (w : Passed b l n i) where
         w.so_far ∙ ap (λ (r : List Bind). binds_from l 0 i ++ insert b r) (run_step l n i h)
         ∙ ap
         (λ (t : Bool). binds_from l 0 i
-        ++ (if t then b ∷ bind_at l i ∷ binds_from l (i + 1) (n - (i + 1)) else bind_at l i ∷ insert b (binds_from l (i + 1) (n - (i + 1)))))
+        ++ (when t then b ∷ bind_at l i ∷ binds_from l (i + 1) (n - (i + 1)) else bind_at l i ∷ insert b (binds_from l (i + 1) (n - (i + 1)))))
         e
         ∙ sym (append_assoc (binds_from l 0 i) (bind_at l i ∷ []) (insert b (binds_from l (i + 1) (n - (i + 1)))))
         ∙ ap (λ (r : List Bind). r ++ insert b (binds_from l (i + 1) (n - (i + 1)))) (sym (split_run l 0 i 1 ∙ last));

@@ -1,7 +1,7 @@
 -- Resolving in one pass: what is kept of the candidates seen, and what the next one makes of it.
 use Rattle.std.specs.Prelude.{Bool, true, false, List, [], ◌∷◌, ℕ, zero, suc}
 use Rattle.std.specs.Int.Bits.{bit_or}
-use Rattle.model.specs.Choice.{if◌then◌else◌}
+use Rattle.model.specs.Choice.{when◌then◌else◌}
 use Rattle.model.specs.Scopes.{Scopes, within}
 use Rattle.model.specs.Resolving as model
 use Rattle.model.specs.Resolving.{Bind, candidate, means, several}
@@ -41,12 +41,12 @@ joined u b = record { order = unclear; union = bit_or u b.set }
 
 -- b is not contained in u
 unfoldable pub beyond_all : Scopes → Bind → Seen
-beyond_all u b = if within u b.set then alone b else joined u b
+beyond_all u b = when within u b.set then alone b else joined u b
 
 unfoldable pub taking_by : Order → Scopes → Bind → Seen
 unfolding beyond_all
 taking_by free u b = alone b
-taking_by (clear n) u b = if within b.set u then record { order = clear n; union = u } else beyond_all u b
+taking_by (clear n) u b = when within b.set u then record { order = clear n; union = u } else beyond_all u b
 taking_by unclear u b = beyond_all u b
 
 -- the candidate b seen too
@@ -57,7 +57,7 @@ taking s b = taking_by s.order s.union b
 -- the binding b seen too: it counts where it is a candidate for symbol x with set s
 unfoldable pub seeing : ℕ → Scopes → Seen → Bind → Seen
 unfolding taking candidate
-seeing x s seen b = if candidate x s b then taking seen b else seen
+seeing x s seen b = when candidate x s b then taking seen b else seen
 
 -- those of l seen too, in turn
 unfoldable pub passing : ℕ → Scopes → Seen → List Bind → Seen

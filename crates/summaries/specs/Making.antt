@@ -1,6 +1,6 @@
 -- What is said of the words lent, and of a question to them.
 use Rattle.std.specs.Prelude.{ℕ, ◌+◌, ◌*◌, ◌≤◌, ◌≡◌, Bool, ◌&&◌, List, eqb, leb, ltb, length, get_or}
-use Rattle.model.specs.Choice.{if◌then◌else◌}
+use Rattle.model.specs.Choice.{when◌then◌else◌}
 use Rattle.model.specs.Reading.{read_tree_image, read_image}
 use Rattle.model.specs.Jobs.{Answer}
 use Rattle.requests.specs.Uses as u
@@ -49,8 +49,8 @@ told_by (asking.Refused f) = u.refused (uses_refusal_of f)
 unfoldable pub asked_of : List ℕ → Opened → ℕ → UsesEnding
 unfolding belongs_to
 asked_of w o n =
-    if belongs_to w o then
-    if ltb n o.counts.names then u.told (entry_in w n)
+    when belongs_to w o then
+    when ltb n o.counts.names then u.told (entry_in w n)
     else u.refused u.no_name
     else u.refused u.other_tree
 

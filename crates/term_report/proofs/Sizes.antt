@@ -7,7 +7,7 @@ use mathlib.Core.Option.{Option, none, some}
 use mathlib.Core.List.{List, [], ◌∷◌}
 use lib.Dec.{leb}
 use lib.ListN.{length, take, drop, length-drop}
-use Rattle.model.specs.Choice.{if◌then◌else◌, given}
+use Rattle.model.specs.Choice.{when◌then◌else◌, given}
 use Rattle.model.specs.Reading.{Read, got, fault, num}
 use Rattle.model.specs.Jobs.{Line}
 use Rattle.numbers.proofs.Tails.{Shrinks, shrinks_got, shrinks_fault, num_shrinks}
@@ -39,7 +39,7 @@ behind-few : (n k : ℕ) (rest : List ℕ) → length rest ≤ n → ((s : List 
 unfolding cut_off
 behind-few n k rest h f = by (leb k (length rest))
   where
-    by : (t : Bool) → AtMost (suc n) (and_then images_of (if t then some (take k rest, drop k rest) else none))
+    by : (t : Bool) → AtMost (suc n) (and_then images_of (when t then some (take k rest, drop k rest) else none))
     by true = one_more n (take k rest) (images_of (drop k rest)) (f (drop k rest) (let l = length-drop k rest in omega arith))
     by false = λ x e. absurd (none≢some e)
 

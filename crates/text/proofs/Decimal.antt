@@ -9,7 +9,7 @@ use mir.Val.{Fits}
 use lib.ListN.{length, set, length-append}
 use lib.Dec.{ltb}
 use borrow.Author.Tests.{lt-ltb, le-ltb}
-use Rattle.model.specs.Choice.{if◌then◌else◌}
+use Rattle.model.specs.Choice.{when◌then◌else◌}
 use Rattle.model.specs.Jobs.{digits}
 use Rattle.text.specs.Placing.{Placed}
 use Rattle.text.proofs.Placing.{placed_then, placed-length}
@@ -19,8 +19,8 @@ unfolding digits
 digits-before zero n after = refl
 digits-before (suc k) n after = by (λ l. digits-before k (n / 10) l) (ltb n 10)
   where
-    by : ((l : List ℕ) → digits k (n / 10) l ≡ digits k (n / 10) [] ++ l) → (t : Bool) → (if t then (48 + n) ∷ after else digits k (n / 10) ((48 + n % 10) ∷ after))
-        ≡ (if t then (48 + n) ∷ [] else digits k (n / 10) ((48 + n % 10) ∷ [])) ++ after
+    by : ((l : List ℕ) → digits k (n / 10) l ≡ digits k (n / 10) [] ++ l) → (t : Bool) → (when t then (48 + n) ∷ after else digits k (n / 10) ((48 + n % 10) ∷ after))
+        ≡ (when t then (48 + n) ∷ [] else digits k (n / 10) ((48 + n % 10) ∷ [])) ++ after
     by h true = refl
     by h false =
         h ((48 + n % 10) ∷ after)
@@ -40,7 +40,7 @@ unfolding digits
 few-digits zero n = omega arith
 few-digits (suc k) n = by (few-digits k (n / 10)) (ltb n 10)
   where
-    by : length (digits k (n / 10) []) ≤ k → (t : Bool) → length (if t then (48 + n) ∷ [] else digits k (n / 10) ((48 + n % 10) ∷ [])) ≤ suc k
+    by : length (digits k (n / 10) []) ≤ k → (t : Bool) → length (when t then (48 + n) ∷ [] else digits k (n / 10) ((48 + n % 10) ∷ [])) ≤ suc k
     by f true = omega arith
     by f false =
         rw (digits-before k (n / 10) ((48 + n % 10) ∷ [])) (rw length-append (omega arith))

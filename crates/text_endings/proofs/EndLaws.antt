@@ -10,7 +10,7 @@ use lib.ListN.{length, drop}
 use lib.Seq.{sets, sets-eq}
 use lib.Dec.{leb}
 use borrow.Author.Tests.{le-leb, leb-true}
-use Rattle.model.specs.Choice.{if◌then◌else◌}
+use Rattle.model.specs.Choice.{when◌then◌else◌}
 use Rattle.model.specs.Limits.{most_image}
 use Rattle.model.specs.Refusals.{too_long, code_of}
 use Rattle.requests.specs.FromText.{base, made, refused, text_code}
@@ -46,7 +46,7 @@ too_long_lem : (room : ℕ) (b : List ℕ) → ((n : ℕ) → n ≤ room → n �
 unfolding fitted most_image
 too_long_lem room b over = go (leb (length b) room) (leb (length b) 65536) refl refl
   where
-    go : (x y : Bool) → leb (length b) room ≡ x → leb (length b) 65536 ≡ y → (if x && y then made b else refused (base too_long)) ≡ refused (base too_long)
+    go : (x y : Bool) → leb (length b) room ≡ x → leb (length b) 65536 ≡ y → (when x && y then made b else refused (base too_long)) ≡ refused (base too_long)
     go true true p q = absurd (over (length b) (leb-true (length b) room p) (leb-true (length b) 65536 q) refl)
     go true false p q = refl
     go false y p q = refl

@@ -9,7 +9,7 @@ use lib.ListN.{length, drop, get_or, drop_of_length-le, get_or-eq_default}
 use lib.Seq.{drop-cons, get_or-drop}
 use lib.Dec.{eqb}
 use borrow.Author.Tests.{ne_eqb}
-use Rattle.model.specs.Choice.{if◌then◌else◌}
+use Rattle.model.specs.Choice.{when◌then◌else◌}
 use Rattle.text_image.specs.Places.{ends_line, place_from}
 
 module _ (b next : ℕ) where
@@ -27,7 +27,7 @@ past_end s i h = sym (get_or-eq_default s 0 h)
 next-is : (s : List ℕ) (i : ℕ) → get_or (drop (i + 1) s) 0 0 ≡ get_or s (i + 1) 0
 next-is s i = get_or-drop (i + 1) s 0 0 ∙ ap (λ (k : ℕ). get_or s k 0) (omega arith)
 
-after-byte : (line column b : ℕ) (s : List ℕ) → place_from line column (b ∷ s) ≡ (if ends_line b (get_or s 0 0) then place_from (line + 1) 1 s else place_from line (column + 1) s)
+after-byte : (line column b : ℕ) (s : List ℕ) → place_from line column (b ∷ s) ≡ (when ends_line b (get_or s 0 0) then place_from (line + 1) 1 s else place_from line (column + 1) s)
 unfolding place_from ends_line
 after-byte line column b s = refl
 
@@ -47,11 +47,11 @@ module _ {s : List ℕ} {line column i : ℕ} (c : Counting s line column i) whe
   counted h = sym (ap (place_from line column) (drop_of_length-le s h)) ∙ c.so_far
 
   module _ (h : i < length s) {next : ℕ} (n : next ≡ get_or s (i + 1) 0) {e : Bool} (q : e ≡ ends_line (get_or s i 0) next) where
-    step : place_from line column (drop i s) ≡ (if e then place_from (line + 1) 1 (drop (i + 1) s) else place_from line (column + 1) (drop (i + 1) s))
+    step : place_from line column (drop i s) ≡ (when e then place_from (line + 1) 1 (drop (i + 1) s) else place_from line (column + 1) (drop (i + 1) s))
     step =
         ap (place_from line column) (drop-cons s i 0 h ∙ ap (λ (k : ℕ). get_or s i 0 ∷ drop k s) (sym (add-one i)))
         ∙ after-byte line column (get_or s i 0) (drop (i + 1) s)
-        ∙ ap (λ (k : Bool). if k then place_from (line + 1) 1 (drop (i + 1) s) else place_from line (column + 1) (drop (i + 1) s)) (ap (ends_line (get_or s i 0)) (next-is s i ∙ sym n) ∙ sym q)
+        ∙ ap (λ (k : Bool). when k then place_from (line + 1) 1 (drop (i + 1) s) else place_from line (column + 1) (drop (i + 1) s)) (ap (ends_line (get_or s i 0)) (next-is s i ∙ sym n) ∙ sym q)
 
     pub count_line : e ≡ true → Counting s (line + 1) 1 (i + 1)
     count_line y =

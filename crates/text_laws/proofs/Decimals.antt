@@ -8,7 +8,7 @@ use mathlib.Core.List.{List, [], ◌∷◌, ◌++◌, append-nil}
 use mathlib.Core.Logic.{◌≢◌}
 use lib.Dec.{eqb, ltb, leb}
 use lib.ListN.{length}
-use Rattle.model.specs.Choice.{if◌then◌else◌}
+use Rattle.model.specs.Choice.{when◌then◌else◌}
 use Rattle.model.specs.Jobs.{digits}
 use borrow.Author.Tests.{le-leb, lt-ltb, le-ltb, ne_eqb, leb-true, ltb-true, ltb-false, eqb-false}
 use Rattle.laws.proofs.Tests.{and_both}
@@ -22,7 +22,7 @@ digits_value zero n after h = ap (λ (z : ℕ). value z after) (omega arith)
 digits_value (suc k) n after h = go (ltb n 10) refl (digits_value k (n / 10) ((48 + n % 10) ∷ after))
   where
     go : (t : Bool) → ltb n 10 ≡ t → (n / 10 < 10 ^ k → value 0 (digits k (n / 10) ((48 + n % 10) ∷ after)) ≡ value (n / 10) ((48 + n % 10) ∷ after))
-        → value 0 (if t then (48 + n) ∷ after else digits k (n / 10) ((48 + n % 10) ∷ after)) ≡ value n after
+        → value 0 (when t then (48 + n) ∷ after else digits k (n / 10) ((48 + n % 10) ∷ after)) ≡ value n after
     go true e below = ap (λ (z : ℕ). value z after) (omega arith)
     go false e below =
         below (omega arith)
@@ -53,7 +53,7 @@ digits-numeral (suc k) n after p h a = go (ltb n 10) refl (digits-numeral k (n /
   where
     go : (t : Bool) → ltb n 10 ≡ t
         → (1 ≤ n / 10 → n / 10 < 10 ^ k → all_digits ((48 + n % 10) ∷ after) ≡ true → numeral (digits k (n / 10) ((48 + n % 10) ∷ after)) ≡ true)
-        → numeral (if t then (48 + n) ∷ after else digits k (n / 10) ((48 + n % 10) ∷ after)) ≡ true
+        → numeral (when t then (48 + n) ∷ after else digits k (n / 10) ((48 + n % 10) ∷ after)) ≡ true
     go true e below = led (48 + n) after (omega arith) (omega (arith, ltb-true n 10 e)) a
     go false e below =
         below (omega (arith, ltb-false n 10 e)) (omega arith)
@@ -77,7 +77,7 @@ digits-all (suc k) n after a =
     go (ltb n 10) refl (digits-all k (n / 10) ((48 + n % 10) ∷ after) (all_cons (48 + n % 10) after (omega arith) (omega arith) a))
   where
     go : (t : Bool) → ltb n 10 ≡ t → all_digits (digits k (n / 10) ((48 + n % 10) ∷ after)) ≡ true
-        → all_digits (if t then (48 + n) ∷ after else digits k (n / 10) ((48 + n % 10) ∷ after)) ≡ true
+        → all_digits (when t then (48 + n) ∷ after else digits k (n / 10) ((48 + n % 10) ∷ after)) ≡ true
     go true e below = all_cons (48 + n) after (omega arith) (omega (arith, ltb-true n 10 e)) a
     go false e below = below
 

@@ -6,7 +6,7 @@ use mathlib.Core.Bool.{Bool, true, false, ◌&&◌}
 use mathlib.Core.List.{List, [], ◌∷◌}
 use mathlib.Core.Option.{Option, none, some}
 use mathlib.Core.Logic.{◌⊎◌, inl, inr}
-use Rattle.model.specs.Choice.{if◌then◌else◌}
+use Rattle.model.specs.Choice.{when◌then◌else◌}
 use lib.Dec.{eqb, eqb-suc-zero}
 use Rattle.requests.specs.Tokens.{Leaf, Token, opening, closing, bad, one}
 use Rattle.requests.specs.FromText.{TextRefusal, bad_text, unbalanced, made, refused, unless_second, at_last, judged, Obj, leaf, group, Objs, nothing, push, shut, built, the_object, unless, read_object}
@@ -144,7 +144,7 @@ second-code : (d : ℕ) (b : Bool) (o : Option TextRefusal) (r : TextRefusal) �
 unfolding unless_second
 second-code d b o r f e = go (b && eqb d 0) e
   where
-    go : (t : Bool) → (if t then some bad_text else o) ≡ some r → (r ≡ bad_text) ⊎ (r ≡ unbalanced)
+    go : (t : Bool) → (when t then some bad_text else o) ≡ some r → (r ≡ bad_text) ⊎ (r ≡ unbalanced)
     go true q = inl (some_same bad_text r q)
     go false q = f q
 

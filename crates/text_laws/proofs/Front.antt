@@ -6,7 +6,7 @@ use mathlib.Core.Bool.{Bool, true, false, ◌&&◌}
 use mathlib.Core.List.{List, [], ◌∷◌, ◌++◌}
 use mathlib.Core.Option.{none, some}
 use lib.Dec.{eqb}
-use Rattle.model.specs.Choice.{if◌then◌else◌}
+use Rattle.model.specs.Choice.{when◌then◌else◌}
 use Rattle.requests.specs.Tokens.{Leaf, number, Token, opening, closing, bad, one}
 use Rattle.requests.specs.FromText.{TextRefusal, bad_text, unbalanced, unless_second, at_last, judged}
 
@@ -53,11 +53,11 @@ this_one d b k ts r m f = with_token [] k ts refl (goes_on d b m) f
 same : (a b : TextRefusal) → some a ≡ some b → a ≡ b
 same a b e = cc
 
-second-leaf : (d : ℕ) (b s : Bool) (l : Leaf) (us : List Token) → (b && eqb d 0) ≡ s → judged d b (one l ∷ us) ≡ (if s then some bad_text else judged d true us)
+second-leaf : (d : ℕ) (b s : Bool) (l : Leaf) (us : List Token) → (b && eqb d 0) ≡ s → judged d b (one l ∷ us) ≡ (when s then some bad_text else judged d true us)
 unfolding judged unless_second
 second-leaf d b s l us e = rw e
 
-second-list : (d : ℕ) (b s : Bool) (us : List Token) → (b && eqb d 0) ≡ s → judged d b (opening ∷ us) ≡ (if s then some bad_text else judged (suc d) true us)
+second-list : (d : ℕ) (b s : Bool) (us : List Token) → (b && eqb d 0) ≡ s → judged d b (opening ∷ us) ≡ (when s then some bad_text else judged (suc d) true us)
 unfolding judged unless_second
 second-list d b s us e = rw e
 
@@ -74,12 +74,12 @@ first-from (closing ∷ ts) (suc d) b r m e =
     one_more (suc d) d b b closing ts r (λ us. refl) (first-from ts d b r (subst (Met d) (sym m) (met-more d)) e)
 first-from (one l ∷ ts) d b r m e = go (b && eqb d 0) refl (sym (second-leaf d b (b && eqb d 0) l ts refl) ∙ e) (first-from ts d true r (met-more d))
   where
-    go : (s : Bool) → (b && eqb d 0) ≡ s → (if s then some bad_text else judged d true ts) ≡ some r → (judged d true ts ≡ some r → FirstFrom d true ts r) → FirstFrom d b (one l ∷ ts) r
+    go : (s : Bool) → (b && eqb d 0) ≡ s → (when s then some bad_text else judged d true ts) ≡ some r → (judged d true ts ≡ some r → FirstFrom d true ts r) → FirstFrom d b (one l ∷ ts) r
     go true q f below = this_one d b (one l) ts r m (λ us. second-leaf d b true l us q ∙ ap some (same bad_text r f))
     go false q f below = one_more d d b true (one l) ts r (λ us. second-leaf d b false l us q) (below f)
 first-from (opening ∷ ts) d b r m e = go (b && eqb d 0) refl (sym (second-list d b (b && eqb d 0) ts refl) ∙ e) (first-from ts (suc d) true r refl)
   where
-    go : (s : Bool) → (b && eqb d 0) ≡ s → (if s then some bad_text else judged (suc d) true ts) ≡ some r → (judged (suc d) true ts ≡ some r → FirstFrom (suc d) true ts r) → FirstFrom d b (opening ∷ ts) r
+    go : (s : Bool) → (b && eqb d 0) ≡ s → (when s then some bad_text else judged (suc d) true ts) ≡ some r → (judged (suc d) true ts ≡ some r → FirstFrom (suc d) true ts r) → FirstFrom d b (opening ∷ ts) r
     go true q f below = this_one d b opening ts r m (λ us. second-list d b true us q ∙ ap some (same bad_text r f))
     go false q f below = one_more d (suc d) b true opening ts r (λ us. second-list d b false us q) (below f)
 

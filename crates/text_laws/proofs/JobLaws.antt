@@ -6,7 +6,7 @@ use mathlib.Core.List.{List, [], ◌∷◌, ◌++◌, append_assoc, append-nil}
 use mathlib.Core.Option.{Option, none, some}
 use lib.Dec.{eqb, leb}
 use lib.ListN.{length}
-use Rattle.model.specs.Choice.{if◌then◌else◌}
+use Rattle.model.specs.Choice.{when◌then◌else◌}
 use Rattle.model.specs.Limits.{most_names, core_names, most_nesting}
 use Rattle.model.specs.Refusals.{over_limit}
 use Rattle.model.specs.Reading.{core_words}
@@ -41,10 +41,10 @@ unfolding numbered_from limited after_faults image_in
 object-passes x room =
     rw (object-read x)
     (go (within (toks x []) (image_of (met core_words (toks x [])) x))
-    ∙ ap₂ (λ (b : Bool) (s : List ℕ). if b then fitted room s else refused (base over_limit)) (sym (image-within x)) (sym (image-bytes x)))
+    ∙ ap₂ (λ (b : Bool) (s : List ℕ). when b then fitted room s else refused (base over_limit)) (sym (image-within x)) (sym (image-bytes x)))
   where
-    go : (b : Bool) → image_in room (if b then made (image_of (met core_words (toks x [])) x) else refused (base over_limit))
-        ≡ (if b then fitted room (syntax_bytes (image_of (met core_words (toks x [])) x).head (image_of (met core_words (toks x [])) x).binds (image_of (met core_words (toks x [])) x).root) else refused (base over_limit))
+    go : (b : Bool) → image_in room (when b then made (image_of (met core_words (toks x [])) x) else refused (base over_limit))
+        ≡ (when b then fitted room (syntax_bytes (image_of (met core_words (toks x [])) x).head (image_of (met core_words (toks x [])) x).binds (image_of (met core_words (toks x [])) x).root) else refused (base over_limit))
     go true = refl
     go false = refl
 
@@ -89,7 +89,7 @@ unfolding cut after_line ended
 comment-rest [] = refl
 comment-rest (b ∷ s) = go (line_end b) (comment-rest s)
   where
-    go : (t : Bool) → comment s ≡ cut [] (after_line s) → (if t then cut [] s else comment s) ≡ cut [] (if t then s else after_line s)
+    go : (t : Bool) → comment s ≡ cut [] (after_line s) → (when t then cut [] s else comment s) ≡ cut [] (when t then s else after_line s)
     go true e = refl
     go false e = e
 
@@ -112,8 +112,8 @@ unfolding cut ended ending
 ends-run c s b w e = go (space c) (paren c) (eqb c 59) e
   where
     go : (x y z : Bool) → (x || y || z) ≡ true
-        → (if x then ended (b ∷ w) (cut [] s) else if y then ended (b ∷ w) ((c ∷ []) ∷ cut [] s) else if z then ended (b ∷ w) (comment s) else cut ((b ∷ w) ++ (c ∷ [])) s)
-        ≡ (b ∷ w) ∷ (if x then ended [] (cut [] s) else if y then ended [] ((c ∷ []) ∷ cut [] s) else if z then ended [] (comment s) else cut ([] ++ (c ∷ [])) s)
+        → (when x then ended (b ∷ w) (cut [] s) else when y then ended (b ∷ w) ((c ∷ []) ∷ cut [] s) else when z then ended (b ∷ w) (comment s) else cut ((b ∷ w) ++ (c ∷ [])) s)
+        ≡ (b ∷ w) ∷ (when x then ended [] (cut [] s) else when y then ended [] ((c ∷ []) ∷ cut [] s) else when z then ended [] (comment s) else cut ([] ++ (c ∷ [])) s)
     go true y z e = refl
     go false true z e = refl
     go false false true e = refl
@@ -133,7 +133,7 @@ run-cut [] b w = ap (λ (z : List ℕ). (b ∷ z) ∷ []) (sym (append-nil w))
 run-cut (c ∷ s) b w = go (ending c) refl (run-cut s b (w ++ (c ∷ [])))
   where
     go : (t : Bool) → ending c ≡ t → cut (b ∷ (w ++ (c ∷ []))) s ≡ (b ∷ ((w ++ (c ∷ [])) ++ run s)) ∷ cut [] (after_run s)
-        → cut (b ∷ w) (c ∷ s) ≡ (b ∷ (w ++ (if t then [] else c ∷ run s))) ∷ cut [] (if t then c ∷ s else after_run s)
+        → cut (b ∷ w) (c ∷ s) ≡ (b ∷ (w ++ (when t then [] else c ∷ run s))) ∷ cut [] (when t then c ∷ s else after_run s)
     go true e below = ends-run c s b w e ∙ ap (λ (z : List ℕ). (b ∷ z) ∷ cut [] (c ∷ s)) (sym (append-nil w))
     go false e below =
         goes_on c s b w (not-ending c e) ∙ below ∙ ap (λ (z : List ℕ). (b ∷ z) ∷ cut [] (after_run s)) (append_assoc w (c ∷ []) (run s))

@@ -3,7 +3,7 @@ use mathlib.Core.Path.{◌≡◌, refl, sym, ap, ◌∙◌}
 use Prim.Native.Nat.{ℕ}
 use mathlib.Core.Bool.{Bool, true, false, ◌||◌, false≢true}
 use mathlib.Core.List.{List, [], ◌∷◌, ◌++◌, append_assoc}
-use Rattle.model.specs.Choice.{if◌then◌else◌}
+use Rattle.model.specs.Choice.{when◌then◌else◌}
 use Rattle.model.specs.Reading.{same_bytes, among}
 use Rattle.requests.specs.Tokens.{word, number, point, prim, rung, Token, opening, closing, bad, one}
 use Rattle.requests.specs.FromText.{met}
@@ -22,7 +22,7 @@ met_alike [] a b h = refl
 met_alike (one (word w) ∷ ts) a b h = go (among w a) (among w b) (h w) (met_alike ts a b h) (met_alike ts (w ∷ a) (w ∷ b) (alike_cons w a b h))
   where
     go : (s t : Bool) → s ≡ t → met a ts ≡ met b ts → met (w ∷ a) ts ≡ met (w ∷ b) ts
-        → (if s then met a ts else w ∷ met (w ∷ a) ts) ≡ (if t then met b ts else w ∷ met (w ∷ b) ts)
+        → (when s then met a ts else w ∷ met (w ∷ a) ts) ≡ (when t then met b ts else w ∷ met (w ∷ b) ts)
     go true true e f g = f
     go false false e f g = ap (λ (l : List (List ℕ)). w ∷ l) g
     go true false e f g = absurd (false≢true (sym e))

@@ -7,7 +7,7 @@ use mathlib.Core.Bool.{Bool, true, false, not, ◌&&◌, false≢true}
 use mathlib.Core.List.{List, [], ◌∷◌, ◌++◌}
 use lib.Dec.{eqb, leb}
 use lib.ListN.{length}
-use Rattle.model.specs.Choice.{if◌then◌else◌}
+use Rattle.model.specs.Choice.{when◌then◌else◌}
 use Rattle.model.specs.Limits.{most_scopes, most_names, core_names, most_nesting, most_word_length, most_bindings, most_image, last_point, last_primitive, last_rung_word}
 use Rattle.model.specs.Refusals.{over_limit}
 use Rattle.model.specs.Objects.{no_sets, Stx, nesting}
@@ -42,7 +42,7 @@ abbrev pub TokensOk : List Token → Type 0
 TokensOk [] = Unit {0}
 TokensOk (t ∷ ts) = TokenOk t × TokensOk ts
 
-either : (b : Bool) (t u : Token) → TokenOk t → TokenOk u → TokenOk (if b then t else u)
+either : (b : Bool) (t u : Token) → TokenOk t → TokenOk u → TokenOk (when b then t else u)
 either true t u p q = p
 either false t u p q = q
 
@@ -50,7 +50,7 @@ rung-ok : (w : List ℕ) → TokenOk (rung_token w)
 unfolding rung_token
 rung-ok w =
     either (among w rung_words) (one (rung (place w rung_words)))
-    (if numeral w && leb 6 (value 0 w) && leb (value 0 w) 15 then one (rung (value 0 w)) else bad) tt
+    (when numeral w && leb 6 (value 0 w) && leb (value 0 w) 15 then one (rung (value 0 w)) else bad) tt
     (either (numeral w && leb 6 (value 0 w) && leb (value 0 w) 15) (one (rung (value 0 w))) bad tt tt)
 
 point-ok : (w : List ℕ) → TokenOk (numbered point w)
@@ -72,8 +72,8 @@ token-ok (b ∷ w) =
     go (eqb b 40) (eqb b 41) (eqb b 64) (eqb b 35) (eqb b 39) (digit b) (good_word (b ∷ w)) refl
   where
     go : (p q r s t d g : Bool) → good_word (b ∷ w) ≡ g
-        → TokenOk (if p then opening else if q then closing else if r then numbered point w else if s then numbered prim w
-        else if t then rung_token w else if d then numbered number (b ∷ w) else if g then one (word (b ∷ w)) else bad)
+        → TokenOk (when p then opening else when q then closing else when r then numbered point w else when s then numbered prim w
+        else when t then rung_token w else when d then numbered number (b ∷ w) else when g then one (word (b ∷ w)) else bad)
     go true q r s t d g e = tt
     go false true r s t d g e = tt
     go false false true s t d g e = point-ok w
@@ -112,7 +112,7 @@ words-fit (one (word w) ∷ ts) seen k e =
     good false y p q = absurd (false≢true p)
 
     go : (t : Bool) → among w seen ≡ t → length w ≤ most_word_length → WordsFit seen (met seen ts) → WordsFit (w ∷ seen) (met (w ∷ seen) ts)
-        → WordsFit seen (if t then met seen ts else w ∷ met (w ∷ seen) ts)
+        → WordsFit seen (when t then met seen ts else w ∷ met (w ∷ seen) ts)
     go true p h f g = f
     go false p h f g = (some_bytes w k.0, h, good (good_word w) (among w seen) k.0 p, g)
 words-fit (one (number n) ∷ ts) seen k e = words-fit ts seen k.1 (and_both (leaf_fits (number n)) (all_fit ts) e).1
@@ -195,7 +195,7 @@ limited-made : (ts : List Token) (j i : Image Stx) → limited ts j ≡ made i
 unfolding limited within most_names core_names most_nesting
 limited-made ts j i e = go (within ts j) refl e
   where
-    go : (t : Bool) → within ts j ≡ t → (if t then made j else refused (base over_limit)) ≡ made i
+    go : (t : Bool) → within ts j ≡ t → (when t then made j else refused (base over_limit)) ≡ made i
         → (i ≡ j) × (all_fit ts ≡ true) × (length j.head.words ≤ 1020) × (nesting j.root ≤ 64)
     go false p q = absurd (refused≢made (base over_limit) i q)
     go true p q =

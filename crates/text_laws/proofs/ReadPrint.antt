@@ -7,7 +7,7 @@ use mathlib.Core.Bool.{Bool, true, false, ◌&&◌, ◌||◌, false≢true}
 use mathlib.Core.List.{List, [], ◌∷◌, ◌++◌}
 use lib.Dec.{eqb, leb}
 use lib.ListN.{length}
-use Rattle.model.specs.Choice.{if◌then◌else◌}
+use Rattle.model.specs.Choice.{when◌then◌else◌}
 use Rattle.model.specs.Limits.{last_point, last_primitive}
 use Rattle.model.specs.Objects.{Stx}
 use Rattle.model.specs.Reading.{good_word, among, same_bytes, core_words, Image}
@@ -49,13 +49,13 @@ paren-piece b e = go (eqb b 40) refl e
     go true p q = inl (ap (λ (z : ℕ). z ∷ []) (eqb-true b 40 p))
     go false p q = inr (inl (ap (λ (z : ℕ). z ∷ []) (eqb-true b 41 q)))
 
-either-ok : (t : Bool) (l k : List (List ℕ)) → PiecesOk l → PiecesOk k → PiecesOk (if t then l else k)
+either-ok : (t : Bool) (l k : List (List ℕ)) → PiecesOk l → PiecesOk k → PiecesOk (when t then l else k)
 either-ok true l k p q = p
 either-ok false l k p q = q
 
 byte-ok : (w : List ℕ) (b : ℕ) (s : List ℕ) → Plain w → (x y z : Bool) → space b ≡ x → paren b ≡ y → eqb b 59 ≡ z → PiecesOk (cut [] s) → PiecesOk (comment s)
     → (PlainByte b → PiecesOk (cut (w ++ (b ∷ [])) s))
-    → PiecesOk (if x then ended w (cut [] s) else if y then ended w ((b ∷ []) ∷ cut [] s) else if z then ended w (comment s) else cut (w ++ (b ∷ [])) s)
+    → PiecesOk (when x then ended w (cut [] s) else when y then ended w ((b ∷ []) ∷ cut [] s) else when z then ended w (comment s) else cut (w ++ (b ∷ [])) s)
 byte-ok w b s p true y z e f g i j k = ended-ok w (cut [] s) p i
 byte-ok w b s p false true z e f g i j k = ended-ok w ((b ∷ []) ∷ cut [] s) p (paren-piece b f, i)
 byte-ok w b s p false false true e f g i j k = ended-ok w (comment s) p j
@@ -98,7 +98,7 @@ point-text : (w : List ℕ) → Fits (numbered point w) → token_text (numbered
 unfolding numbered token_text leaf_text leaf_fits last_point
 point-text w f = go (numeral w) refl f
   where
-    go : (t : Bool) → numeral w ≡ t → Fits (if t then one (point (value 0 w)) else bad) → token_text (if t then one (point (value 0 w)) else bad) ≡ 64 ∷ w
+    go : (t : Bool) → numeral w ≡ t → Fits (when t then one (point (value 0 w)) else bad) → token_text (when t then one (point (value 0 w)) else bad) ≡ 64 ∷ w
     go false e f = absurd f
     go true e f = ap (λ (z : List ℕ). 64 ∷ z) (numeral_back w e (omega (arith, leb-true (value 0 w) last_point f)))
 
@@ -106,7 +106,7 @@ prim-text : (w : List ℕ) → Fits (numbered prim w) → token_text (numbered p
 unfolding numbered token_text leaf_text leaf_fits last_primitive
 prim-text w f = go (numeral w) refl f
   where
-    go : (t : Bool) → numeral w ≡ t → Fits (if t then one (prim (value 0 w)) else bad) → token_text (if t then one (prim (value 0 w)) else bad) ≡ 35 ∷ w
+    go : (t : Bool) → numeral w ≡ t → Fits (when t then one (prim (value 0 w)) else bad) → token_text (when t then one (prim (value 0 w)) else bad) ≡ 35 ∷ w
     go false e f = absurd f
     go true e f = ap (λ (z : List ℕ). 35 ∷ z) (numeral_back w e (omega (arith, leb-true (value 0 w) last_primitive f)))
 
@@ -114,7 +114,7 @@ number-text : (w : List ℕ) → Fits (numbered number w) → token_text (number
 unfolding numbered token_text leaf_text leaf_fits
 number-text w f = go (numeral w) refl f
   where
-    go : (t : Bool) → numeral w ≡ t → Fits (if t then one (number (value 0 w)) else bad) → token_text (if t then one (number (value 0 w)) else bad) ≡ w
+    go : (t : Bool) → numeral w ≡ t → Fits (when t then one (number (value 0 w)) else bad) → token_text (when t then one (number (value 0 w)) else bad) ≡ w
     go false e f = absurd f
     go true e f = numeral_back w e (ltb-true (value 0 w) 4294967296 f)
 
@@ -127,8 +127,8 @@ unfolding rung_token token_text leaf_text rung_text
 rung-text w f = go (among w rung_words) (numeral w) (leb 6 (value 0 w)) (leb (value 0 w) 15) refl refl refl refl f
   where
     go : (s t x y : Bool) → among w rung_words ≡ s → numeral w ≡ t → leb 6 (value 0 w) ≡ x → leb (value 0 w) 15 ≡ y
-        → Fits (if s then one (rung (place w rung_words)) else if t && x && y then one (rung (value 0 w)) else bad)
-        → token_text (if s then one (rung (place w rung_words)) else if t && x && y then one (rung (value 0 w)) else bad) ≡ 39 ∷ w
+        → Fits (when s then one (rung (place w rung_words)) else when t && x && y then one (rung (value 0 w)) else bad)
+        → token_text (when s then one (rung (place w rung_words)) else when t && x && y then one (rung (value 0 w)) else bad) ≡ 39 ∷ w
     go true t x y e f g h k =
         let r = place_back w rung_words e in
         rw (lt-ltb (place w rung_words) 6 (subst (λ (n : ℕ). place w rung_words < n) six r.1))
@@ -156,10 +156,10 @@ plain-text (b ∷ w) p f =
     go (eqb b 40) (eqb b 41) (eqb b 64) (eqb b 35) (eqb b 39) (digit b) (good_word (b ∷ w)) n.0 n.1 refl refl refl f
   where
     go : (i j r s t d g : Bool) → i ≡ false → j ≡ false → eqb b 64 ≡ r → eqb b 35 ≡ s → eqb b 39 ≡ t
-        → Fits (if i then opening else if j then closing else if r then numbered point w else if s then numbered prim w
-        else if t then rung_token w else if d then numbered number (b ∷ w) else if g then one (word (b ∷ w)) else bad)
-        → token_text (if i then opening else if j then closing else if r then numbered point w else if s then numbered prim w
-        else if t then rung_token w else if d then numbered number (b ∷ w) else if g then one (word (b ∷ w)) else bad) ≡ b ∷ w
+        → Fits (when i then opening else when j then closing else when r then numbered point w else when s then numbered prim w
+        else when t then rung_token w else when d then numbered number (b ∷ w) else when g then one (word (b ∷ w)) else bad)
+        → token_text (when i then opening else when j then closing else when r then numbered point w else when s then numbered prim w
+        else when t then rung_token w else when d then numbered number (b ∷ w) else when g then one (word (b ∷ w)) else bad) ≡ b ∷ w
     go true j r s t d g e₁ e₂ e₃ e₄ e₅ f = absurd (false≢true (sym e₁))
     go false true r s t d g e₁ e₂ e₃ e₄ e₅ f = absurd (false≢true (sym e₂))
     go false false true s t d g e₁ e₂ e₃ e₄ e₅ f = point-text w f ∙ ap (λ (z : ℕ). z ∷ w) (sym (eqb-true b 64 e₃))

@@ -7,7 +7,7 @@ use mathlib.Core.Bool.{Bool, true, false, ◌||◌, false≢true}
 use mathlib.Core.List.{List, [], ◌∷◌, ◌++◌}
 use lib.Dec.{eqb}
 use lib.ListN.{length, get_or}
-use Rattle.model.specs.Choice.{if◌then◌else◌}
+use Rattle.model.specs.Choice.{when◌then◌else◌}
 use Rattle.model.specs.Reading.{same_bytes, among}
 use borrow.Author.Tests.{eqb-true, eq-eqb}
 use Rattle.requests.specs.Tokens.{Leaf, word, number, point, prim, rung, Token, opening, closing, bad, one, place}
@@ -36,7 +36,7 @@ place_back w [] e = absurd (false≢true e)
 place_back w (v ∷ l) e = go (same_bytes w v) refl e (place_back w l)
   where
     go : (t : Bool) → same_bytes w v ≡ t → (t || among w l) ≡ true → (among w l ≡ true → (get_or l (place w l) [] ≡ w) × (place w l < length l))
-        → (get_or (v ∷ l) (if t then 0 else suc (place w l)) [] ≡ w) × ((if t then 0 else suc (place w l)) < suc (length l))
+        → (get_or (v ∷ l) (when t then 0 else suc (place w l)) [] ≡ w) × ((when t then 0 else suc (place w l)) < suc (length l))
     go true p q below = (sym (same_eq w v p), suc-le-suc zero-le)
     go false p q below = ((below q).0, suc-le-suc (below q).1)
 
@@ -49,7 +49,7 @@ among-place w [] h = absurd (none h)
     none k = omega arith
 among-place w (v ∷ l) h = go (same_bytes w v) h (among-place w l)
   where
-    go : (t : Bool) → (if t then 0 else suc (place w l)) < suc (length l) → (place w l < length l → among w l ≡ true) → (t || among w l) ≡ true
+    go : (t : Bool) → (when t then 0 else suc (place w l)) < suc (length l) → (place w l < length l → among w l ≡ true) → (t || among w l) ≡ true
     go true k below = refl
     go false k below = below (omega arith)
 
@@ -58,7 +58,7 @@ unfolding among place
 not_among_place w [] h = refl
 not_among_place w (v ∷ l) h = go (same_bytes w v) h (not_among_place w l)
   where
-    go : (t : Bool) → suc (length l) ≤ (if t then 0 else suc (place w l)) → (length l ≤ place w l → among w l ≡ false) → (t || among w l) ≡ false
+    go : (t : Bool) → suc (length l) ≤ (when t then 0 else suc (place w l)) → (length l ≤ place w l → among w l ≡ false) → (t || among w l) ≡ false
     go true k below = absurd (none k)
       where
         none : suc (length l) ≤ 0 → ⊥
@@ -74,8 +74,8 @@ place-first w [] b h = absurd (none h)
     none k = omega arith
 place-first w (v ∷ a) b h = go (same_bytes w v) h (place-first w a b)
   where
-    go : (t : Bool) → (if t then 0 else suc (place w a)) < suc (length a) → (place w a < length a → place w (a ++ b) ≡ place w a)
-        → (if t then 0 else suc (place w (a ++ b))) ≡ (if t then 0 else suc (place w a))
+    go : (t : Bool) → (when t then 0 else suc (place w a)) < suc (length a) → (place w a < length a → place w (a ++ b) ≡ place w a)
+        → (when t then 0 else suc (place w (a ++ b))) ≡ (when t then 0 else suc (place w a))
     go true k below = refl
     go false k below = ap suc (below (omega arith))
 
@@ -84,8 +84,8 @@ unfolding place
 place-second w [] b h = omega arith
 place-second w (v ∷ a) b h = go (same_bytes w v) h (place-second w a b)
   where
-    go : (t : Bool) → suc (length a) ≤ (if t then 0 else suc (place w a)) → (length a ≤ place w a → place w (a ++ b) ≡ length a + place w b)
-        → (if t then 0 else suc (place w (a ++ b))) ≡ suc (length a) + place w b
+    go : (t : Bool) → suc (length a) ≤ (when t then 0 else suc (place w a)) → (length a ≤ place w a → place w (a ++ b) ≡ length a + place w b)
+        → (when t then 0 else suc (place w (a ++ b))) ≡ suc (length a) + place w b
     go true k below = absurd (none k)
       where
         none : suc (length a) ≤ 0 → ⊥
@@ -97,7 +97,7 @@ unfolding place
 place-most w [] = omega arith
 place-most w (v ∷ l) = go (same_bytes w v) (place-most w l)
   where
-    go : (t : Bool) → place w l ≤ length l → (if t then 0 else suc (place w l)) ≤ suc (length l)
+    go : (t : Bool) → place w l ≤ length l → (when t then 0 else suc (place w l)) ≤ suc (length l)
     go true h = omega arith
     go false h = omega arith
 
@@ -179,7 +179,7 @@ unfolding met
 met_covers [] seen all h k = tt
 met_covers (one (word w) ∷ ts) seen all h k = go (among w seen) refl k (met_covers ts seen all h) (met_covers ts (w ∷ seen) all)
   where
-    go : (t : Bool) → among w seen ≡ t → Into (if t then met seen ts else w ∷ met (w ∷ seen) ts) all
+    go : (t : Bool) → among w seen ≡ t → Into (when t then met seen ts else w ∷ met (w ∷ seen) ts) all
         → (Into (met seen ts) all → Covered all ts)
         → (Into (w ∷ seen) all → Into (met (w ∷ seen) ts) all → Covered all ts)
         → (among w all ≡ true) × Covered all ts
@@ -204,14 +204,14 @@ covered_by_met core ts =
 -- how many of l are not among those seen
 unfoldable fresh : List (List ℕ) → List (List ℕ) → ℕ
 fresh seen [] = 0
-fresh seen (v ∷ l) = if among v seen then fresh seen l else suc (fresh seen l)
+fresh seen (v ∷ l) = when among v seen then fresh seen l else suc (fresh seen l)
 
 fresh_le : (seen l : List (List ℕ)) → fresh seen l ≤ length l
 unfolding fresh
 fresh_le seen [] = zero-le
 fresh_le seen (v ∷ l) = go (among v seen) (fresh_le seen l)
   where
-    go : (t : Bool) → fresh seen l ≤ length l → (if t then fresh seen l else suc (fresh seen l)) ≤ suc (length l)
+    go : (t : Bool) → fresh seen l ≤ length l → (when t then fresh seen l else suc (fresh seen l)) ≤ suc (length l)
     go true h = omega arith
     go false h = omega arith
 
@@ -221,7 +221,7 @@ fresh_fewer w seen [] = zero-le
 fresh_fewer w seen (v ∷ l) = go (same_bytes v w) (among v seen) (fresh_fewer w seen l)
   where
     go : (s t : Bool) → fresh (w ∷ seen) l ≤ fresh seen l
-        → (if s || t then fresh (w ∷ seen) l else suc (fresh (w ∷ seen) l)) ≤ (if t then fresh seen l else suc (fresh seen l))
+        → (when s || t then fresh (w ∷ seen) l else suc (fresh (w ∷ seen) l)) ≤ (when t then fresh seen l else suc (fresh seen l))
     go true true h = h
     go true false h = omega arith
     go false true h = h
@@ -236,21 +236,21 @@ fresh_less w seen (v ∷ l) n e = go (same_bytes w v) refl e (fresh_less w seen 
     same_v p = subst (λ (z : List ℕ). (same_bytes z w ≡ true) × (among z seen ≡ false)) (same_eq w v p) (same_refl w, n)
 
     here : (s t : Bool) → s ≡ true → t ≡ false → fresh (w ∷ seen) l ≤ fresh seen l
-        → suc (if s || t then fresh (w ∷ seen) l else suc (fresh (w ∷ seen) l)) ≤ (if t then fresh seen l else suc (fresh seen l))
+        → suc (when s || t then fresh (w ∷ seen) l else suc (fresh (w ∷ seen) l)) ≤ (when t then fresh seen l else suc (fresh seen l))
     here true false p q h = suc-le-suc h
     here true true p q h = absurd (false≢true (sym q))
     here false t p q h = absurd (false≢true p)
 
     there : (s t : Bool) → suc (fresh (w ∷ seen) l) ≤ fresh seen l
-        → suc (if s || t then fresh (w ∷ seen) l else suc (fresh (w ∷ seen) l)) ≤ (if t then fresh seen l else suc (fresh seen l))
+        → suc (when s || t then fresh (w ∷ seen) l else suc (fresh (w ∷ seen) l)) ≤ (when t then fresh seen l else suc (fresh seen l))
     there true true h = h
     there true false h = omega arith
     there false true h = h
     there false false h = omega arith
 
     go : (t : Bool) → same_bytes w v ≡ t → (t || among w l) ≡ true → (among w l ≡ true → suc (fresh (w ∷ seen) l) ≤ fresh seen l)
-        → suc (if same_bytes v w || among v seen then fresh (w ∷ seen) l else suc (fresh (w ∷ seen) l))
-        ≤ (if among v seen then fresh seen l else suc (fresh seen l))
+        → suc (when same_bytes v w || among v seen then fresh (w ∷ seen) l else suc (fresh (w ∷ seen) l))
+        ≤ (when among v seen then fresh seen l else suc (fresh seen l))
     go true p q below = here (same_bytes v w) (among v seen) (same_v p).0 (same_v p).1 (fresh_fewer w seen l)
     go false p q below = there (same_bytes v w) (among v seen) (below q)
 
@@ -273,7 +273,7 @@ met-few (one (word w) ∷ ts) all seen ws c h =
     go (among w seen) refl (met-few ts all seen ws c.1 h) (met-few ts all (w ∷ seen) ws c.1 (left-cons w all seen ws h))
   where
     go : (t : Bool) → among w seen ≡ t → length (met seen ts) ≤ fresh seen ws → length (met (w ∷ seen) ts) ≤ fresh (w ∷ seen) ws
-        → length (if t then met seen ts else w ∷ met (w ∷ seen) ts) ≤ fresh seen ws
+        → length (when t then met seen ts else w ∷ met (w ∷ seen) ts) ≤ fresh seen ws
     go true p f g = f
     go false p f g = le_trans (suc-le-suc g) (fresh_less w seen ws p (h w c.0 p))
 met-few (one (number n) ∷ ts) all seen ws c h = met-few ts all seen ws c.1 h

@@ -2,7 +2,7 @@
 -- to the definitions.
 use Rattle.std.specs.Prelude.{ℕ, zero, suc, ◌+◌, ◌-◌, Bool, true, false, ◌&&◌, ◌||◌, List, [], ◌∷◌, ◌++◌, eqb, ltb, leb, length}
 use Rattle.std.proofs.Math.Option.{Option, none, some}
-use Rattle.model.specs.Choice.{if◌then◌else◌}
+use Rattle.model.specs.Choice.{when◌then◌else◌}
 use Rattle.model.specs.Limits.{most_names, core_names, most_nesting}
 use Rattle.model.specs.Refusals.{over_limit}
 use Rattle.model.specs.Objects.{no_sets, atom}
@@ -60,7 +60,7 @@ passes_bytes ts =
 unfoldable pub after_faults : Option TextRefusal → List Token → ℕ → TextEnding
 unfolding passes_within fitted passes_bytes
 after_faults (some r) ts room = refused r
-after_faults none ts room = if passes_within ts then fitted room (passes_bytes ts) else refused (base over_limit)
+after_faults none ts room = when passes_within ts then fitted room (passes_bytes ts) else refused (base over_limit)
 
 unfoldable pub read_passes : List Token → ℕ → TextEnding
 unfolding after_faults judged
@@ -87,15 +87,15 @@ ending b = space b || paren b || eqb b 59
 unfoldable pub run : List ℕ → List ℕ
 unfolding ending
 run [] = []
-run (b ∷ s) = if ending b then [] else b ∷ run s
+run (b ∷ s) = when ending b then [] else b ∷ run s
 
 unfoldable pub after_run : List ℕ → List ℕ
 unfolding ending
 after_run [] = []
-after_run (b ∷ s) = if ending b then b ∷ s else after_run s
+after_run (b ∷ s) = when ending b then b ∷ s else after_run s
 
 -- what comes after a comment
 unfoldable pub after_line : List ℕ → List ℕ
 unfolding line_end
 after_line [] = []
-after_line (b ∷ s) = if line_end b then s else after_line s
+after_line (b ∷ s) = when line_end b then s else after_line s

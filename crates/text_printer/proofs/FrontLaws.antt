@@ -7,7 +7,7 @@ use native.Mathlib.Omega.{arith}
 use lib.Dec.{ltb, leb, eqb}
 use lib.ListN.{length, take, drop, get_or, length-drop, drop_of_length-le}
 use borrow.Author.Tests.{lt-ltb, le-ltb, ltb-true, ltb-false, leb-true}
-use Rattle.model.specs.Choice.{if◌then◌else◌}
+use Rattle.model.specs.Choice.{when◌then◌else◌}
 use Rattle.model.specs.Refusals.{layout, over_limit}
 use Rattle.model.specs.Objects.{Sets, count}
 use Rattle.model.specs.Reading.{Read, got, fault, need, give, ◌>>◌, byte, groups, num, read_members, read_set}
@@ -184,7 +184,7 @@ groups-after zero w n v (b ∷ s) rest e =
     after_last b s (omega arith) ∙ p.1 ∙ q.1 ∙ got-rest (n + b * w) v f.1 rest f.3
 groups-after (suc k) w n v (b ∷ s) rest e = go (ltb b 128) refl e (λ x. groups-after k (w * 128) (n + (b - 128) * w) v s rest x)
   where
-    go : (t : Bool) → ltb b 128 ≡ t → (if t then (need layout (not (eqb b 0)) >> give (n + b * w)) else groups k (w * 128) (n + (b - 128) * w)) s ≡ got v rest
+    go : (t : Bool) → ltb b 128 ≡ t → (when t then (need layout (not (eqb b 0)) >> give (n + b * w)) else groups k (w * 128) (n + (b - 128) * w)) s ≡ got v rest
         → (groups k (w * 128) (n + (b - 128) * w) s ≡ got v rest → after_number s ≡ rest) → after_number (b ∷ s) ≡ rest
     go true i x h =
         let f = next-got (need layout (not (eqb b 0)) s) _ v rest x in
@@ -197,7 +197,7 @@ unfolding num byte
 num-after v [] rest e = absurd (fault≢got layout v rest e)
 num-after v (b ∷ s) rest e = go (ltb b 128) refl e (λ x. groups-after 3 128 (b - 128) v s rest x)
   where
-    go : (t : Bool) → ltb b 128 ≡ t → (if t then give b else groups 3 128 (b - 128)) s ≡ got v rest → (groups 3 128 (b - 128) s ≡ got v rest → after_number s ≡ rest)
+    go : (t : Bool) → ltb b 128 ≡ t → (when t then give b else groups 3 128 (b - 128)) s ≡ got v rest → (groups 3 128 (b - 128) s ≡ got v rest → after_number s ≡ rest)
         → after_number (b ∷ s) ≡ rest
     go true i x h = after_last b s (ltb-true b 128 i) ∙ got-rest b v s rest x
     go false i x h = after_on b s (ltb-false b 128 i) ∙ h x

@@ -1,6 +1,6 @@
 -- Numbers and sets passed over, as functions of the bytes: what they leave.
 use Rattle.std.specs.Prelude.{ℕ, zero, suc, ◌≤◌, ◌≡◌, List, [], ◌∷◌, ltb, length, drop}
-use Rattle.model.specs.Choice.{if◌then◌else◌}
+use Rattle.model.specs.Choice.{when◌then◌else◌}
 use Rattle.model.specs.Reading.{Read, got, fault, num}
 use Rattle.numbers.specs.Limits.{most_image}
 use Rattle.text_printer.specs.declared.fronts.Front.{Front}
@@ -11,7 +11,7 @@ value_of (fault r) = 0
 
 unfoldable pub after_number : List ℕ → List ℕ
 after_number [] = []
-after_number (b ∷ s) = if ltb b 128 then s else after_number s
+after_number (b ∷ s) = when ltb b 128 then s else after_number s
 
 unfoldable pub after_numbers : ℕ → List ℕ → List ℕ
 unfolding after_number

@@ -6,7 +6,7 @@ use mathlib.Core.List.{List, [], ◌∷◌, ◌++◌}
 use native.Mathlib.Omega.{arith}
 use native.Mathlib.Numerals.{add-one}
 use lib.ListN.{length, drop, length-append}
-use Rattle.model.specs.Choice.{if◌then◌else◌}
+use Rattle.model.specs.Choice.{when◌then◌else◌}
 use Rattle.model.specs.Objects.{tag_of, content_of, no_sets, atom}
 use Rattle.model.specs.Writing.{stx_bytes}
 use Rattle.laws.proofs.Tests.{and_both}
@@ -40,11 +40,11 @@ directly-none count (suc d) n = omega arith
 module _ {count depth : ℕ} {p : pieces.Piece} {b : Bool} (q : b ≡ is_bad p) where
   pub count-bad : b ≡ true → Counts count depth p count
   count-bad e =
-      let z : (if is_bad p then 0 else directly depth) ≡ 0 = ap (λ (t : Bool). if t then 0 else directly depth) (sym q ∙ e) in
+      let z : (when is_bad p then 0 else directly depth) ≡ 0 = ap (λ (t : Bool). when t then 0 else directly depth) (sym q ∙ e) in
       record { is = omega arith }
 
   pub count-leaf : {r : ℕ} → b ≡ false → r ≡ count + directly depth → Counts count depth p r
-  count-leaf e h = record { is = h ∙ ap (λ (t : Bool). count + (if t then 0 else directly depth)) (sym (sym q ∙ e)) }
+  count-leaf e h = record { is = h ∙ ap (λ (t : Bool). count + (when t then 0 else directly depth)) (sym (sym q ∙ e)) }
 
 pub ruleset count_laws = (directly-one, directly-none, count-bad, count-leaf)
 
@@ -141,11 +141,11 @@ module _ {text : List ℕ} {at here depth count : ℕ} (j : Counting text at her
         let y = a.goes.onward in
         on a.goes (omega arith) (few (is_bad p) q.is) (go (is_bad p) refl q.is)
       where
-        few : (t : Bool) → c ≡ count + (if t then 0 else directly depth) → c ≤ 65537
+        few : (t : Bool) → c ≡ count + (when t then 0 else directly depth) → c ≤ 65537
         few true w = omega arith
         few false w = let d = at_most_one depth in omega arith
 
-        go : (t : Bool) → is_bad p ≡ t → c ≡ count + (if t then 0 else directly depth)
+        go : (t : Bool) → is_bad p ≡ t → c ≡ count + (when t then 0 else directly depth)
             → count + parts_left depth ((next-piece h e).token ∷ tokens (drop to text)) ≡ c + parts_left depth (tokens (drop to text))
         go true i w =
             let f = ap (λ (k : Token). parts_left depth (k ∷ tokens (drop to text))) (piece-bad (next-piece h e) i) ∙ parts-bad depth (tokens (drop to text)) in

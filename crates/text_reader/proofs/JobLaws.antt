@@ -6,7 +6,7 @@ use mathlib.Core.List.{List, [], ◌∷◌, ◌++◌, append_assoc}
 use mathlib.Core.Option.{none}
 use native.Mathlib.Omega.{arith}
 use lib.ListN.{length, replicate, length-replicate}
-use Rattle.model.specs.Choice.{if◌then◌else◌}
+use Rattle.model.specs.Choice.{when◌then◌else◌}
 use Rattle.model.specs.Limits.{core_names}
 use Rattle.model.specs.Refusals.{over_limit}
 use Rattle.model.specs.Reading.{core_words}
@@ -85,7 +85,7 @@ within-fits ts e = (and_both (all_fit ts) _ (and_both (all_fit ts && _) _ e).0).
 
 module _ (text out : List ℕ) (clean : judged 0 false (tokens text) ≡ none) where
   after : (b : Bool) → passes_within (tokens text) ≡ b
-      → read_ending text (length out) ≡ (if b then fitted (length out) (passes_bytes (tokens text)) else refused (base over_limit))
+      → read_ending text (length out) ≡ (when b then fitted (length out) (passes_bytes (tokens text)) else refused (base over_limit))
   unfolding read_passes after_faults
   after b e = read_as_passes text (length out) ∙ rw (clean, e)
 

@@ -8,7 +8,7 @@ use native.Mathlib.Omega.{arith}
 use native.Mathlib.Numerals.{add-one}
 use lib.ListN.{length, drop}
 use lib.Dec.{eqb}
-use Rattle.model.specs.Choice.{if◌then◌else◌}
+use Rattle.model.specs.Choice.{when◌then◌else◌}
 use Rattle.requests.specs.Tokens.{Leaf, Token, opening, closing, bad, one, tokens}
 use Rattle.requests.specs.FromText.{TextRefusal, bad_text, unless_second, at_last, judged}
 use Rattle.requests.specs.FromText as t
@@ -70,11 +70,11 @@ after-bad : (d : ℕ) (b : Bool) (ts : List Token) → judged d b (bad ∷ ts) �
 unfolding judged
 after-bad d b ts = refl
 
-after-opening : (d : ℕ) (b s : Bool) (ts : List Token) → (b && eqb d 0) ≡ s → judged d b (opening ∷ ts) ≡ (if s then some bad_text else judged (suc d) true ts)
+after-opening : (d : ℕ) (b s : Bool) (ts : List Token) → (b && eqb d 0) ≡ s → judged d b (opening ∷ ts) ≡ (when s then some bad_text else judged (suc d) true ts)
 unfolding judged unless_second
 after-opening d b s ts e = rw e
 
-after-leaf : (d : ℕ) (b s : Bool) (l : Leaf) (ts : List Token) → (b && eqb d 0) ≡ s → judged d b (one l ∷ ts) ≡ (if s then some bad_text else judged d true ts)
+after-leaf : (d : ℕ) (b s : Bool) (l : Leaf) (ts : List Token) → (b && eqb d 0) ≡ s → judged d b (one l ∷ ts) ≡ (when s then some bad_text else judged d true ts)
 unfolding judged unless_second
 after-leaf d b s l ts e = rw e
 
@@ -128,7 +128,7 @@ module _ {text : List ℕ} {at depth : ℕ} {begun : Bool} (j : Judging text at 
         record { is = stops a.goes bad_text (ap (λ (k : Token). judged depth begun (k ∷ tokens (drop to text))) (piece-bad a (sym w ∙ y)) ∙ after-bad depth begun (tokens (drop to text))); inside = j.within }
 
     module _ (good : b ≡ false) {s : Bool} (q : s ≡ (begun && eqb depth 0)) where
-      leaf-is : judged depth begun ((next-piece h e).token ∷ tokens (drop to text)) ≡ (if s then some bad_text else judged depth true (tokens (drop to text)))
+      leaf-is : judged depth begun ((next-piece h e).token ∷ tokens (drop to text)) ≡ (when s then some bad_text else judged depth true (tokens (drop to text)))
       leaf-is =
           let a = next-piece h e in
           let l = piece-leaf a (sym w ∙ good) in
@@ -136,13 +136,13 @@ module _ {text : List ℕ} {at depth : ℕ} {begun : Bool} (j : Judging text at 
 
       pub judge_second_leaf : s ≡ true → Judges text (Fault BadText at)
       judge_second_leaf y =
-          record { is = stops (next-piece h e).goes bad_text (leaf-is ∙ ap (λ (u : Bool). if u then some bad_text else judged depth true (tokens (drop to text))) y); inside = j.within }
+          record { is = stops (next-piece h e).goes bad_text (leaf-is ∙ ap (λ (u : Bool). when u then some bad_text else judged depth true (tokens (drop to text))) y); inside = j.within }
 
       pub judge_leaf : s ≡ false → Judging text to depth true
       judge_leaf y =
           let a = next-piece h e in
           let l = j.shallow in
           let m = a.goes.onward in
-          on a.goes depth true (omega arith) (leaf-is ∙ ap (λ (u : Bool). if u then some bad_text else judged depth true (tokens (drop to text))) y)
+          on a.goes depth true (omega arith) (leaf-is ∙ ap (λ (u : Bool). when u then some bad_text else judged depth true (tokens (drop to text))) y)
 
 pub ruleset judge_laws = (judging_start, judge_end, judge_second, judge_open, judge_unopened, judge_close, judge_bad, judge_second_leaf, judge_leaf, onward_laws)

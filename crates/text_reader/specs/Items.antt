@@ -1,6 +1,6 @@
 -- What the root of the image has for each token.
 use Rattle.std.specs.Prelude.{ℕ, zero, suc, ◌+◌, ◌≤◌, ◌<◌, ◌≡◌, List, [], ◌++◌, true, length, drop}
-use Rattle.model.specs.Choice.{if◌then◌else◌}
+use Rattle.model.specs.Choice.{when◌then◌else◌}
 use Rattle.model.specs.Objects.{no_sets}
 use Rattle.model.specs.Writing.{num_bytes, sets_bytes}
 use Rattle.requests.specs.Tokens.{tokens}
@@ -21,7 +21,7 @@ directly zero = 1
 directly (suc d) = 0
 
 pub record Counts (count depth : ℕ) (p : Piece) (r : ℕ) : Type 0 where
-  pub is : r ≡ count + (if is_bad p then 0 else directly depth)
+  pub is : r ≡ count + (when is_bad p then 0 else directly depth)
 
 -- the count, or one that is too large where it is
 pub record Parts (text : List ℕ) (at r : ℕ) : Type 0 where

@@ -7,7 +7,7 @@ use native.Mathlib.Omega.{arith}
 use lib.ListN.{length, get_or, take, drop}
 use lib.Dec.{eqb, leb}
 use borrow.Author.Tests.{ne_eqb, le-leb, lt-leb, lt-ltb, le-ltb}
-use Rattle.model.specs.Choice.{if◌then◌else◌}
+use Rattle.model.specs.Choice.{when◌then◌else◌}
 use Rattle.model.specs.Limits.{last_point, last_primitive, last_rung_word}
 use Rattle.model.specs.Objects.{tag_of, content_of}
 use Rattle.model.specs.Reading.{good_word, same_bytes, among}
@@ -171,7 +171,7 @@ six = refl
 free : (w : List ℕ) → Bool
 free w = numeral w && leb 6 (value 0 w) && leb (value 0 w) 15
 
-rung-free : (w : List ℕ) (t : Bool) → among w rung_words ≡ false → free w ≡ t → rung_token w ≡ (if t then one (rung (value 0 w)) else bad)
+rung-free : (w : List ℕ) (t : Bool) → among w rung_words ≡ false → free w ≡ t → rung_token w ≡ (when t then one (rung (value 0 w)) else bad)
 unfolding rung_token free
 rung-free w t e f = rw (e, f)
 
@@ -255,14 +255,14 @@ module _ (b : ℕ) (w : List ℕ) (p : paren b ≡ false) (x : b ≡ 64 → ⊥)
   unfolding token_of
   first-digit e = simp ((no-paren b p).0, (no-paren b p).1, ne_eqb b 64 x, ne_eqb b 35 y, ne_eqb b 39 z, e)
 
-  first_word : (t : Bool) → digit b ≡ false → good_word (b ∷ w) ≡ t → token_of (b ∷ w) ≡ (if t then one (word (b ∷ w)) else bad)
+  first_word : (t : Bool) → digit b ≡ false → good_word (b ∷ w) ≡ t → token_of (b ∷ w) ≡ (when t then one (word (b ∷ w)) else bad)
   unfolding token_of
   first_word t e g = go (eqb b 40) (eqb b 41) (eqb b 64) (eqb b 35) (eqb b 39) (digit b) (no-paren b p).0 (no-paren b p).1 (ne_eqb b 64 x) (ne_eqb b 35 y) (ne_eqb b 39 z) e
-      ∙ ap (λ (u : Bool). if u then one (word (b ∷ w)) else bad) g
+      ∙ ap (λ (u : Bool). when u then one (word (b ∷ w)) else bad) g
     where
       go : (i j k l m n : Bool) → i ≡ false → j ≡ false → k ≡ false → l ≡ false → m ≡ false → n ≡ false
-          → (if i then opening else if j then closing else if k then numbered point w else if l then numbered prim w else if m then rung_token w else if n then numbered number (b ∷ w) else if good_word (b ∷ w) then one (word (b ∷ w)) else bad)
-          ≡ (if good_word (b ∷ w) then one (word (b ∷ w)) else bad)
+          → (when i then opening else when j then closing else when k then numbered point w else when l then numbered prim w else when m then rung_token w else when n then numbered number (b ∷ w) else when good_word (b ∷ w) then one (word (b ∷ w)) else bad)
+          ≡ (when good_word (b ∷ w) then one (word (b ∷ w)) else bad)
       go i j k l m n e f g h o q = rw (e, f, g, h, o, q)
 
 pub piece-none : (w : List ℕ) → length w ≡ 0 → PieceIs w Bad
@@ -302,11 +302,11 @@ module _ {w : List ℕ} (n : length w ≡ 0 → ⊥) (x : get_or w 0 0 ≡ 64 �
       }
 
   module _ (e : d ≡ false) {g : Bool} (h : g ≡ good_word w) where
-    by_word : (t : Bool) (r : Piece) → ((v : List ℕ) → means (if t then one (word v) else bad) v r) → good_word w ≡ t → PieceIs w r
+    by_word : (t : Bool) (r : Piece) → ((v : List ℕ) → means (when t then one (word v) else bad) v r) → good_word w ≡ t → PieceIs w r
     by_word t r i u = go w n x y z q i u
       where
         go : (w : List ℕ) → (length w ≡ 0 → ⊥) → (get_or w 0 0 ≡ 64 → ⊥) → (get_or w 0 0 ≡ 35 → ⊥) → (get_or w 0 0 ≡ 39 → ⊥) → d ≡ digit (get_or w 0 0)
-            → ((v : List ℕ) → means (if t then one (word v) else bad) v r) → good_word w ≡ t → PieceIs w r
+            → ((v : List ℕ) → means (when t then one (word v) else bad) v r) → good_word w ≡ t → PieceIs w r
         go [] n x y z q i u = absurd (n refl)
         go (b ∷ w) n x y z q i u = record {
           is = λ p. record { is = subst (λ (k : Token). means k (b ∷ w) r) (sym (first_word b w p x y z t (sym q ∙ e) u)) (i (b ∷ w)) };

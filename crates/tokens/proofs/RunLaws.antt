@@ -7,7 +7,7 @@ use native.Mathlib.Omega.{arith}
 use native.Mathlib.Numerals.{add-one}
 use lib.ListN.{length, get_or, take, drop, drop_of_length-le, length-drop}
 use lib.Seq.{drop-cons, take-suc, drop-drop}
-use Rattle.model.specs.Choice.{if◌then◌else◌}
+use Rattle.model.specs.Choice.{when◌then◌else◌}
 use Rattle.requests.specs.Tokens.{space, line_end, tokens}
 use Rattle.text_laws.specs.Passes.{ending, run, after_run, after_line}
 use Rattle.text_laws.proofs.JobLaws.{after_blank, after-comment}
@@ -73,7 +73,7 @@ line_none : after_line [] ≡ []
 unfolding after_line
 line_none = refl
 
-line_on : (b : ℕ) (s : List ℕ) (t : Bool) → line_end b ≡ t → after_line (b ∷ s) ≡ (if t then s else after_line s)
+line_on : (b : ℕ) (s : List ℕ) (t : Bool) → line_end b ≡ t → after_line (b ∷ s) ≡ (when t then s else after_line s)
 unfolding after_line
 line_on b s t e = rw e
 

@@ -6,7 +6,7 @@ use mathlib.Core.List.{List, [], ◌∷◌, ◌++◌}
 use native.Mathlib.Omega.{arith}
 use lib.Dec.{eqb, ltb, leb}
 use lib.ListN.{length, set, length-append}
-use Rattle.model.specs.Choice.{if◌then◌else◌}
+use Rattle.model.specs.Choice.{when◌then◌else◌}
 use Rattle.model.specs.Refusals.{layout}
 use Rattle.model.specs.Reading as m
 use Rattle.model.specs.Reading.{Reader, got, next, need}
@@ -131,7 +131,7 @@ module _ (part : List ℕ → ℕ → Reader Given) (h : (table : List ℕ) (n :
   unfolding wire_by
   by-few table next n t s = go (eqb t.tag 2) (eqb t.content 5)
     where
-      go : (a b : Bool) → Few 0 s ((if a then wire_bit part table next t.content else if b then wire_programs (part table) next nothing (n - 1) else rung) s)
+      go : (a b : Bool) → Few 0 s ((when a then wire_bit part table next t.content else when b then wire_programs (part table) next nothing (n - 1) else rung) s)
       go true b = bit-few table next t.content s
       go false true = programs_few (part table) (h table) (n - 1) next nothing s
       go false false = k s

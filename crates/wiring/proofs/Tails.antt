@@ -6,7 +6,7 @@ use mathlib.Core.List.{List, [], ◌∷◌, ◌++◌}
 use native.Mathlib.Omega.{arith}
 use lib.Dec.{eqb, ltb}
 use lib.ListN.{length, length-append}
-use Rattle.model.specs.Choice.{if◌then◌else◌}
+use Rattle.model.specs.Choice.{when◌then◌else◌}
 use Rattle.model.specs.Refusals.{layout}
 use Rattle.model.specs.Reading as m
 use Rattle.model.specs.Reading.{Reader, got, need, num}
@@ -36,7 +36,7 @@ content_less tag kind s t rest e =
     let q : g.1 ≡ rest = got-rest (record { tag = tag; kind = kind; content = g.0 }) t g.1 rest g.3 in
     rw (← q) (num_less s g.0 g.1 g.2)
 
-behind_less : (tag : ℕ) (b : Bool) (s : List ℕ) (t : Token) (rest : List ℕ) → (if b then read_kind else read_content tag 0) s ≡ got t rest → length rest < length s
+behind_less : (tag : ℕ) (b : Bool) (s : List ℕ) (t : Token) (rest : List ℕ) → (when b then read_kind else read_content tag 0) s ≡ got t rest → length rest < length s
 unfolding read_kind
 behind_less tag true s t rest e =
     let g = next-got (num s) _ t rest e in
@@ -100,7 +100,7 @@ join-few : (j : ℕ) → length (join_word j) ≤ 1
 unfolding join_word
 join-few j = go (eqb j 0)
   where
-    go : (b : Bool) → length {A = ℕ} (if b then [] else (5 + j) * operands ∷ []) ≤ 1
+    go : (b : Bool) → length {A = ℕ} (when b then [] else (5 + j) * operands ∷ []) ≤ 1
     go true = omega arith
     go false = omega arith
 
@@ -134,7 +134,7 @@ module _ (part : ℕ → Reader (List ℕ)) (h : (j : ℕ) (s : List ℕ) → Fe
   unfolding wire_token
   token-few table j t s = go (eqb t.tag 1)
     where
-      go : (b : Bool) → Few 2 s ((if b then wire_application part j t.content else wire_contact table j t) s)
+      go : (b : Bool) → Few 2 s ((when b then wire_application part j t.content else wire_contact table j t) s)
       go true = application_few j t.content s
       go false = contact-few table j t s
 

@@ -8,7 +8,7 @@ use lib.Dec.{eqb}
 use lib.ListN.{length, get_or, set, length-append}
 use lib.Seq.{sets}
 use borrow.Author.Tests.{eq-eqb, ne_eqb}
-use Rattle.model.specs.Choice.{if◌then◌else◌}
+use Rattle.model.specs.Choice.{when◌then◌else◌}
 use Rattle.bits.specs.declared.Token.{Token}
 use Rattle.wiring.specs.Words.{operands, most_words, place_word, others_of, turn_of, join_word, ending_of}
 use Rattle.wiring.proofs.Runs.{sets_more}
@@ -53,7 +53,7 @@ pub turn_few : (n : ℕ) → length (turn_of n) ≤ 1
 unfolding turn_of
 turn_few n = go (eqb n 2)
   where
-    go : (b : Bool) → length {A = ℕ} (if b then 8192 ∷ [] else []) ≤ 1
+    go : (b : Bool) → length {A = ℕ} (when b then 8192 ∷ [] else []) ≤ 1
     go true = omega arith
     go false = omega arith
 

@@ -2,7 +2,7 @@
 -- the bits around, by their names. What is no program is read somehow, or not at all: the image has been checked.
 use Rattle.std.specs.Prelude.{ℕ, zero, suc, ◌+◌, ◌-◌, ◌*◌, ◌≤◌, ◌<◌, ◌≡◌, true, List, [], ◌∷◌, ◌++◌, map, eqb, ltb, leb, length, set, take, drop, replicate}
 use Rattle.std.proofs.lemmas.List.Edits.{sets}
-use Rattle.model.specs.Choice.{if◌then◌else◌}
+use Rattle.model.specs.Choice.{when◌then◌else◌}
 use Rattle.model.specs.Limits.{most_nesting}
 use Rattle.model.specs.Refusals.{layout}
 use Rattle.model.specs.Trees.{Tree}
@@ -52,7 +52,7 @@ wire_contact table j t = do
 
 unfoldable pub wire_token : (ℕ → Reader (List ℕ)) → List ℕ → ℕ → Token → Reader (List ℕ)
 unfolding wire_application wire_contact
-wire_token part table j t = if eqb t.tag 1 then wire_application part j t.content else wire_contact table j t
+wire_token part table j t = when eqb t.tag 1 then wire_application part j t.content else wire_contact table j t
 
 -- an expression where l levels are left
 unfoldable pub wire_tree : List ℕ → ℕ → ℕ → Reader (List ℕ)
@@ -116,8 +116,8 @@ wire_programs part next before (suc n) = do
 unfoldable pub wire_by : (List ℕ → ℕ → Reader Given) → Reader Given → List ℕ → ℕ → ℕ → Token → Reader Given
 unfolding wire_bit wire_programs
 wire_by part rung table next n h =
-    if eqb h.tag 2 then wire_bit part table next h.content
-    else if eqb h.content 5 then wire_programs (part table) next nothing (n - 1)
+    when eqb h.tag 2 then wire_bit part table next h.content
+    else when eqb h.content 5 then wire_programs (part table) next nothing (n - 1)
     else rung
 
 unfoldable pub wire_head : (List ℕ → ℕ → Reader Given) → Reader Given → List ℕ → ℕ → ℕ → Reader Given

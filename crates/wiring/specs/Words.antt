@@ -1,6 +1,6 @@
 -- The words of the code, as the code makes them of tokens.
 use Rattle.std.specs.Prelude.{ℕ, ◌+◌, ◌*◌, List, [], ◌∷◌, ◌++◌, eqb, get_or}
-use Rattle.model.specs.Choice.{if◌then◌else◌}
+use Rattle.model.specs.Choice.{when◌then◌else◌}
 use Rattle.bits.specs.declared.Token.{Token}
 
 abbrev pub operands : ℕ
@@ -18,16 +18,16 @@ most_what = 10
 
 -- a point, or a bit by the address that the table has for its name
 unfoldable pub place_word : List ℕ → ℕ → ℕ → Token → ℕ
-place_word table point bit t = if eqb t.tag 0 then bit * operands + get_or table t.content 0 else point * operands + t.content
+place_word table point bit t = when eqb t.tag 0 then bit * operands + get_or table t.content 0 else point * operands + t.content
 
 unfoldable pub others_of : ℕ → ℕ
-others_of rung = if eqb rung 0 then 1 else 2
+others_of rung = when eqb rung 0 then 1 else 2
 
 unfoldable pub turn_of : ℕ → List ℕ
-turn_of rung = if eqb rung 2 then 8192 ∷ [] else []
+turn_of rung = when eqb rung 2 then 8192 ∷ [] else []
 
 unfoldable pub join_word : ℕ → List ℕ
-join_word join = if eqb join 0 then [] else (5 + join) * operands ∷ []
+join_word join = when eqb join 0 then [] else (5 + join) * operands ∷ []
 
 -- behind the words of the parts
 unfoldable pub ending_of : ℕ → ℕ → List ℕ
