@@ -9,7 +9,7 @@ use Rattle.model.specs.Jobs.{Result, written, lent, budget_fits, expand_job, par
 use Rattle.addresses.specs.Charge.{parse_charge}
 use Rattle.addresses.specs.OneNameOneAddress.{image_written, OneNameOneAddress}
 use Rattle.addresses.proofs.Condition3.{one_name_one_address}
-use Rattle.proof_bench.specs.Contracts.{Call, Meets, Expanding, Working, MeetsExpand, MeetsParse, MeetsEvaluate}
+use Rattle.proof_bench.specs.Meeting.{Call, Meets, Expanding, Working, MeetsExpand, MeetsParse, MeetsEvaluate}
 use Rattle.proof_bench.specs.Shams.{Condition3Of}
 use Rattle.proof_bench.proofs.Uniqueness.{one-result}
 use Rattle.proof_bench.proofs.Samples.{identity, words, room, expanded, identity_code, identity_call}

@@ -19,7 +19,7 @@ use Rattle.model.specs.Evaluating.{Expander, Evaluator, eval_entry}
 use Rattle.model.specs.Jobs.{Result, lent, at_phase, with_image, start, worked, fitted, reached, expand_root, expand_ending, expand_job}
 use Rattle.codec_laws.proofs.NumberTrip.{fault≢got}
 use Rattle.addresses.specs.OneNameOneAddress.{image_written}
-use Rattle.proof_bench.specs.Contracts.{Expanding, MeetsExpand}
+use Rattle.proof_bench.specs.Meeting.{Expanding, MeetsExpand}
 use Rattle.proof_bench.specs.Rules.{ruled_form, ruled_entry, ruled_evaluate, ruled_expand, ruled_root, ruled_ending, ruled, right_rules, copies_others, copies_paid, stale_names, bare_bodies, own_identifiers}
 use Rattle.proof_bench.specs.Shams.{WritesCopies, Condition3Of}
 use Rattle.proof_bench.proofs.Samples.{identity, applied, doubled, nested, words, room, expanded, identity_code, identity_image, applied_units, doubled_code, doubled_units, doubled_length, nested_length, identity_call, applied_call, doubled_call, nested_call, as_defined, code_is, image-is, units-are}

@@ -8,7 +8,7 @@ use Rattle.model.specs.Jobs.{Result, expand_job}
 use Rattle.codec_laws.specs.WellFormed.{Bytes}
 use Rattle.codec_laws.proofs.Sequence.{all_bytes, all-bytes}
 use Rattle.addresses.specs.OneNameOneAddress.{image_written}
-use Rattle.proof_bench.specs.Contracts.{Words, Call, Expanding, MeetsExpand}
+use Rattle.proof_bench.specs.Meeting.{Words, Call, Expanding, MeetsExpand}
 use Rattle.proof_bench.proofs.Uniqueness.{one-result}
 
 -- the number 7

@@ -10,7 +10,7 @@ use Rattle.model.specs.Competing.{no_rivals}
 use Rattle.model.specs.Jobs.{refused, written, answer_of, output_after, Result, lent}
 use Rattle.addresses.specs.OneNameOneAddress.{image_written}
 use Rattle.addresses.proofs.Endings.{lent_cases, take_whole}
-use Rattle.proof_bench.specs.Contracts.{Call, Expanding, MeetsExpand}
+use Rattle.proof_bench.specs.Meeting.{Call, Expanding, MeetsExpand}
 use Rattle.proof_bench.specs.Shams.{RefusesAll, GivesOnly, ReturnsInput, refuser, fixed_tree, returner, UnitsAtBudget, UnitsInvented, Condition3Of}
 use Rattle.proof_bench.proofs.Samples.{seven, identity, words, room, expanded, seven_code, seven_units, seven_image, identity_code, identity_units, identity_image, seven_call, identity_call, code_is, image-is, units-are}
 

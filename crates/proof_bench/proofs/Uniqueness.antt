@@ -3,7 +3,7 @@ use mathlib.Core.Path.{◌≡◌, sym, ◌∙◌, ap}
 use Prim.Native.Nat.{ℕ}
 use mathlib.Core.List.{List, []}
 use Rattle.model.specs.Jobs.{Answer, Result}
-use Rattle.proof_bench.specs.Contracts.{Call, Meets, Resolver, Expanding, Working, MeetsResolve, MeetsExpand, MeetsParse, MeetsEvaluate}
+use Rattle.proof_bench.specs.Meeting.{Call, Meets, Resolver, Expanding, Working, MeetsResolve, MeetsExpand, MeetsParse, MeetsEvaluate}
 
 -- on a single input: two results that are the expected one are the same
 pub one-result : (expected a b : Result) → Meets expected a → Meets expected b → a ≡ b

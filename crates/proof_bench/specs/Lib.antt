@@ -1,3 +1,3 @@
-pub mod Contracts
+pub mod Meeting
 pub mod Rules
 pub mod Shams

@@ -12,7 +12,7 @@ use Rattle.model.specs.Steps.{Units, Entries, Step, ok, done, refuse, charge, ma
 use Rattle.model.specs.Evaluating.{Expander, Evaluator, eval_entry}
 use Rattle.model.specs.Expanding.{head_meaning, expand_name, Binder, bind_fresh, of_body, expand_all, expand_syntax, expand_let_syntax, expand_macro}
 use Rattle.model.specs.Jobs.{Ending, lent, at_phase, with_image, start, worked, fitted, reached}
-use Rattle.proof_bench.specs.Contracts.{Expanding}
+use Rattle.proof_bench.specs.Meeting.{Expanding}
 
 pub record Rules : Type 0 where
   -- a fresh name and scope for lambda's binder

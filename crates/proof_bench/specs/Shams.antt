@@ -4,7 +4,7 @@ use Rattle.model.specs.Refusals.{no_rule}
 use Rattle.model.specs.Competing.{no_rivals}
 use Rattle.model.specs.Jobs.{refused, written, lent}
 use Rattle.addresses.specs.OneNameOneAddress.{image_written, OneNameOneAddress}
-use Rattle.proof_bench.specs.Contracts.{Call, Expanding}
+use Rattle.proof_bench.specs.Meeting.{Call, Expanding}
 use Rattle.proof_bench.specs.Rules.{ruled, copies_others}
 
 -- 1. refuses all
