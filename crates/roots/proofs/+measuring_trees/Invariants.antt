@@ -1,9 +1,4 @@
-use Rattle.std.proofs.Common.{◌≡◌, ◌&&◌, ℕ, ◌+◌, ◌≤◌, length, replicate, ◌-◌, ◌*◌, ◌<◌}
-use Rattle.numbers.specs.Answers.{number_at}
-use Rattle.roots.specs.Measuring.{tree_at, nothing, one_more, joined, measure_variable, measure_atom, measure_object, measure_several, measure_all, measure_function, measure_body, measure_tree, whole_syntax, whole_tree}
-use Rattle.numbers.specs.Limits.{most_image}
-use Rattle.head.specs.Fronts.{most_names}
-use Rattle.scopes.specs.Sets.{set_scopes}
+use Rattle.std.proofs.Common.{◌+◌, ◌-◌, ◌*◌}
 use Rattle.roots.proofs.+measuring_trees.Given as goal
 use Rattle.roots.proofs.Trees.{All}
 
@@ -25,6 +20,5 @@ decreases-measure_tree l = 4 * l.levels
 abbrev pub invariant-measure_all-loop-left : goal.invariant-measure_all-loop-left
 invariant-measure_all-loop-left l = All l.c.at l.counts l.levels l.low l.s l.initial.around l.count l.around l.here.at l.left l.size l.owned
 
--- proposed from the loop's first test
 abbrev pub decreases-measure_all-loop-left : goal.decreases-measure_all-loop-left
 decreases-measure_all-loop-left l = l.left

@@ -1,8 +1,4 @@
-use Rattle.std.proofs.Common.{◌≡◌, ℕ, ◌+◌, ◌≤◌, length, ◌-◌, ◌*◌, ◌<◌}
-use Rattle.numbers.specs.Answers.{number_at}
-use Rattle.roots.specs.MeasuredObjects.{read_content_of, read_top, measure_stx, measure_list, measure_parts}
-use Rattle.numbers.specs.Limits.{most_image}
-use Rattle.scopes.specs.Sets.{set_scopes}
+use Rattle.std.proofs.Common.{◌+◌, ◌-◌, ◌*◌}
 use Rattle.roots.proofs.objects.+measuring_objects.Given as goal
 use Rattle.roots.proofs.ObjectLaws.{Parts}
 
@@ -18,6 +14,5 @@ decreases-measure_parts l = 3 * l.levels + 1
 abbrev pub invariant-measure_parts-loop-left : goal.invariant-measure_parts-loop-left
 invariant-measure_parts-loop-left l = Parts l.c.at l.symbols l.scopes l.levels l.s l.count l.here.at l.left l.sum
 
--- proposed from the loop's first test
 abbrev pub decreases-measure_parts-loop-left : goal.decreases-measure_parts-loop-left
 decreases-measure_parts-loop-left l = l.left
