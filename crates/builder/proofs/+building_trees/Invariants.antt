@@ -1,9 +1,5 @@
-use Rattle.std.proofs.Common.{◌+◌, ◌≡◌, ℕ, ◌-◌, ◌*◌, ◌<◌, ◌≤◌, length}
-use Rattle.builder.specs.Reads.{ObjectRead, ObjectsRead, TreeRead, TreesRead, AtomRead, FunctionRead, ListRead}
-use Rattle.builder.specs.Fronts.{NumberHere, NumberRead, FrontHere, FrontRead}
-use Rattle.builder.specs.Building.{Judged, JudgedAll, Builds, BuildsAll, StoredLeaf}
-use Rattle.things.specs.Making.{Roomy}
-use Rattle.table.specs.Sizes.{node_size}
+use Rattle.std.proofs.Common.{◌+◌, ◌-◌, ◌*◌, length}
+use Rattle.builder.specs.Reads.{TreesRead}
 use Rattle.builder.proofs.+building_trees.Given as goal
 use Rattle.builder.proofs.ChainLaws.{Going}
 
@@ -22,6 +18,5 @@ decreases-trees l = (length l.image.now - l.at) * 3 + 1
 abbrev pub invariant-trees-loop-left : goal.invariant-trees-loop-left
 invariant-trees-loop-left l = Going (TreesRead l.scopes) l.count l.initial.table l.top l.image l.at l.table l.end l.past l.left l.turned
 
--- proposed from the loop's first test
 abbrev pub decreases-trees-loop-left : goal.decreases-trees-loop-left
 decreases-trees-loop-left l = l.left

@@ -1,5 +1,4 @@
-use Rattle.std.proofs.Common.{◌≡◌, ℕ, ◌+◌, ◌-◌, ◌*◌, ◌<◌, ◌≤◌, length}
-use Rattle.parse.specs.Parsing.{unpaid, ReadyToParse, ReadyParts, ReadyForm, ReadyChain, ReadyData, Parsed, ParsedEntry, ParsedName, ParsedList, ParsedForm, ParsedLambda, ParsedFunction, ParsedQuote, ParsedData, ParsedSyntax, ParsedApplication, ParsedParts}
+use Rattle.std.proofs.Common.{◌+◌, ◌-◌, ◌*◌}
 use Rattle.parse.proofs.+parsing.Given as goal
 use Rattle.parse.proofs.InTurn.{Going}
 
@@ -30,6 +29,5 @@ decreases-parts l = l.s.left * 8 + 2
 abbrev pub invariant-parts-loop-from : goal.invariant-parts-loop-from
 invariant-parts-loop-from l = Going l.entries l.phase l.store l.initial.table l.initial.t l.c l.table l.t l.from l.turned
 
--- proposed from the loop's first test
 abbrev pub decreases-parts-loop-from : goal.decreases-parts-loop-from
 decreases-parts-loop-from l = l.from

@@ -1,0 +1,5 @@
+use Rattle.std.proofs.Common.{◌-◌}
+use Rattle.environment.proofs.+lookup.Given as goal
+
+abbrev pub decreases-lookup : goal.decreases-lookup
+decreases-lookup l = l.e
