@@ -7,13 +7,7 @@ use crate::{answers, limits};
 use jobs::evaluating;
 
 // The image of the value of a tree image.
-#[unsafe(no_mangle)]
-pub extern "C" fn meirhuppa_evaluate(
-    image: &[u8],
-    budget: u32,
-    table: &mut [u32],
-    out: &mut [u8],
-) -> Answer
+pub fn meirhuppa_evaluate(image: &[u8], budget: u32, table: &mut [u32], out: &mut [u8]) -> Answer
     ensures { Answered (evaluate_job image.now budget table.old out.old) result out.new table.new }
 {
     if limits::MOST_BUDGET < budget {

@@ -7,8 +7,7 @@ use crate::{answers, limits};
 use jobs::expanding;
 
 // A syntax image without macros, from one with macros, at a phase.
-#[unsafe(no_mangle)]
-pub extern "C" fn meirhuppa_expand(
+pub fn meirhuppa_expand(
     image: &[u8],
     phase: u32,
     budget: u32,

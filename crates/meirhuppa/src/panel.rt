@@ -6,8 +6,7 @@ use crate::answers::Answer;
 use panel_check::Listing;
 
 // The names of a program's bits in order of address, into `bits`. The length counts bytes, four for each.
-#[unsafe(no_mangle)]
-pub extern "C" fn meirhuppa_panel(image: &[u8], bits: &mut [u32]) -> Answer
+pub fn meirhuppa_panel(image: &[u8], bits: &mut [u32]) -> Answer
     ensures { PanelAnswered (panel_job image.now bits.old) result bits.new }
 {
     match panel_check::list_bits(image, bits) {

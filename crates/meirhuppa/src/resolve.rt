@@ -8,13 +8,7 @@ use crate::{answers, limits};
 use jobs::resolving;
 
 // The name of the image's root at a phase.
-#[unsafe(no_mangle)]
-pub extern "C" fn meirhuppa_resolve(
-    image: &[u8],
-    phase: u32,
-    budget: u32,
-    table: &mut [u32],
-) -> Answer
+pub fn meirhuppa_resolve(image: &[u8], phase: u32, budget: u32, table: &mut [u32]) -> Answer
     ensures { Answered (resolve_job image.now phase budget table.old) result [] table.new }
 {
     if limits::MOST_BUDGET < budget {

@@ -7,8 +7,7 @@ use scan_runner::job;
 use scan_runner::job::Printing;
 
 // A line for each scan of a recording, into `out`.
-#[unsafe(no_mangle)]
-pub extern "C" fn meirhuppa_scan(image: &[u8], recording: &[u8], out: &mut [u8]) -> Answer
+pub fn meirhuppa_scan(image: &[u8], recording: &[u8], out: &mut [u8]) -> Answer
     ensures { ScanAnswered (scan_job image.now recording.now out.old) result out.new }
 {
     match job::run_job(image, recording, out) {

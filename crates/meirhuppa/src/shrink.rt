@@ -7,8 +7,7 @@ use crate::answers::Answer;
 use shrinker::job;
 
 // The image without the bindings that no identifier of it uses and the scopes that then are in no set, into `out`.
-#[unsafe(no_mangle)]
-pub extern "C" fn meirhuppa_shrink(image: &[u8], out: &mut [u8]) -> Answer
+pub fn meirhuppa_shrink(image: &[u8], out: &mut [u8]) -> Answer
     ensures { ShrinkAnswered (shrink_job image.now out.old) result out.new }
 {
     let ending = job::shrink_image(image, out);

@@ -35,16 +35,14 @@ fn given_back(w: Written) -> Answer
 }
 
 // The syntax image of a text, with no scopes, into `out`.
-#[unsafe(no_mangle)]
-pub extern "C" fn meirhuppa_read(text: &[u8], out: &mut [u8]) -> Answer
+pub fn meirhuppa_read(text: &[u8], out: &mut [u8]) -> Answer
     ensures { TextAnswered (read_job text.now out.old) result out.new }
 {
     given_back(reading::read_text(text, out))
 }
 
 // The text of a syntax image, into `out`.
-#[unsafe(no_mangle)]
-pub extern "C" fn meirhuppa_print(image: &[u8], out: &mut [u8]) -> Answer
+pub fn meirhuppa_print(image: &[u8], out: &mut [u8]) -> Answer
     ensures { TextAnswered (print_job image.now out.old) result out.new }
 {
     given_back(printing::print_image(image, out))

@@ -33,8 +33,7 @@ fn refused(f: UsesRefusal) -> Answer
 }
 
 // The summary of a tree, into `summary`. The length counts bytes, four for each word.
-#[unsafe(no_mangle)]
-pub extern "C" fn meirhuppa_summary(image: &[u8], summary: &mut [u32]) -> Answer
+pub fn meirhuppa_summary(image: &[u8], summary: &mut [u32]) -> Answer
     ensures { SummaryAnswered (summary_job image.now summary.old) result summary.new }
 {
     match summaries::make(image, summary) {
@@ -51,8 +50,7 @@ pub extern "C" fn meirhuppa_summary(image: &[u8], summary: &mut [u32]) -> Answer
 }
 
 // A question to the summary of a tree.
-#[unsafe(no_mangle)]
-pub extern "C" fn meirhuppa_uses(image: &[u8], summary: &[u32], name: u32) -> Uses
+pub fn meirhuppa_uses(image: &[u8], summary: &[u32], name: u32) -> Uses
     ensures { UsesAnswered (uses_job image.now summary.now name) result }
 {
     match summaries::ask(image, summary, name) {
@@ -73,8 +71,7 @@ pub extern "C" fn meirhuppa_uses(image: &[u8], summary: &[u32], name: u32) -> Us
 }
 
 // The tree with another part at a place, into `out`; the summary is brought up to date.
-#[unsafe(no_mangle)]
-pub extern "C" fn meirhuppa_replace(
+pub fn meirhuppa_replace(
     image: &[u8],
     place: u32,
     part: &[u8],
