@@ -7,20 +7,24 @@ from pathlib import Path
 
 import calls
 
+# It ends as the program does that it runs.
 RT = """#!/bin/sh
-echo "rt $*" >> {folder}/calls
+name=${{PWD##*/}}
+echo "rt $* in $name" >> {folder}/calls
 echo "fn of a crate: proved"
 echo "rt: a crate proved" >&2
 [ ! -e {folder}/broken ] || exit 1
-shift
-mkdir -p target/bin
-for name in "$@"; do [ -e target/bin/$name ] || cp {programs}/$name target/bin/; done
+mkdir -p out
+cp {programs}/$name out/
+exit 3
 """
+PROGRAMS = ("expander", "text_image", "replay")
 CRATE = b"rt: a crate proved\n"
-FIRST = b"meirhuppa: proving and building the programs first, about ten minutes\n" + CRATE
-AGAIN = b"meirhuppa: a source is newer than the programs: proving and building them again, up to ten minutes\n" + CRATE
+FIRST = b"meirhuppa: proving and building the programs first, which takes long\n" + CRATE
+AGAIN = b"meirhuppa: a source is newer than the programs: proving and building them again\n" + CRATE
 LINE = b"code 0 units 367\n"
 TEXT = "examples/accident.text"
+BOTH = ["rt run in expander", "rt run in text_image"]
 TOOLS = "bash env cat head od tr sed find date touch mktemp rm dirname uname readlink paste cp mkdir tee grep".split()
 
 
@@ -36,8 +40,9 @@ class Copy:
         for part in ("meirhuppa", "run-built", "second/image.py", "crates.txt"):
             (self.root / part).parent.mkdir(exist_ok=True)
             shutil.copy(calls.path(part), self.root / part)
-        (self.root / "crates" / "expander" / "src").mkdir(parents=True)
-        (self.root / "crates" / "expander" / "src" / "main.rt").write_text("// a source\n")
+        for program in PROGRAMS:
+            (self.root / "crates" / program / "src").mkdir(parents=True)
+            (self.root / "crates" / program / "src" / "main.rt").write_text("// a source\n")
         self.set_tools()
 
     def set_tools(self):
@@ -69,16 +74,16 @@ class Copy:
 def first_run(copy):
     yield "nothing is built for a wrong call", copy.run("panel", TEXT, "more")[3] == []
     yield "nothing is built for a file that is not there", copy.run("panel", "none")[3] == []
-    yield "the first run says so, and builds", copy.run(TEXT) == (0, LINE, FIRST, ["rt check expander text_image"])
+    yield "the first run says so, and builds", copy.run(TEXT) == (0, LINE, FIRST + CRATE, BOTH)
     yield "the second run builds nothing", copy.run(TEXT) == (0, LINE, b"", [])
     status, out, said, asked = copy.run("panel", TEXT)
-    yield "a word builds what it needs", (status, asked) == (0, ["rt check replay text_image expander"]) and said.startswith(FIRST) and out != b""
+    yield "a word builds what it needs", (status, asked) == (0, ["rt run in replay"]) and said.startswith(FIRST) and out != b""
     yield "and only once", copy.run("panel", TEXT)[2:] == (said.removeprefix(FIRST), [])
 
 
 def newer_sources(copy):
     copy.age()
-    yield "a newer source is noticed", copy.run(TEXT) == (0, LINE, AGAIN, ["rt check expander text_image"])
+    yield "a newer source is noticed", copy.run(TEXT) == (0, LINE, AGAIN + CRATE, BOTH)
     yield "and once, though the programs are the same", copy.run(TEXT) == (0, LINE, b"", [])
     copy.age()
     (copy.folder / "broken").touch()
