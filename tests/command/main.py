@@ -18,7 +18,7 @@ import printing
 import where_used
 
 AT_ONCE = 3
-NOT_LOOKED_AT = {".git", "target"}
+NOT_LOOKED_AT = {".git", "target", "out"}
 
 
 def contents(folder):
