@@ -5,7 +5,7 @@ ghost use Rattle.model.specs.Jobs.{parse_ending, line_of, program, line_bytes};
 ghost use Rattle.expander.specs.Lines.{line_is, job_budget, Lent};
 ghost use Rattle.expander.specs.Bytes.{Printed};
 
-use meirhuppa::{expand, limits, parse};
+use meirhuppa::{expansion, limits, parsing};
 
 // Units of each job.
 pub const BUDGET: u32 = 400;
@@ -34,7 +34,7 @@ fn parsed(image: &[u8], before: u32, table: &mut [u32], tree: &mut [u8]) -> Line
     requires { (before ≤ job_budget) × Lent table.old tree.old }
     ensures { line_is result ≡ line_of before (parse_ending image.now program_budget most_image) }
 {
-    let p = parse::meirhuppa_parse(image, BUDGET, table, tree);
+    let p = parsing::meirhuppa_parse(image, BUDGET, table, tree);
     Line {
         code: p.code,
         units: before + p.units,
@@ -46,7 +46,7 @@ fn expanded(image: &[u8], table: &mut [u32], out: &mut [u8], tree: &mut [u8]) ->
     requires { Lent table.old out.old × Lent table.old tree.old }
     ensures { line_is result ≡ program image.now }
 {
-    let e = expand::meirhuppa_expand(image, 0, BUDGET, table, out);
+    let e = expansion::meirhuppa_expand(image, 0, BUDGET, table, out);
     let length = e.length as usize;
     if e.code == 0 {
         parsed(&out[..length], e.units, table, tree)

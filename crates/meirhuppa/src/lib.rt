@@ -3,10 +3,10 @@
 
 pub mod answers;
 pub mod evaluate;
-pub mod expand;
+pub mod expansion;
 pub mod limits;
 pub mod panel;
-pub mod parse;
+pub mod parsing;
 pub mod resolve;
 pub mod scan;
 pub mod shrink;

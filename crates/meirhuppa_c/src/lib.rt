@@ -19,7 +19,7 @@ ghost use Rattle.meirhuppa.specs.UsesJobs.{SummaryAnswered, UsesAnswered, Replac
 
 use meirhuppa::answers::Answer;
 use meirhuppa::uses_jobs::Uses;
-use meirhuppa::{evaluate, expand, panel, parse, resolve, scan, shrink, text_jobs, uses_jobs};
+use meirhuppa::{evaluate, expansion, panel, parsing, resolve, scan, shrink, text_jobs, uses_jobs};
 
 #[unsafe(no_mangle)]
 pub extern "C" fn meirhuppa_resolve(
@@ -43,7 +43,7 @@ pub extern "C" fn meirhuppa_expand(
 ) -> Answer
     ensures { Answered (expand_job image.now phase budget table.old out.old) result out.new table.new }
 {
-    expand::meirhuppa_expand(image, phase, budget, table, out)
+    expansion::meirhuppa_expand(image, phase, budget, table, out)
 }
 
 #[unsafe(no_mangle)]
@@ -55,7 +55,7 @@ pub extern "C" fn meirhuppa_parse(
 ) -> Answer
     ensures { Answered (parse_job image.now budget table.old out.old) result out.new table.new }
 {
-    parse::meirhuppa_parse(image, budget, table, out)
+    parsing::meirhuppa_parse(image, budget, table, out)
 }
 
 #[unsafe(no_mangle)]

@@ -8,20 +8,20 @@ ghost use Rattle.one_address.specs.Keeping.{Keeps, Parses, NeverUnowned};
 ghost use Rattle.one_address.specs.Listing.{Lists, Addresses};
 
 use meirhuppa::answers::Answer;
-use meirhuppa::{evaluate, expand, panel, parse};
+use meirhuppa::{evaluate, expansion, panel, parsing};
 
 // One name is one address in what expanding accepts.
 pub fn expand_program(image: &[u8], budget: u32, table: &mut [u32], out: &mut [u8]) -> Answer
     ensures { Keeps image.now out.new (answer_is result) }
 {
-    expand::meirhuppa_expand(image, 0, budget, table, out)
+    expansion::meirhuppa_expand(image, 0, budget, table, out)
 }
 
 // Parsing that is not refused, given enough budget, table and output: it writes the tree that condition 3 speaks of.
 pub fn parse_program(expanded: &[u8], budget: u32, table: &mut [u32], out: &mut [u8]) -> Answer
     ensures { Parses expanded.now budget table.old out.old out.new (answer_is result) }
 {
-    parse::meirhuppa_parse(expanded, budget, table, out)
+    parsing::meirhuppa_parse(expanded, budget, table, out)
 }
 
 // Evaluating that tree is never refused as open.
@@ -41,7 +41,7 @@ fn check_expanded(
 ) -> Answer
     ensures { Lists expanded.now bits.new (answer_is result) }
 {
-    let p = parse::meirhuppa_parse(expanded, budget, table, tree);
+    let p = parsing::meirhuppa_parse(expanded, budget, table, tree);
     if p.code != 0 {
         return p;
     }

@@ -14,7 +14,7 @@ ghost use Rattle.one_answer.specs.Once.{Once, PanelOnce, ScanOnce, TextOnce, Shr
 
 use meirhuppa::answers::Answer;
 use meirhuppa::uses_jobs::Uses;
-use meirhuppa::{evaluate, expand, panel, parse, resolve, scan, shrink, text_jobs, uses_jobs};
+use meirhuppa::{evaluate, expansion, panel, parsing, resolve, scan, shrink, text_jobs, uses_jobs};
 
 pub fn resolve_once(image: &[u8], phase: u32, budget: u32, table: &mut [u32]) -> Answer
     ensures { Once (resolve_job image.now phase budget table.old) result [] table.new }
@@ -31,13 +31,13 @@ pub fn expand_once(
 ) -> Answer
     ensures { Once (expand_job image.now phase budget table.old out.old) result out.new table.new }
 {
-    expand::meirhuppa_expand(image, phase, budget, table, out)
+    expansion::meirhuppa_expand(image, phase, budget, table, out)
 }
 
 pub fn parse_once(image: &[u8], budget: u32, table: &mut [u32], out: &mut [u8]) -> Answer
     ensures { Once (parse_job image.now budget table.old out.old) result out.new table.new }
 {
-    parse::meirhuppa_parse(image, budget, table, out)
+    parsing::meirhuppa_parse(image, budget, table, out)
 }
 
 pub fn evaluate_once(image: &[u8], budget: u32, table: &mut [u32], out: &mut [u8]) -> Answer

@@ -9,7 +9,7 @@ ghost use Rattle.answer_line.specs.Calls.{job_of, request_of, fresh_job, call_li
 use crate::{as_words, uses};
 use answer_line::{Numbers, buffers};
 use meirhuppa::answers::Answer;
-use meirhuppa::{evaluate, expand, parse, resolve, scan, shrink, text_jobs};
+use meirhuppa::{evaluate, expansion, parsing, resolve, scan, shrink, text_jobs};
 
 // The numbers at the head of a call; the last three are sizes. Behind the image some jobs have more: `split` bytes are the first such input, and
 // what follows them is the second.
@@ -73,10 +73,10 @@ fn do_job(call: Call, image: &[u8], table: &mut [u32], output: &mut [u8]) -> Ans
         return resolve::meirhuppa_resolve(image, call.phase, call.budget, table);
     }
     if call.job == Call::EXPAND {
-        return expand::meirhuppa_expand(image, call.phase, call.budget, table, output);
+        return expansion::meirhuppa_expand(image, call.phase, call.budget, table, output);
     }
     if call.job == Call::PARSE {
-        return parse::meirhuppa_parse(image, call.budget, table, output);
+        return parsing::meirhuppa_parse(image, call.budget, table, output);
     }
     evaluate::meirhuppa_evaluate(image, call.budget, table, output)
 }

@@ -4,7 +4,7 @@ ghost use Rattle.requests.specs.Report.{single};
 ghost use Rattle.reports.specs.Totals.{codes};
 ghost use Rattle.term_report.specs.Singles.{line_is, Lent};
 
-use meirhuppa::{expand, limits};
+use meirhuppa::{expansion, limits};
 
 const BUDGET: u32 = 400;
 
@@ -24,7 +24,7 @@ pub fn answer(image: &[u8], table: &mut [u32], out: &mut [u8]) -> Single
     ensures is { line_is result ≡ single image.now }
     ensures listed { result.code < codes }
 {
-    let a = expand::meirhuppa_expand(image, 0, BUDGET, table, out);
+    let a = expansion::meirhuppa_expand(image, 0, BUDGET, table, out);
     Single {
         code: a.code,
         units: a.units,
