@@ -1,3 +1,4 @@
+use Rattle.builder.proofs.TreeLaws.{function_later, function_judged, application_later, application_judged, list-later, list-judged}
 use Rattle.builder.proofs.TreeLaws.{parts_laws}
 use Rattle.builder.proofs.ChainLaws.{Chain-laws}
 use Rattle.std.proofs.Common.{rules, ◌-◌}
@@ -69,3 +70,18 @@ trees-loop-left-preserved t c = search (Chain-laws, rules)
 
 pub trees-returns : goal.trees-returns
 trees-returns t c = search (Chain-laws, rules)
+
+pub tree-function-requires : goal.tree-function-requires
+tree-function-requires t c = let f = c.read_number-tag.ensures in
+    let w = c.read_number-n.ensures in
+    (function_later f w c.if-kind-eq-FUNCTION.true c.requires c.decreases, function_judged f w c.if-kind-eq-FUNCTION.true c.requires)
+
+pub tree-list-requires : goal.tree-list-requires
+tree-list-requires t c = let f = c.read_number-tag.ensures in
+    let w = c.read_number-n.ensures in
+    (application_later f w c.if-kind-eq-APPLICATION.true c.requires c.decreases, application_judged f w c.if-kind-eq-APPLICATION.true c.requires)
+
+pub tree-list-requires-2 : goal.tree-list-requires-2
+tree-list-requires-2 t c = let f = c.read_number-tag.ensures in
+    let w = c.read_number-n.ensures in
+    (list-later f w c.if-kind-eq-SYNTAX_VALUE.false c.if-kind-eq-VARIABLE.false c.if-kind-eq-ATOM.false c.if-kind-eq-FUNCTION.false c.if-kind-eq-APPLICATION.false c.requires c.decreases, list-judged f w c.if-kind-eq-SYNTAX_VALUE.false c.if-kind-eq-VARIABLE.false c.if-kind-eq-ATOM.false c.if-kind-eq-FUNCTION.false c.if-kind-eq-APPLICATION.false c.requires)
