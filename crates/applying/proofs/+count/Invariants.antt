@@ -1,0 +1,5 @@
+use Rattle.std.proofs.Common.{◌-◌}
+use Rattle.applying.proofs.+count.Given as goal
+
+abbrev pub decreases-count : goal.decreases-count
+decreases-count l = l.most

@@ -1,0 +1,21 @@
+use Rattle.scoping.proofs.Changing.{laws}
+use Rattle.std.proofs.Common.{rules}
+use Rattle.scoping.proofs.flip_in.Goals as goal
+
+pub measure-x-requires : goal.measure-x-requires
+measure-x-requires c = search (laws, rules)
+
+pub charge-requires : goal.charge-requires
+charge-requires c = search (laws, rules)
+
+pub flip_scope-m-requires : goal.flip_scope-m-requires
+flip_scope-m-requires c = search (laws, rules)
+
+pub raised-state-requires : goal.raised-state-requires
+raised-state-requires c = search (laws, rules)
+
+pub returns-in-Refused : goal.returns-in-Refused
+returns-in-Refused c = search (laws, rules)
+
+pub returns-in-Paid : goal.returns-in-Paid
+returns-in-Paid c = search (laws, rules)
