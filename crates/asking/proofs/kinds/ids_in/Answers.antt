@@ -1,0 +1,18 @@
+use Rattle.asking.proofs.ByKind.{laws}
+use Rattle.std.proofs.Common.{rules}
+use Rattle.asking.proofs.kinds.ids_in.Goals as goal
+
+pub get_node-n-requires : goal.get_node-n-requires
+get_node-n-requires c = search (laws, rules)
+
+pub returns-then-n-ne-LIST_VALUE : goal.returns-then-n-ne-LIST_VALUE
+returns-then-n-ne-LIST_VALUE c = search (laws, rules)
+
+pub all_ids-requires : goal.all_ids-requires
+all_ids-requires c = search (laws, rules)
+
+pub returns-then-not-all_ids : goal.returns-then-not-all_ids
+returns-then-not-all_ids c = search (laws, rules)
+
+pub returns : goal.returns
+returns c = search (laws, rules)
