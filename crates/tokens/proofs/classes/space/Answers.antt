@@ -1,0 +1,15 @@
+use Rattle.tokens.proofs.ByteLaws.{byte_laws}
+use Rattle.std.proofs.Common.{rules}
+use Rattle.tokens.proofs.classes.space.Goals as goal
+
+pub returns-then-b-eq9 : goal.returns-then-b-eq9
+returns-then-b-eq9 c = search (byte_laws, rules)
+
+pub returns-then-b-eq10 : goal.returns-then-b-eq10
+returns-then-b-eq10 c = search (byte_laws, rules)
+
+pub returns-then-b-eq13 : goal.returns-then-b-eq13
+returns-then-b-eq13 c = search (byte_laws, rules)
+
+pub returns : goal.returns
+returns c = search (byte_laws, rules)

@@ -1,0 +1,42 @@
+use Rattle.tokens.proofs.PieceLaws.{named_laws}
+use Rattle.std.proofs.Common.{rules}
+use Rattle.tokens.proofs.pieces.named_rung.Goals as goal
+
+pub same_bytes-requires : goal.same_bytes-requires
+same_bytes-requires c = search (named_laws, rules)
+
+pub returns-then-same_bytes : goal.returns-then-same_bytes
+returns-then-same_bytes c = search (named_laws, rules)
+
+pub same_bytes-requires-2 : goal.same_bytes-requires-2
+same_bytes-requires-2 c = search (named_laws, rules)
+
+pub returns-then-same_bytes-2 : goal.returns-then-same_bytes-2
+returns-then-same_bytes-2 c = search (named_laws, rules)
+
+pub same_bytes-requires-3 : goal.same_bytes-requires-3
+same_bytes-requires-3 c = search (named_laws, rules)
+
+pub returns-then-same_bytes-3 : goal.returns-then-same_bytes-3
+returns-then-same_bytes-3 c = search (named_laws, rules)
+
+pub same_bytes-requires-4 : goal.same_bytes-requires-4
+same_bytes-requires-4 c = search (named_laws, rules)
+
+pub returns-then-same_bytes-4 : goal.returns-then-same_bytes-4
+returns-then-same_bytes-4 c = search (named_laws, rules)
+
+pub same_bytes-requires-5 : goal.same_bytes-requires-5
+same_bytes-requires-5 c = search (named_laws, rules)
+
+pub returns-then-same_bytes-5 : goal.returns-then-same_bytes-5
+returns-then-same_bytes-5 c = search (named_laws, rules)
+
+pub same_bytes-requires-6 : goal.same_bytes-requires-6
+same_bytes-requires-6 c = search (named_laws, rules)
+
+pub returns-then-same_bytes-6 : goal.returns-then-same_bytes-6
+returns-then-same_bytes-6 c = search (named_laws, rules)
+
+pub returns : goal.returns
+returns c = search (named_laws, rules)
