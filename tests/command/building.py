@@ -20,8 +20,8 @@ exit 3
 """
 PROGRAMS = ("expander", "text_image", "replay")
 CRATE = b"rt: a crate proved\n"
-FIRST = b"meirhuppa: proving and building the programs first, which takes long\n" + CRATE
-AGAIN = b"meirhuppa: a source is newer than the programs: proving and building them again\n" + CRATE
+FIRST = b"meirhuppa: proving and building the programs first, about ten minutes\n" + CRATE
+AGAIN = b"meirhuppa: a source is newer than the programs: proving and building them again, up to ten minutes\n" + CRATE
 LINE = b"code 0 units 367\n"
 TEXT = "examples/accident.text"
 BOTH = ["rt run in expander", "rt run in text_image"]
