@@ -1,4 +1,4 @@
--- Where parse succeeds it has charged exactly what `entryCharge` says.
+-- Where parse succeeds it has charged exactly what `entry_charge` says.
 use mathlib.Core.Path.{◌≡◌, refl, sym, ap, ◌∙◌, subst}
 use Prim.Native.Nat.{ℕ, zero, suc, ◌+◌, ◌-◌, ◌≤◌, ◌<◌, zero-le}
 use native.Mathlib.Nat.{add-zero}

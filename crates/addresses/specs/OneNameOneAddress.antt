@@ -1,4 +1,4 @@
--- Condition 3, one name is one address, from image bytes to image bytes. The theorem is `one-name-one-address` in proofs/Condition3:
+-- Condition 3, one name is one address, from image bytes to image bytes. The theorem is `one_name_one_address` in proofs/Condition3:
 -- it gives `OneNameOneAddress` for every image that the expand job at phase 0 answers with code 0, and for the image that it writes.
 use Rattle.std.specs.Prelude.{ℕ, ◌-◌, ◌≤◌, ◌<◌, ◌≡◌, true, false, List, [], ◌∷◌, ◌++◌, length, take}
 use Rattle.model.specs.Limits.{most_entries}

@@ -1,4 +1,4 @@
--- Request T-08: primitives 7 to 9, from image bytes to the whole answer. With x, m, z = 4, 5, 6; `use-m` is (m), `handed` is
+-- Request T-08: primitives 7 to 9, from image bytes to the whole answer. With x, m, z = 4, 5, 6; `use_m` is (m), `handed` is
 -- (first (rest (stx-e z))), what the macro was handed, `none'` is (quote ()), `stop a` is (link (syntax a) (quote ())).
 use mathlib.Core.Path.{◌≡◌, refl}
 use Prim.Native.Nat.{ℕ}

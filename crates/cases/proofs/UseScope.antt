@@ -1,4 +1,4 @@
--- Request T-03: the use scope is prunable in what a macro use expands to. With x, m, z = 4, 5, 6, `handed-on u` is
+-- Request T-03: the use scope is prunable in what a macro use expands to. With x, m, z = 4, 5, 6, `handed_on_lem u` is
 -- (let-syntax m (lambda z (first (rest (stx-e z)))) (m u)): the macro gives back what it was given.
 use mathlib.Core.Path.{◌≡◌, refl}
 use Prim.Native.Nat.{ℕ}

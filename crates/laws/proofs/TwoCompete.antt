@@ -1,5 +1,5 @@
 -- Request T-04: where an identifier is ambiguous there are always two candidates that no other contains, and the places told are those of the first
--- two: `two-compete`.
+-- two: `two_compete`.
 use mathlib.Core.Path.{◌≡◌, refl, sym, ap, ◌∙◌, subst}
 use mathlib.Core.Logic.{◌⊎◌, inl, inr}
 use Prim.Native.Nat.{ℕ, suc, ◌+◌, ◌≤◌, ◌<◌}

@@ -43,7 +43,7 @@ parse_form self ph none h l = do
   r ← parse_all self l
   done (app f r)
 
--- one entry. A tree is never nested deeper than the object that it is parsed from, so nothing is tested for 17: `parse-keeps-limits`
+-- one entry. A tree is never nested deeper than the object that it is parsed from, so nothing is tested for 17: `parse_keeps_limits`
 -- (`addresses/proofs/ParseLimits`).
 unfoldable pub parse_entry : (Stx → Step Tree) → Phase → Stx → Step Tree
 unfolding resolve_at head_form parse_form

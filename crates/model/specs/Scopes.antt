@@ -1,12 +1,12 @@
 -- Document 01, 'Things and their numbers' and 'The image': scope sets and their order.
--- A set is a number: scope k, counted from 1, is a member where the binary digit of weight 2 ^ (k - 1) is 1. The empty set is `noScopes`.
+-- A set is a number: scope k, counted from 1, is a member where the binary digit of weight 2 ^ (k - 1) is 1. The empty set is `no_scopes`.
 use Rattle.std.specs.Prelude.{ℕ, zero, suc, ◌/◌, ◌%◌, ◌^◌, Bool, true, false, List, [], ◌∷◌, eqb, ltb}
 use Rattle.std.specs.Int.Bits.{bit_and, bit_or, bit_xor}
 use Rattle.model.specs.Choice.{when◌then◌else◌}
 use Rattle.model.specs.Limits.{most_scopes}
 
 -- Which scopes each operation's result has is a law of its own: `has-only`, `has-add`, `has-prune`, `has-flip`, `within→sub` and `sub→within`; sets with
--- the same members are the same: `set-ext` (`laws/proofs/ScopeSets`).
+-- the same members are the same: `set_ext` (`laws/proofs/ScopeSets`).
 abbrev pub Scope : Type 0
 Scope = ℕ
 

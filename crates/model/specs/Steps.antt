@@ -80,8 +80,8 @@ made_tree t = do
   unless too_deep (leb (tnesting t) most_nesting)
   done t
 
--- ---- scopes of a piece at a phase. A change of sets changes no nesting, so it needs no test for 17: `addScope-nesting`, `flipScope-nesting` and
--- `pruneScopes-nesting` (`addresses/proofs/Fitting`).
+-- ---- scopes of a piece at a phase. A change of sets changes no nesting, so it needs no test for 17: `add_scope_nesting`, `flip_scope-nesting` and
+-- `prune_scopes-nesting` (`addresses/proofs/Fitting`).
 
 unfoldable pub add_to : Scope → Phase → Stx → Step Stx
 unfolding charge size add_scope
@@ -141,7 +141,7 @@ inside f m = λ s. after (m (carrying (f s.prunable) no_scopes s)) (λ a t. ok a
 
 -- ---- bindings
 
--- the symbol and set of a binder are not bound yet, since it has just received a fresh scope: `no-binder-is-bound` (crate `addresses`)
+-- the symbol and set of a binder are not bound yet, since it has just received a fresh scope: `no_binder_is_bound` (crate `addresses`)
 unfoldable pub bind : Bind → Step (Unit {0})
 unfolding most_bindings insert
 bind b = λ s.

@@ -1,5 +1,5 @@
 -- Document 02, T-12: numbering must not matter. What it is to renumber an image, and the statement, `NumberingDoesNotMatter`; the theorem is
--- `numbering-does-not-matter` (proofs/Numbering).
+-- `numbering_does_not_matter` (proofs/Numbering).
 use Rattle.std.specs.Prelude.{ℕ, ◌≤◌, ◌≡◌, ◌&&◌, List, [], ◌∷◌, leb, length}
 use Rattle.model.specs.Choice.{when◌then◌else◌}
 use Rattle.model.specs.Limits.{most_image}

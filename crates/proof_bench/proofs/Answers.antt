@@ -1,5 +1,5 @@
--- What comes back, and what output and table hold, of every job: each is `lent` of how it ends (`resolveJob-is`, `expandJob-is`, `parseJob-is`
--- and `evaluateJob-is` of addresses/proofs/Endings).
+-- What comes back, and what output and table hold, of every job: each is `lent` of how it ends (`resolve_job-is`, `expand_job-is`, `parse_job-is`
+-- and `evaluate_job-is` of addresses/proofs/Endings).
 use mathlib.Core.Path.{◌≡◌, refl, sym, ap, ◌∙◌, subst}
 use Prim.Native.Nat.{ℕ, ◌+◌, ◌-◌, ◌*◌, ◌≤◌, zero-le}
 use native.Mathlib.Nat.{sub-le}

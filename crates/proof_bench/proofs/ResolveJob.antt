@@ -1,6 +1,6 @@
 -- Condition 2 on resolving, of the job: 'Once the image is read and its loading paid for, resolving an identifier answers with a binding
 -- exactly when one largest binding fits, and says ambiguous exactly when several fit and none contains the others.' What it says of an
--- answer is `ResolvesExactly`; the theorem is `resolving-is-exact`. By request T-04 code 6 comes with the places of two that compete. It asks for no `Keys`: the bindings of an image that is read ascend.
+-- answer is `ResolvesExactly`; the theorem is `resolving_is_exact`. By request T-04 code 6 comes with the places of two that compete. It asks for no `Keys`: the bindings of an image that is read ascend.
 use mathlib.Core.Path.{◌≡◌, refl, sym, ap, ◌∙◌, subst}
 use mathlib.Core.Logic.{◌⊎◌, inl, inr, ◌≢◌, ◌↔◌}
 use Prim.Native.Nat.{ℕ, ◌-◌, ◌≤◌, zero-le}
@@ -59,7 +59,7 @@ pub data Comes (x : ℕ) (s : Scopes) (bs : List Bind) (a : Answer) : Type 0 whe
   of_none_largest : Unclear x s bs → a ≡ says-ambiguous (rivals x s bs) → Comes x s bs a
 
 -- the answer for symbol x with set s among the bindings bs. Those that fit are `candidates x s bs`: the bindings of x whose set is contained in
--- s (`candidates-sound` and `candidates-complete`, laws/proofs/ResolveRule). `Largest`: one of these that contains all of them. `Unclear`: there
+-- s (`candidates-sound` and `candidates_complete`, laws/proofs/ResolveRule). `Largest`: one of these that contains all of them. `Unclear`: there
 -- are some, and none is largest.
 pub record ResolvesExactly (x : ℕ) (s : Scopes) (bs : List Bind) (a : Answer) : Type 0 where
   -- a largest fits: code 0 and its target; there are no two largest
@@ -215,8 +215,8 @@ module _ (image rest : List ℕ) (i : Image Stx) (c : Sets) (x : ℕ) (reads : r
 -- ---- the theorem
 
 -- For every image that is read, an identifier as its root, a phase, and a budget and a table that fit. Loading an identifier costs 1, so a
--- budget of 1 has paid for it; with a budget of 0 the answer is code 19 (`nothing-paid-is-code-19`) and the sentence says nothing. What the table
--- holds afterwards is `all-else-clears-the-table` (Answers); resolve writes no output.
+-- budget of 1 has paid for it; with a budget of 0 the answer is code 19 (`nothing_paid_is_code_19`) and the sentence says nothing. What the table
+-- holds afterwards is `all_else_clears_the_table` (Answers); resolve writes no output.
 pub resolving_is_exact : (image rest : List ℕ) (i : Image Stx) (c : Sets) (x ph budget : ℕ) (table : List ℕ)
     → Bytes image → read_image read_syntax image ≡ got i rest → i.root ≡ atom c (symbol x)
     → ph ≤ 2 → 1 ≤ budget → budget_fits budget (length table) ≡ true

@@ -1,5 +1,5 @@
--- Request T-04, of the jobs: with code 6 come the places of the first two that compete (`code-6-names-two-that-compete-when-resolving`, `-parsing`,
--- `-expanding`), without it two zeros (`no-places-without-code-6-when-` each of the four), and evaluate never answers 6.
+-- Request T-04, of the jobs: with code 6 come the places of the first two that compete (`code_6_names_two_that_compete_when_resolving`, `-parsing`,
+-- `_expanding`), without it two zeros (`no_places_without_code_6_when_` each of the four), and evaluate never answers 6.
 use mathlib.Core.Path.{◌≡◌, refl, sym, subst}
 use Prim.Native.Nat.{ℕ, ◌-◌, ◌≤◌, ◌<◌}
 use native.Mathlib.Omega.{arith}

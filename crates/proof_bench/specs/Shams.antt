@@ -45,7 +45,7 @@ UnitsAtBudget f = (image : List ℕ) (ph budget : ℕ) (table output : List ℕ)
 abbrev pub UnitsInvented : ℕ → Expanding → Type 0
 UnitsInvented units f = (image : List ℕ) (ph budget : ℕ) (table output : List ℕ) → Call image ph budget table output → (f image ph budget table output).answer.units ≡ units
 
--- 3. expands the first part of an application and copies the others: `copiesOthers`, of Rules; or writes what it writes, for any units
+-- 3. expands the first part of an application and copies the others: `copies_others`, of Rules; or writes what it writes, for any units
 abbrev pub WritesCopies : Expanding → Type 0
 WritesCopies f =
     (image : List ℕ) (ph budget : ℕ) (table output : List ℕ) → Call image ph budget table output → (f image ph budget table output).answer.code ≡ 0

@@ -100,7 +100,7 @@ module _ (e come : Entry) (gone count n x : ℕ) (c : Change) (s : List ℕ) (k 
     first_agrees : x ≡ count_after M n e.count → first_after M n (entry_of e) ≡ place_of (first_of e x come c) (searched M n)
     unfolding first_after first_of stays_before
     first_agrees z =
-        rw (← z, ← W.place_is, ← W.old-is, ← W.New-is, ← h, ← f)
+        rw (← z, ← W.place_is, ← W.old-is, ← W.new_is, ← h, ← f)
         (chosen (eqb x 0) (not (eqb e.count 0) && ltb e.first c.place) (not (eqb come.count 0)) (ltb e.first (c.place + c.old)) 0 e.first (c.place + come.first) (capped (e.first - c.old + c.new)) (when eqb (uses n M.behind) 0 then 0 else c.place + c.new + first_use n M.behind))
 
 module _ (e come : Entry) (gone count n x d : ℕ) (c : Change) (s : List ℕ) (k : Counts) (p : d ≡ e.count - gone) (r : x ≡ capped (d + come.count)) {y : First} (fi : y ≡ first_of e x come c) where
@@ -125,7 +125,7 @@ module _ (e come : Entry) (gone count n x d : ℕ) (c : Change) (s : List ℕ) (
       where
         by-uses : (b : Bool) → eqb (uses n M.behind) 0 ≡ b → at ≡ (when eqb (uses n M.behind) 0 then count else first_use n M.behind) → c.place + c.new + at ≡ searched M n
         by-uses true j o = let i : at ≡ count = o ∙ rw j refl in absurd (omega arith)
-        by-uses false j o = let i : at ≡ first_use n M.behind = o ∙ rw j refl in rw (j, W.place_is, W.New-is, i) refl
+        by-uses false j o = let i : at ≡ first_use n M.behind = o ∙ rw j refl in rw (j, W.place_is, W.new_is, i) refl
 
     pub renew_lost : count ≤ at → RenewsEntry e gone come c count s k n (record { count = x; first = 0 })
     unfolding searched

@@ -1,4 +1,4 @@
--- Document 02, T-11: what is promised of the smaller image. The theorem is `smaller-finished` (proofs/Finished): it gives `Finished` for every
+-- Document 02, T-11: what is promised of the smaller image. The theorem is `smaller_finished` (proofs/Finished): it gives `Finished` for every
 -- well-formed image, expanded or not.
 use Rattle.std.specs.Prelude.{ℕ, ◌≤◌, ◌≡◌, List, [], length}
 use Rattle.model.specs.Scopes.{Scope, Scopes, members}
@@ -38,7 +38,7 @@ unfoldable pub smaller_tree : Scopes → List ℕ → List ℕ
 unfolding tree_again read_image read_tree_image
 smaller_tree u image = tree_again u (read_image read_tree_image image)
 
--- ---- of any bytes: the job writes the smaller image, or answers 1, 2, 4 or 20 (`shrink-answers`, proofs/Finished)
+-- ---- of any bytes: the job writes the smaller image, or answers 1, 2, 4 or 20 (`shrink_answers`, proofs/Finished)
 
 pub data ShrinkEnds (image : List ℕ) : Ending → Type 0 where
   with_smaller : ShrinkEnds image (written (smaller image) 0)

@@ -1,4 +1,4 @@
-use Rattle.scan_runner.proofs.Looping.{line_room, loop_laws}
+use Rattle.scan_runner.proofs.Looping.{loop_laws}
 use Rattle.std.proofs.Common.{rules}
 use Rattle.scan_runner.proofs.job.run_scans.Goals as goal
 
@@ -15,9 +15,7 @@ pub overflow_add-done : goal.overflow_add-done
 overflow_add-done c = search (loop_laws, rules)
 
 pub put_line-at-requires : goal.put_line-at-requires
-put_line-at-requires c = let once = c.scan_once-here in
-    let here = line_room c.requires c.loop-done.invariant c.loop-done-test.true c.after-s.ensures once.ensures once.auto.1.1.1.0 once.auto.1.1.1.1.0 in
-    ((search (loop_laws, rules), search (loop_laws, rules)), here)
+put_line-at-requires c = search (loop_laws, rules)
 
 pub overflow_add-done-in-loop-done : goal.overflow_add-done-in-loop-done
 overflow_add-done-in-loop-done c = search (loop_laws, rules)

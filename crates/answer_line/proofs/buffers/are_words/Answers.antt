@@ -1,0 +1,27 @@
+use Rattle.answer_line.proofs.Lent.{buffer_laws}
+use Rattle.std.proofs.Common.{rules}
+use Rattle.answer_line.proofs.buffers.are_words.Goals as goal
+
+pub loop-i-init : goal.loop-i-init
+loop-i-init c = search (buffer_laws, rules)
+
+pub offset_bounds-words-i : goal.offset_bounds-words-i
+offset_bounds-words-i c = search (buffer_laws, rules)
+
+pub bounds-words-i : goal.bounds-words-i
+bounds-words-i c = search (buffer_laws, rules)
+
+pub returns-then-words-i : goal.returns-then-words-i
+returns-then-words-i c = search (buffer_laws, rules)
+
+pub overflow_add-i : goal.overflow_add-i
+overflow_add-i c = search (buffer_laws, rules)
+
+pub loop-i-smaller : goal.loop-i-smaller
+loop-i-smaller c = search (buffer_laws, rules)
+
+pub loop-i-preserved : goal.loop-i-preserved
+loop-i-preserved c = search (buffer_laws, rules)
+
+pub returns : goal.returns
+returns c = search (buffer_laws, rules)

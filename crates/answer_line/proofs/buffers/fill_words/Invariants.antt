@@ -1,0 +1,10 @@
+use Rattle.answer_line.proofs.Lent.{Filled}
+use Prim.Native.Nat.{◌-◌}
+use lib.ListN.{length}
+use Rattle.answer_line.proofs.buffers.fill_words.Given as goal
+
+abbrev pub invariant-loop-i : goal.invariant-loop-i
+invariant-loop-i l = Filled l.w l.initial.words l.words l.i
+
+abbrev pub decreases-loop-i : goal.decreases-loop-i
+decreases-loop-i l = length l.initial.words - l.i

@@ -1,0 +1,24 @@
+use Rattle.jobs.proofs.Endings.{ending_laws}
+use Rattle.std.proofs.Common.{rules}
+use Rattle.jobs.proofs.evaluating.evaluate_loaded.Goals as goal
+
+pub evaluate_root-requires-clause-loaded : goal.evaluate_root-requires-clause-loaded
+evaluate_root-requires-clause-loaded c = search (ending_laws, rules)
+
+pub evaluate_root-requires-clause-empty : goal.evaluate_root-requires-clause-empty
+evaluate_root-requires-clause-empty c = search (ending_laws, rules)
+
+pub stopped-requires : goal.stopped-requires
+stopped-requires c = search (ending_laws, rules)
+
+pub finish_tree-requires-clause-came : goal.finish_tree-requires-clause-came
+finish_tree-requires-clause-came c = search (ending_laws, rules)
+
+pub finish_tree-requires-clause-within : goal.finish_tree-requires-clause-within
+finish_tree-requires-clause-within c = search (ending_laws, rules)
+
+pub returns-in-Refused : goal.returns-in-Refused
+returns-in-Refused c = search (ending_laws, rules)
+
+pub returns-in-Done : goal.returns-in-Done
+returns-in-Done c = search (ending_laws, rules)

@@ -1,0 +1,24 @@
+use Rattle.jobs.proofs.Charging.{charging_laws}
+use Rattle.std.proofs.Common.{rules}
+use Rattle.jobs.proofs.expanding.expand_image.Goals as goal
+
+pub judge_syntax-requires : goal.judge_syntax-requires
+judge_syntax-requires c = search (charging_laws, rules)
+
+pub begin-requires : goal.begin-requires
+begin-requires c = search (charging_laws, rules)
+
+pub stopped-requires : goal.stopped-requires
+stopped-requires c = search (charging_laws, rules)
+
+pub expand_loaded-requires : goal.expand_loaded-requires
+expand_loaded-requires c = search (charging_laws, rules)
+
+pub returns-in-Fault : goal.returns-in-Fault
+returns-in-Fault c = search (charging_laws, rules)
+
+pub returns-in-Refused : goal.returns-in-Refused
+returns-in-Refused c = search (charging_laws, rules)
+
+pub returns-in-Paid : goal.returns-in-Paid
+returns-in-Paid c = search (charging_laws, rules)
