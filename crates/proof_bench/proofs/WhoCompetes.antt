@@ -1,4 +1,4 @@
--- Request T-04, of the jobs: with code 6 come the places of the first two that compete (`code_6_names_two_that_compete_when_resolving`, `-parsing`,
+-- Request T-04, of the jobs: with code 6 come the places of the first two that compete (`code_6_names_two_that_compete_when_resolving`, `_parsing`,
 -- `_expanding`), without it two zeros (`no_places_without_code_6_when_` each of the four), and evaluate never answers 6.
 use mathlib.Core.Path.{◌≡◌, refl, sym, subst}
 use Prim.Native.Nat.{ℕ, ◌-◌, ◌≤◌, ◌<◌}
