@@ -7,24 +7,26 @@ mod line;
 mod showing;
 
 use refusals::Refusal;
+use std::io;
 
 // One byte more than an image may have shows that there are too many.
 const INPUT: usize = meirhuppa::limits::MOST_IMAGE + 1;
 
 // Parsing what was expanded never gives code 6: where it comes, it comes of expanding, and expanding once more shows why.
-fn print(image: &[u8]) {
+fn print(rt: HostRuntime, image: &[u8]) -> io::Result<()> {
     let mut text = [0u8; line::MOST_BYTES];
     let shown = line::print(image, &mut text);
     let n = shown.length;
-    io::write_all(1, &text[0..n]);
+    rt.write_all(&text[0..n])?;
     let ambiguous = Refusal::Ambiguous;
     if shown.code == ambiguous.code() {
-        competing::print(image);
+        return competing::print(&rt.stderr(), image);
     }
+    Ok(())
 }
 
-fn main() {
+fn main(rt: HostRuntime) -> io::Result<()> {
     let mut image = [0u8; INPUT];
-    let n = io::read_full(0, &mut image);
-    print(&image[0..n]);
+    let n = input::read_full(&mut rt.stdin(), &mut image);
+    print(rt, &image[0..n])
 }

@@ -4,17 +4,16 @@ ghost use Rattle.std.specs.Prelude.{◌≤◌, length};
 ghost use Rattle.store.specs.Sizes.{store_size};
 
 use scopes::{Name, Scope, ScopeSet, Symbol};
+use std::io;
 use store::bindings;
 use store::resolving::Resolving;
 
-const ERROR: i32 = 2;
-
-pub fn say(text: &[u8]) {
-    io::write_all(ERROR, text);
+pub fn say(error: &impl Print, text: &[u8]) -> io::Result<()> {
+    error.write_all(text)
 }
 
-fn say_number(n: u32) {
-    io::print_decimal(ERROR, n as u64);
+fn say_number(error: &impl Print, n: u32) -> io::Result<()> {
+    error.print(n)
 }
 
 // ---- the word
@@ -56,68 +55,70 @@ fn word_place(image: &[u8], i: u32) -> usize {
     at
 }
 
-fn print_own_word(image: &[u8], i: u32) {
+fn print_own_word(error: &impl Print, image: &[u8], i: u32) -> io::Result<()> {
     let at = word_place(image, i);
     let end = past_word(image, at);
     if at < end {
         let from = at + 1;
-        say(&image[from..end]);
+        return say(error, &image[from..end]);
     }
+    Ok(())
 }
 
 // Symbols are numbered as the core names and the image's words.
-fn print_word(image: &[u8], symbol: Symbol) {
+fn print_word(error: &impl Print, image: &[u8], symbol: Symbol) -> io::Result<()> {
     let n = symbol.0;
     match n {
-        0 => say(b"lambda"),
-        1 => say(b"let-syntax"),
-        2 => say(b"quote"),
-        3 => say(b"syntax"),
-        _ => print_own_word(image, n - Name::CORE),
+        0 => say(error, b"lambda"),
+        1 => say(error, b"let-syntax"),
+        2 => say(error, b"quote"),
+        3 => say(error, b"syntax"),
+        _ => print_own_word(error, image, n - Name::CORE),
     }
 }
 
 // ---- the scopes
 
-fn print_scope(k: u32, behind: bool) {
+fn print_scope(error: &impl Print, k: u32, behind: bool) -> io::Result<()> {
     if behind {
-        say(b",");
+        say(error, b",")?;
     }
-    say_number(k);
+    say_number(error, k)
 }
 
 // The members, ascending, with commas between.
-fn print_scopes(set: ScopeSet) {
+fn print_scopes(error: &impl Print, set: ScopeSet) -> io::Result<()> {
     let mut behind = false;
     let mut k: u32 = 1;
     while k <= Scope::MOST {
         if set.has(Scope(k)) {
-            print_scope(k, behind);
+            print_scope(error, k, behind)?;
             behind = true;
         }
         k += 1;
     }
+    Ok(())
 }
 
 // ---- the binding
 
 // The binding at a place of the store, counted from 1. There is none at others.
-pub fn print_binding(image: &[u8], store: &[u64], place: u32)
+pub fn print_binding(error: &impl Print, image: &[u8], store: &[u64], place: u32) -> io::Result<()>
     requires { store_size ≤ length store.now }
 {
     let i = place as usize;
     if i == 0 {
-        return;
+        return Ok(());
     }
     if Resolving::MOST < i {
-        return;
+        return Ok(());
     }
     let b = bindings::get(store, i - 1);
     let set = b.set;
-    print_word(image, b.symbol);
-    say(b"{");
-    print_scopes(set);
-    say(b"} (binding ");
-    say_number(place);
-    say(b")");
+    print_word(error, image, b.symbol)?;
+    say(error, b"{")?;
+    print_scopes(error, set)?;
+    say(error, b"} (binding ")?;
+    say_number(error, place)?;
+    say(error, b")")
 }

@@ -5,6 +5,7 @@ ghost use Rattle.replay.specs.Stream.{Within, has_more, Both, Behind};
 use crate::answer::Call;
 use crate::page::MOST_BYTES;
 use crate::stream::{Input, Length, Place};
+use std::io::Stdin;
 
 // The most bytes behind the image: two inputs.
 pub const BEHIND: usize = 2 * MOST_BYTES;
@@ -29,17 +30,18 @@ fn has_more(job: u32) -> bool
     job == Call::REPLACE
 }
 
-fn read_first(input: Input, room: &mut [u8; Input::ROOM], behind: &mut [u8]) -> Length
+fn read_first(input: Input, stdin: Stdin, room: &mut [u8; Input::ROOM], behind: &mut [u8]) -> Length
     requires { length behind.old ≡ 140000 }
     ensures { Within 70000 result }
 {
-    input.bytes(room, &mut behind[0..MOST_BYTES])
+    input.bytes(stdin, room, &mut behind[0..MOST_BYTES])
 }
 
 // The second input, behind so many bytes of the first.
 fn read_second(
     first: usize,
     input: Input,
+    stdin: Stdin,
     room: &mut [u8; Input::ROOM],
     behind: &mut [u8],
 ) -> Length
@@ -47,14 +49,20 @@ fn read_second(
     ensures { Within 70000 result }
 {
     let end = first + MOST_BYTES;
-    input.bytes(room, &mut behind[first..end])
+    input.bytes(stdin, room, &mut behind[first..end])
 }
 
-fn read_both(first: usize, input: Input, room: &mut [u8; Input::ROOM], behind: &mut [u8]) -> Inputs
+fn read_both(
+    first: usize,
+    input: Input,
+    stdin: Stdin,
+    room: &mut [u8; Input::ROOM],
+    behind: &mut [u8],
+) -> Inputs
     requires { (first ≤ 70000) × (length behind.old ≡ 140000) }
     ensures { Both first result }
 {
-    match read_second(first, input, room, behind) {
+    match read_second(first, input, stdin, room, behind) {
         Length::Read(second, past) => joined(first, second, past),
         Length::Cut => Inputs::Cut,
     }
@@ -72,6 +80,7 @@ fn read_rest(
     job: u32,
     first: usize,
     input: Input,
+    stdin: Stdin,
     room: &mut [u8; Input::ROOM],
     behind: &mut [u8],
 ) -> Inputs
@@ -79,27 +88,39 @@ fn read_rest(
     ensures { Behind job result }
 {
     if job == Call::REPLACE {
-        return read_both(first, input, room, behind);
+        return read_both(first, input, stdin, room, behind);
     }
     Inputs::Read(first, first, input)
 }
 
-fn read_some(job: u32, input: Input, room: &mut [u8; Input::ROOM], behind: &mut [u8]) -> Inputs
+fn read_some(
+    job: u32,
+    input: Input,
+    stdin: Stdin,
+    room: &mut [u8; Input::ROOM],
+    behind: &mut [u8],
+) -> Inputs
     requires { (length behind.old ≡ 140000) × (has_more job ≡ true) }
     ensures { Behind job result }
 {
-    match read_first(input, room, behind) {
-        Length::Read(first, past) => read_rest(job, first, past, room, behind),
+    match read_first(input, stdin, room, behind) {
+        Length::Read(first, past) => read_rest(job, first, past, stdin, room, behind),
         Length::Cut => Inputs::Cut,
     }
 }
 
-fn read_behind(job: u32, input: Input, room: &mut [u8; Input::ROOM], behind: &mut [u8]) -> Inputs
+fn read_behind(
+    job: u32,
+    input: Input,
+    stdin: Stdin,
+    room: &mut [u8; Input::ROOM],
+    behind: &mut [u8],
+) -> Inputs
     requires { length behind.old ≡ 140000 }
     ensures { Behind job result }
 {
     if has_more(job) {
-        return read_some(job, input, room, behind);
+        return read_some(job, input, stdin, room, behind);
     }
     Inputs::Read(0, 0, input)
 }
@@ -107,6 +128,7 @@ fn read_behind(job: u32, input: Input, room: &mut [u8; Input::ROOM], behind: &mu
 pub fn read_inputs(
     job: u32,
     input: Input,
+    stdin: Stdin,
     room: &mut [u8; Input::ROOM],
     image: &mut [u8],
     behind: &mut [u8],
@@ -114,8 +136,8 @@ pub fn read_inputs(
     requires { length behind.old ≡ 140000 }
     ensures { Behind job result }
 {
-    match input.fill(room, image) {
-        Place::At(past) => read_behind(job, past, room, behind),
+    match input.fill(stdin, room, image) {
+        Place::At(past) => read_behind(job, past, stdin, room, behind),
         Place::Cut => Inputs::Cut,
     }
 }

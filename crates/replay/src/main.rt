@@ -18,6 +18,8 @@ use crate::answer::Call;
 use crate::inputs::{BEHIND, Inputs};
 use crate::page::{MOST_BYTES, PAGE};
 use crate::stream::{Input, Number, Place};
+use std::io;
+use std::io::Stdin;
 
 // The most words of the table that a call may ask for.
 const MOST_WORDS: usize = 170000;
@@ -70,6 +72,7 @@ fn put_call(
 fn exact(
     call: Call,
     run: Run,
+    stdin: Stdin,
     room: &mut [u8; Input::ROOM],
     image: &mut [u8],
     behind: &mut [u8],
@@ -81,7 +84,7 @@ fn exact(
 {
     let input = run.input;
     let count = run.count;
-    match inputs::read_inputs(call.job, input, room, image, behind) {
+    match inputs::read_inputs(call.job, input, stdin, room, image, behind) {
         Inputs::Read(split, length, past) => {
             let asked = Call {
                 job: call.job,
@@ -107,6 +110,7 @@ fn exact(
 fn sized(
     call: Call,
     run: Run,
+    stdin: Stdin,
     room: &mut [u8; Input::ROOM],
     image: &mut [u8],
     behind: &mut [u8],
@@ -130,6 +134,7 @@ fn sized(
     exact(
         call,
         run,
+        stdin,
         room,
         &mut image[0..length],
         behind,
@@ -141,6 +146,7 @@ fn sized(
 
 // The next call, or the end.
 fn next(
+    rt: HostRuntime,
     run: Run,
     room: &mut [u8; Input::ROOM],
     image: &mut [u8],
@@ -148,14 +154,16 @@ fn next(
     table: &mut [u32],
     output: &mut [u8; MOST_BYTES],
     page: &mut [u8; PAGE],
-) -> Run
+) -> io::Result<Run>
     requires { length behind.old ≡ 140000 }
 {
     let input = run.input;
-    let count = page::next_start(page, run.count);
+    page::write_full(&rt, page, run.count)?;
+    let count = page::next_start(run.count);
+    let stdin = rt.stdin();
     let mut head = [0u32; 5];
-    match input.number(room) {
-        Number::Read(job, past) => match past.numbers(room, &mut head) {
+    let there = match input.number(stdin, room) {
+        Number::Read(job, past) => match past.numbers(stdin, room, &mut head) {
             Place::At(start) => {
                 let call = Call {
                     job,
@@ -171,24 +179,26 @@ fn next(
                     count,
                     ongoing: true,
                 };
-                sized(call, here, room, image, behind, table, output, page)
+                sized(call, here, stdin, room, image, behind, table, output, page)
             }
             Place::Cut => cut(input, count, page),
         },
         Number::End => ended(input, count),
         Number::Cut => cut(input, count, page),
-    }
+    };
+    Ok(there)
 }
 
 // A proved loop has to end, and nothing says that the input does: the calls are counted down from a number that no run uses up.
 fn answer_all(
+    rt: HostRuntime,
     room: &mut [u8; Input::ROOM],
     image: &mut [u8],
     behind: &mut [u8],
     table: &mut [u32],
     output: &mut [u8; MOST_BYTES],
     page: &mut [u8; PAGE],
-)
+) -> io::Result<()>
     requires { length behind.old ≡ 140000 }
 {
     let mut run = Run {
@@ -198,13 +208,13 @@ fn answer_all(
     };
     let mut turns = u64::MAX;
     while turns > 0 && run.ongoing {
-        run = next(run, room, image, behind, table, output, page);
+        run = next(rt, run, room, image, behind, table, output, page)?;
         turns -= 1;
     }
-    page::write_front(page, run.count);
+    page::write_front(&rt, page, run.count)
 }
 
-fn main() {
+fn main(rt: HostRuntime) -> io::Result<()> {
     let mut room = [0u8; Input::ROOM];
     let mut page = [0u8; PAGE];
     let mut image = [0u8; MOST_BYTES];
@@ -212,11 +222,12 @@ fn main() {
     let mut table = [0u32; MOST_WORDS];
     let mut output = [0u8; MOST_BYTES];
     answer_all(
+        rt,
         &mut room,
         &mut image,
         &mut behind,
         &mut table,
         &mut output,
         &mut page,
-    );
+    )
 }

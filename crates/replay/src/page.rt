@@ -3,6 +3,7 @@ ghost use Rattle.std.specs.Prelude.{◌≡◌, ◌≤◌};
 ghost use Rattle.replay.specs.Page.{last_start, start_of};
 
 use answer_line::MOST_OTHERS;
+use std::io;
 
 // The most that a call may ask for: bytes of the image, of what stands behind it, and of the output.
 pub const MOST_BYTES: usize = 70000;
@@ -16,19 +17,27 @@ const LAST_START: usize = 65536;
 pub const PAGE: usize = LAST_START + MOST_LINE;
 
 // Writes the page's first bytes.
-pub fn write_front(page: &[u8], count: usize) {
+pub fn write_front(out: &impl Print, page: &[u8], count: usize) -> io::Result<()> {
     if count <= page.len() {
-        io::write_all(1, &page[0..count]);
+        return out.write_all(&page[0..count]);
     }
+    Ok(())
 }
 
-// Where the next line starts, behind so many bytes or, where those have to be written first, on the empty page.
-pub fn next_start(page: &[u8], count: usize) -> usize
+// Writes the page's first bytes where no line may start behind them.
+pub fn write_full(out: &impl Print, page: &[u8], count: usize) -> io::Result<()> {
+    if count <= LAST_START {
+        return Ok(());
+    }
+    write_front(out, page, count)
+}
+
+// Where the next line starts, behind so many bytes or, where those have been written, on the empty page.
+pub fn next_start(count: usize) -> usize
     ensures { (result ≡ start_of count) × (result ≤ last_start) }
 {
     if count <= LAST_START {
         return count;
     }
-    write_front(page, count);
     0
 }

@@ -2,6 +2,8 @@
 ghost use Rattle.std.specs.Prelude.{◌≡◌, length};
 ghost use Rattle.replay.specs.Stream.{whole_of, Within};
 
+use std::io::{Read, Stdin};
+
 // The bytes in the room that are still to be taken: those from `at` to `end`.
 #[derive(Clone, Copy)]
 pub struct Input {
@@ -64,26 +66,25 @@ impl Input {
         Input { at: 0, end: 0 }
     }
 
-    pub fn byte(self, room: &mut [u8; Input::ROOM]) -> Byte {
+    pub fn byte(self, mut stdin: Stdin, room: &mut [u8; Input::ROOM]) -> Byte {
         let at = self.at;
         let end = self.end;
         if at < end && at < Input::ROOM {
             return Byte::Read(room[at], Input { at: at + 1, end });
         }
-        let got = libc::read(0, room);
-        let read = io::count(got, room);
+        let read = stdin.read(room).unwrap_or(0);
         if read == 0 {
             return Byte::End;
         }
         Byte::Read(room[0], Input { at: 1, end: read })
     }
 
-    pub fn number(self, room: &mut [u8; Input::ROOM]) -> Number {
+    pub fn number(self, stdin: Stdin, room: &mut [u8; Input::ROOM]) -> Number {
         let mut here = self;
         let mut value: u64 = 0;
         let mut shift: u32 = 0;
         while shift < Input::BITS {
-            match here.byte(room) {
+            match here.byte(stdin, room) {
                 Byte::Read(b, past) => {
                     value = value | wide(b & 127) << shift;
                     if b < 128 {
@@ -103,11 +104,11 @@ impl Input {
         Number::Cut
     }
 
-    pub fn numbers(self, room: &mut [u8; Input::ROOM], into: &mut [u32; 5]) -> Place {
+    pub fn numbers(self, stdin: Stdin, room: &mut [u8; Input::ROOM], into: &mut [u32; 5]) -> Place {
         let mut here = self;
         let mut i = 0;
         while i < 5 {
-            match here.number(room) {
+            match here.number(stdin, room) {
                 Number::Read(n, past) => {
                     into[i] = n;
                     here = past;
@@ -122,11 +123,11 @@ impl Input {
     }
 
     // The next bytes, as many as `into` has.
-    pub fn fill(self, room: &mut [u8; Input::ROOM], into: &mut [u8]) -> Place {
+    pub fn fill(self, stdin: Stdin, room: &mut [u8; Input::ROOM], into: &mut [u8]) -> Place {
         let mut here = self;
         let mut i = 0;
         while i < into.len() {
-            match here.byte(room) {
+            match here.byte(stdin, room) {
                 Byte::Read(b, past) => {
                     into[i] = b;
                     here = past;
@@ -141,16 +142,16 @@ impl Input {
     }
 
     // A length and so many bytes, into the front of `into`.
-    pub fn bytes(self, room: &mut [u8; Input::ROOM], into: &mut [u8]) -> Length
+    pub fn bytes(self, stdin: Stdin, room: &mut [u8; Input::ROOM], into: &mut [u8]) -> Length
         ensures { Within (length into.old) result }
     {
-        match self.number(room) {
+        match self.number(stdin, room) {
             Number::Read(number, past) => {
                 let length = number as usize;
                 if into.len() < length {
                     return Length::Cut;
                 }
-                match past.fill(room, &mut into[0..length]) {
+                match past.fill(stdin, room, &mut into[0..length]) {
                     Place::At(behind) => Length::Read(length, behind),
                     Place::Cut => Length::Cut,
                 }

@@ -10,15 +10,13 @@ use numbers::Cursor;
 use scan_lines::listing;
 use scan_runner::preparation::{Preparation, Prepared};
 use scan_runner::{preparation, step};
+use std::io;
 
 // A number of ten digits, eight bytes for each of 1,024 points, and the line end.
 pub const ROOM: usize = 8203;
 
-const OUT: i32 = 1;
-
-const ERROR: i32 = 2;
-
 fn print_scans(
+    out: &impl Print,
     recording: &[u8],
     first: Cursor,
     scans: u32,
@@ -27,7 +25,7 @@ fn print_scans(
     points: &mut [u8],
     bits: &mut [u8],
     line: &mut [u8],
-)
+) -> io::Result<()>
     requires { Printable recording.now first.at scans code.now places.now points.old bits.old line.old }
 {
     let front = Cursor { at: 0 };
@@ -37,12 +35,14 @@ fn print_scans(
         let s = front.after(recording, here);
         here = step::scan_once(here, s, code, points, bits);
         let end = scan_lines::put_line(line, 0, done + 1, places, points);
-        io::write_all(OUT, &line[..end]);
+        out.write_all(&line[..end])?;
         done += 1;
     }
+    Ok(())
 }
 
 fn print_prepared(
+    out: &impl Print,
     recording: &[u8],
     marks: &[u8],
     code: &[u16],
@@ -50,7 +50,7 @@ fn print_prepared(
     bits: &mut [u8],
     line: &mut [u8],
     p: Prepared,
-)
+) -> io::Result<()>
     requires stands { Standing recording.now marks.now code.now points.old bits.old p }
     requires room { most_line ≤ length line.old }
 {
@@ -59,6 +59,7 @@ fn print_prepared(
     let mut places = [0u16; Gathered::POINTS];
     let driven = listing::list_points(marks, &mut places);
     print_scans(
+        out,
         recording,
         p.first,
         p.scans,
@@ -67,18 +68,19 @@ fn print_prepared(
         points,
         &mut bits[..n],
         line,
-    );
+    )
 }
 
-fn refuse(code: u32, line: &mut [u8])
+fn refuse(error: &impl Print, code: u32, line: &mut [u8]) -> io::Result<()>
     requires { most_line ≤ length line.old }
 {
     let number = text::put_named(line, 0, b"code ", code);
     let end = text::put_text(line, number, b"\n");
-    io::write_all(ERROR, &line[..end]);
+    error.write_all(&line[..end])
 }
 
 pub fn print(
+    rt: HostRuntime,
     image: &[u8],
     recording: &[u8],
     marks: &mut [u8],
@@ -87,12 +89,14 @@ pub fn print(
     values: &mut [u8],
     bits: &mut [u8],
     line: &mut [u8],
-)
+) -> io::Result<()>
     requires clear { NoMarks marks.old × (room ≤ length names.old) }
     requires room { (most_words ≤ length code.old) × (room ≤ length bits.old) × (values.old ≡ replicate points 0) × (most_line ≤ length line.old) }
 {
     match preparation::prepare(image, recording, marks, names, code, bits) {
-        Preparation::Ready(p) => { print_prepared(recording, marks, code, values, bits, line, p) }
-        Preparation::Refused(f) => refuse(f.code(), line),
+        Preparation::Ready(p) => {
+            print_prepared(&rt, recording, marks, code, values, bits, line, p)
+        }
+        Preparation::Refused(f) => refuse(&rt.stderr(), f.code(), line),
     }
 }

@@ -6,10 +6,11 @@ mod files;
 mod lines;
 
 use bits::Gathered;
+use std::io;
 use wiring::Wired;
 
 // The image and the recording are read; everything else is made here.
-fn run(image: &[u8], recording: &[u8]) {
+fn run(rt: HostRuntime, image: &[u8], recording: &[u8]) -> io::Result<()> {
     let mut marks = [0u8; Gathered::POINTS];
     let mut names = [0u32; Gathered::ROOM as usize];
     let mut code = [0u16; Wired::ROOM];
@@ -17,6 +18,7 @@ fn run(image: &[u8], recording: &[u8]) {
     let mut bits = [0u8; Gathered::ROOM as usize];
     let mut line = [0u8; lines::ROOM];
     lines::print(
+        rt,
         image,
         recording,
         &mut marks,
@@ -25,13 +27,13 @@ fn run(image: &[u8], recording: &[u8]) {
         &mut values,
         &mut bits,
         &mut line,
-    );
+    )
 }
 
-fn main() {
+fn main(rt: HostRuntime) -> io::Result<()> {
     let mut image = [0u8; files::ROOM];
     let mut recording = [0u8; files::ROOM];
-    let m = files::read_argument(1, &mut image);
-    let n = files::read_argument(2, &mut recording);
-    run(&image[..m], &recording[..n]);
+    let m = files::read_argument(rt, 1, &mut image);
+    let n = files::read_argument(rt, 2, &mut recording);
+    run(rt, &image[..m], &recording[..n])
 }

@@ -9,6 +9,7 @@ use crate::taking::Taken;
 use reports::division::Reading;
 use reports::texts;
 use reports::totals::Sums;
+use std::io::{Read, Stdin};
 
 // Where the program stands, and whether more of the file may come.
 #[derive(Clone, Copy)]
@@ -42,6 +43,7 @@ fn cut(sums: Sums) -> Taken
 // Reads once, and takes the bytes that came.
 fn read_some(
     here: Taken,
+    mut stdin: Stdin,
     chunk: &mut [u8],
     room: &mut [u8],
     counts: &mut [u64],
@@ -51,24 +53,21 @@ fn read_some(
     requires { Stands here room.old counts.old × Room room.old counts.old table.old out.old }
     ensures { Stands result.taken room.new counts.new }
 {
-    let got = libc::read(libc::STDIN_FILENO, chunk);
-    if got < 0 {
-        let sums = here.sums;
-        return Run {
-            taken: cut(sums),
+    match stdin.read(chunk) {
+        Ok(n) => Run {
+            taken: taking::take_bytes(here, &chunk[..n], room, counts, table, out),
+            ongoing: 0 < n,
+        },
+        Err(_) => Run {
+            taken: cut(here.sums),
             ongoing: false,
-        };
-    }
-    let n = io::count(got, chunk);
-    let taken = taking::take_bytes(here, &chunk[..n], room, counts, table, out);
-    Run {
-        taken,
-        ongoing: 0 < n,
+        },
     }
 }
 
 // A proved loop has to end, and nothing says that the input does: the reads are counted down from a number that no run uses up.
 fn take_file(
+    stdin: Stdin,
     chunk: &mut [u8],
     room: &mut [u8],
     counts: &mut [u64],
@@ -85,7 +84,7 @@ fn take_file(
     let mut turns = u64::MAX;
     while turns > 0 && run.ongoing {
         let taken = run.taken;
-        run = read_some(taken, chunk, room, counts, table, out);
+        run = read_some(taken, stdin, chunk, room, counts, table, out);
         turns -= 1;
     }
     let taken = run.taken;
@@ -99,6 +98,7 @@ fn take_file(
 // Puts all that is printed of the file on the page, and gives its length.
 pub fn put_report(
     page: &mut [u8],
+    stdin: Stdin,
     chunk: &mut [u8],
     room: &mut [u8],
     counts: &mut [u64],
@@ -110,7 +110,7 @@ pub fn put_report(
     ensures is { Reports page.old page.new result }
     ensures within { result ≤ length page.new }
 {
-    let here = take_file(chunk, room, counts, table, out);
+    let here = take_file(stdin, chunk, room, counts, table, out);
     let reading = here.reading;
     let sums = here.sums;
     texts::put_report(page, reading, sums, counts)

@@ -11,20 +11,28 @@ ghost use Rattle.reports.specs.Totals.{codes};
 ghost use Rattle.term_report.specs.Taking.{Room};
 
 use reports::{texts, totals};
+use std::io;
 
-fn print(chunk: &mut [u8], room: &mut [u8], counts: &mut [u64], table: &mut [u32], out: &mut [u8])
+fn print(
+    rt: HostRuntime,
+    chunk: &mut [u8],
+    room: &mut [u8],
+    counts: &mut [u64],
+    table: &mut [u32],
+    out: &mut [u8],
+) -> io::Result<()>
     requires { (counts.old ≡ replicate codes 0) × Room room.old counts.old table.old out.old }
 {
     let mut page = [0u8; texts::MOST_BYTES];
-    let n = file::put_report(&mut page, chunk, room, counts, table, out);
-    io::write_all(libc::STDOUT_FILENO, &page[..n]);
+    let n = file::put_report(&mut page, rt.stdin(), chunk, room, counts, table, out);
+    rt.write_all(&page[..n])
 }
 
-fn main() {
+fn main(rt: HostRuntime) -> io::Result<()> {
     let mut chunk = [0u8; 65536];
     let mut room = [0u8; single::BYTES];
     let mut counts = [0u64; totals::CODES];
     let mut table = [0u32; single::WORDS];
     let mut out = [0u8; single::BYTES];
-    print(&mut chunk, &mut room, &mut counts, &mut table, &mut out);
+    print(rt, &mut chunk, &mut room, &mut counts, &mut table, &mut out)
 }

@@ -2,48 +2,46 @@
 ghost use Rattle.std.specs.Prelude.{◌≤◌, length};
 
 use crate::places;
+use std::io;
 use text_reader::judging;
 use text_reader::judging::Judged;
 use tokens::runs;
 
-const ERROR: i32 = 2;
-
-fn say(text: &[u8]) {
-    io::write_all(ERROR, text);
+fn say(error: &impl Print, text: &str) -> io::Result<()> {
+    error.print(text)
 }
 
-fn say_number(n: usize) {
-    io::print_decimal(ERROR, n as u64);
+fn say_number(error: &impl Print, n: usize) -> io::Result<()> {
+    error.print(n)
 }
 
-fn say_code(code: u32) {
-    say(b"code ");
-    io::print_decimal(ERROR, code as u64);
+fn say_code(error: &impl Print, code: u32) -> io::Result<()> {
+    print!(error; "code {code}")
 }
 
 // The place of the token that is at fault, or the text's end.
-fn say_place(text: &[u8], end: usize)
+fn say_place(error: &impl Print, text: &[u8], end: usize) -> io::Result<()>
     requires { end ≤ length text.now }
 {
     let place = places::past(&text[..end]);
-    say(b": line ");
-    say_number(place.line);
-    say(b", column ");
-    say_number(place.column);
+    say(error, ": line ")?;
+    say_number(error, place.line)?;
+    say(error, ", column ")?;
+    say_number(error, place.column)
 }
 
 // Only 26 and 27 have a place: a text with another code is judged to be fine.
-pub fn print(text: &[u8], code: u32) {
-    say_code(code);
+pub fn print(error: &impl Print, text: &[u8], code: u32) -> io::Result<()> {
+    say_code(error, code)?;
     match judging::judge(text) {
         Judged::Fine => {}
-        Judged::Fault(_, at) => say_place(text, at + runs::skip(&text[at..])),
+        Judged::Fault(_, at) => say_place(error, text, at + runs::skip(&text[at..]))?,
     }
-    say(b"\n");
+    say(error, "\n")
 }
 
 // For a text that is longer than any that is read.
-pub fn print_long(code: u32) {
-    say_code(code);
-    say(b": the text has more than 1048576 bytes\n");
+pub fn print_long(error: &impl Print, code: u32) -> io::Result<()> {
+    say_code(error, code)?;
+    say(error, ": the text has more than 1048576 bytes\n")
 }

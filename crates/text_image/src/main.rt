@@ -9,27 +9,26 @@ ghost use Rattle.std.specs.Prelude.{◌≡◌, length};
 
 use meirhuppa::{limits, text_jobs};
 use refusals::Refusal;
+use std::io;
 
 const MOST_TEXT: usize = 1048576;
 
 // One byte more than a text may have shows that there are too many.
 const INPUT: usize = MOST_TEXT + 1;
 
-const OUT: i32 = 1;
-
-fn write_image(text: &[u8], out: &mut [u8]) {
+fn write_image(rt: HostRuntime, text: &[u8], out: &mut [u8]) -> io::Result<()> {
     let answer = text_jobs::meirhuppa_read(text, out);
     let length = answer.length as usize;
     if answer.code == 0 {
-        io::write_all(OUT, &out[..length]);
+        rt.write_all(&out[..length])
     } else {
-        faults::print(text, answer.code);
+        faults::print(&rt.stderr(), text, answer.code)
     }
 }
 
-fn refuse_long() {
+fn refuse_long(error: &impl Print) -> io::Result<()> {
     let refusal = Refusal::OverLimit;
-    faults::print_long(refusal.code());
+    faults::print_long(error, refusal.code())
 }
 
 // Zeros for a text; main has to know how many, and nothing else of them.
@@ -39,13 +38,12 @@ fn room() -> [u8; INPUT]
     [0; INPUT]
 }
 
-fn main() {
+fn main(rt: HostRuntime) -> io::Result<()> {
     let mut text = room();
-    let n = io::read_full(0, &mut text);
+    let n = input::read_full(&mut rt.stdin(), &mut text);
     if MOST_TEXT < n {
-        refuse_long();
-        return;
+        return refuse_long(&rt.stderr());
     }
     let mut out = [0u8; limits::MOST_IMAGE];
-    write_image(&text[..n], &mut out);
+    write_image(rt, &text[..n], &mut out)
 }
