@@ -1,7 +1,7 @@
 -- Lines and columns, as people count them: document 02, T-05, for people.
 use Rattle.std.specs.Prelude.{ℕ, ◌+◌, Bool, not, List, [], ◌∷◌, get_or, eqb}
 use Rattle.model.specs.Choice.{when◌then◌else◌}
-use Rattle.text_image.specs.declared.places.Place.{Place}
+use Rattle.text_image.specs.declared.positions.Place.{Place}
 
 -- a line ends with LF, with CR LF, or with CR where no LF follows
 unfoldable pub ends_line : ℕ → ℕ → Bool

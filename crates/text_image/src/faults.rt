@@ -1,7 +1,7 @@
 // The line of a refused text on standard error. What is printed here is tested and not proved: no contract can say what is written.
 ghost use Rattle.std.specs.Prelude.{◌≤◌, length};
 
-use crate::places;
+use crate::positions;
 use std::io;
 use text_reader::judging;
 use text_reader::judging::Judged;
@@ -23,7 +23,7 @@ fn say_code(error: &impl Print, code: u32) -> io::Result<()> {
 fn say_place(error: &impl Print, text: &[u8], end: usize) -> io::Result<()>
     requires { end ≤ length text.now }
 {
-    let place = places::past(&text[..end]);
+    let place = positions::past(&text[..end]);
     say(error, ": line ")?;
     say_number(error, place.line)?;
     say(error, ", column ")?;

@@ -3,7 +3,7 @@
 #![tactic(auto)]
 
 mod faults;
-mod places;
+mod positions;
 
 ghost use Rattle.std.specs.Prelude.{◌≡◌, length};
 
