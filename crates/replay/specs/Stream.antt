@@ -5,7 +5,7 @@ use Rattle.replay.specs.declared.stream.Input.{Input}
 use Rattle.replay.specs.declared.stream.Number.{Number}
 use Rattle.replay.specs.declared.stream.Number.TheVariants.{Read, Cut}
 use Rattle.replay.specs.declared.stream.Length.{Length}
-use Rattle.replay.specs.declared.stream.Length.TheVariants as length
+use Rattle.replay.specs.declared.stream.Length.TheVariants as lengths
 use Rattle.replay.specs.declared.inputs.Inputs.{Inputs}
 use Rattle.replay.specs.declared.inputs.Inputs.TheVariants as inputs
 
@@ -15,7 +15,7 @@ whole_of value past = when ltb 4294967295 value then Cut else Read value past
 
 -- an input that was read has so many bytes at most
 abbrev pub Within : ℕ → Length → Type 0
-Within most r = (n : ℕ) (past : Input) → r ≡ length.Read n past → n ≤ most
+Within most r = (n : ℕ) (past : Input) → r ≡ lengths.Read n past → n ≤ most
 
 -- what a job has behind the image: jobs 5 and 9 one input, job 10 two, the others none
 abbrev pub has_more : ℕ → Bool
