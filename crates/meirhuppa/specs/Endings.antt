@@ -17,7 +17,7 @@ answer_for (Stopped f p u) = record { code = code_of (refusal_of f); units = u; 
 answer_for (Named n u) = record { code = 0; units = u; name = n.0; len = 0; first = 0; second = 0 }
 answer_for (Written n u) = record { code = 0; units = u; name = 0; len = n; first = 0; second = 0 }
 
--- What each public function promises of its answer, and of output and table after it: they are the job's, and nothing else is (`answered-once`).
+-- What each public function promises of its answer, and of output and table after it: they are the job's, and nothing else is (`answered_once`).
 -- Resolve has no output.
 abbrev pub Answered : m.Result → Answer → List ℕ → List ℕ → Type 0
 Answered job a output table = record { answer = answer_is a; output = output; table = table } ≡ job
