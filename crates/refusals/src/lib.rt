@@ -5,28 +5,28 @@ ghost use Rattle.std.specs.Prelude.{◌≡◌};
 ghost use Rattle.model.specs.Refusals.{code_of};
 ghost use Rattle.refusals.specs.Refusing.{refusal_of};
 
-#[derive(Clone, Copy)]
+#[derive(Clone, Copy, Debug, PartialEq, Eq)]
 pub enum Refusal {
-    Layout,
-    OverLimit,
-    Unowned,
-    WrongKind,
-    SmallTable,
-    Ambiguous,
-    NoMeaning,
-    NoRule,
-    NoSyntax,
-    NotApplicable,
-    WrongArgument,
-    NoPhase,
-    NoNameLeft,
-    NoScopeLeft,
-    NoBindingLeft,
-    TooDeep,
-    TooManyEntries,
-    OverBudget,
-    TooLong,
-    OutsideUse,
+    Layout = 1,
+    OverLimit = 2,
+    Unowned = 3,
+    WrongKind = 4,
+    SmallTable = 5,
+    Ambiguous = 6,
+    NoMeaning = 7,
+    NoRule = 8,
+    NoSyntax = 9,
+    NotApplicable = 10,
+    WrongArgument = 11,
+    NoPhase = 12,
+    NoNameLeft = 13,
+    NoScopeLeft = 14,
+    NoBindingLeft = 15,
+    TooDeep = 17,
+    TooManyEntries = 18,
+    OverBudget = 19,
+    TooLong = 20,
+    OutsideUse = 28,
 }
 
 impl Refusal {
@@ -34,27 +34,6 @@ impl Refusal {
     pub fn code(self) -> u32
         ensures { result ≡ code_of (refusal_of self) }
     {
-        match self {
-            Refusal::Layout => 1,
-            Refusal::OverLimit => 2,
-            Refusal::Unowned => 3,
-            Refusal::WrongKind => 4,
-            Refusal::SmallTable => 5,
-            Refusal::Ambiguous => 6,
-            Refusal::NoMeaning => 7,
-            Refusal::NoRule => 8,
-            Refusal::NoSyntax => 9,
-            Refusal::NotApplicable => 10,
-            Refusal::WrongArgument => 11,
-            Refusal::NoPhase => 12,
-            Refusal::NoNameLeft => 13,
-            Refusal::NoScopeLeft => 14,
-            Refusal::NoBindingLeft => 15,
-            Refusal::TooDeep => 17,
-            Refusal::TooManyEntries => 18,
-            Refusal::OverBudget => 19,
-            Refusal::TooLong => 20,
-            Refusal::OutsideUse => 28,
-        }
+        self as u32
     }
 }
