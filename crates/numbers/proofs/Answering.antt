@@ -6,25 +6,23 @@ use mathlib.Core.List.{List}
 use mathlib.Core.Bool.{Bool, true, false}
 use native.Mathlib.Omega.{arith}
 use lib.ListN.{length, drop, length-drop}
+use lib.Seq.{drop-drop}
+use Rattle.std.specs.Prelude.{Result, Ok, Err}
 use Rattle.model.specs.Refusals as m
 use Rattle.model.specs.Reading.{Read, Reader, got, fault, next, need}
 use Rattle.refusals.specs.declared.Refusal.{Refusal}
-use Rattle.refusals.specs.Refusing.{refusal_of, case_of}
+use Rattle.refusals.specs.Refusing.{refusal_of}
 use Rattle.refusals.proofs.Cases.{refusal_back, case_back}
+use Rattle.refusals.proofs.Handing.{handed_on}
+use Rattle.std.specs.Result.{IsErrAnd}
 use Rattle.numbers.specs.declared.Cursor.{Cursor}
-use Rattle.numbers.specs.declared.Number.{Number}
-use Rattle.numbers.specs.declared.Number.TheVariants as number
-use Rattle.numbers.specs.declared.Place.{Place}
-use Rattle.numbers.specs.declared.Place.TheVariants as place
-use Rattle.numbers.specs.Answers.{answer_at, number_at, kept, placed, place_at, Seen, seen, unseen, seen_at}
+use Rattle.numbers.specs.Answers.{answer_at, beside, read_at, kept, placed, place_at, seen}
 use Rattle.numbers.proofs.Tails.{Behind, Tail, tail_got, tail_fault, num_tail, up_to_tail, below_tail}
 
--- the two ways of an answer are told apart, and give back what they hold
-pub record Shape {K X : Type 0} (read : K → Cursor → X) (refuse : Refusal → X) : Type 0 where
+-- an answer gives back what it holds
+pub record Shape {K A : Type 0} (read : K → Cursor → A) : Type 0 where
   pub value : (v w : K) (c d : Cursor) → read v c ≡ read w d → v ≡ w
   pub place : (v w : K) (c d : Cursor) → read v c ≡ read w d → c ≡ d
-  pub fault : (f h : Refusal) → refuse f ≡ refuse h → f ≡ h
-  pub apart : (v : K) (c : Cursor) (f : Refusal) → read v c ≡ refuse f → ⊥
 
 -- something was read at `at`, where s is the image from there on: what lies behind `place` is what is left
 pub record Took {K : Type 0} (at : ℕ) (s : List ℕ) (g : Read K) (k : K) (place : ℕ) : Type 0 where
@@ -41,27 +39,37 @@ took_got at s k rest place b w =
     let r : rest ≡ drop (place - at) s = rw d b.is in
     record { moved = omega arith; within = omega arith; is = ap (got k) r; ends = rw (← r) (omega arith) }
 
-module _ {K X : Type 0} {read : K → Cursor → X} {refuse : Refusal → X} (S : Shape read refuse) where
-  took_from : {at : ℕ} {s : List ℕ} {g : Read K} {k : K} {past : Cursor} → Tail s g → read k past ≡ answer_at read refuse (at + length s) g → Took at s g k past.at
-  took_from {at} {s} {g} {k} {past} (tail_got {a = v} {rest = rest} b) e =
-      let i : v ≡ k = sym (S.value k v past (record { at = at + length s - length rest }) e) in
-      let p : past.at ≡ at + length s - length rest = ap (λ (c : Cursor). c.at) (S.place k v past (record { at = at + length s - length rest }) e) in
-      rw i (took_got at s k rest past.at b p)
-  took_from {k = k} {past = past} (tail_fault {r = r}) e = absurd (S.apart k past (case_of r) e)
+module _ {A : Type 0} where
+  pub err_same : {f h : Refusal} → ◌≡◌ {A = Result A Refusal} (Err f) (Err h) → f ≡ h
+  err_same e = cc
 
-  refused-from : (end : ℕ) {f : Refusal} (g : Read K) → refuse f ≡ answer_at read refuse end g → g ≡ fault (refusal_of f)
-  refused-from end {f} (got k rest) e = absurd (S.apart k (record { at = end - length rest }) f (sym e))
-  refused-from end {f} (fault r) e = ap fault (sym (refusal_back r) ∙ ap refusal_of (sym (S.fault f (case_of r) e)))
+  pub ok_same : {a b : A} → ◌≡◌ {A = Result A Refusal} (Ok a) (Ok b) → a ≡ b
+  ok_same e = cc
+
+  pub ok-err : {a : A} {f : Refusal} → ◌≡◌ {A = Result A Refusal} (Ok a) (Err f) → ⊥
+  ok-err e = let z : ◌≡◌ {A = ℕ} 0 1 = cc in omega arith
+
+module _ {K A : Type 0} {read : K → Cursor → A} (S : Shape read) where
+  took_from : {at : ℕ} {s : List ℕ} {g : Read K} {k : K} {past : Cursor} → Tail s g → Ok (read k past) ≡ answer_at read (at + length s) g → Took at s g k past.at
+  took_from {at} {s} {g} {k} {past} (tail_got {a = v} {rest = rest} b) e =
+      let i : v ≡ k = sym (S.value k v past (record { at = at + length s - length rest }) (ok_same e)) in
+      let p : past.at ≡ at + length s - length rest = ap (λ (c : Cursor). c.at) (S.place k v past (record { at = at + length s - length rest }) (ok_same e)) in
+      rw i (took_got at s k rest past.at b p)
+  took_from {k = k} {past = past} (tail_fault {r = r}) e = absurd (ok-err e)
+
+  refused-from : (end : ℕ) {f : Refusal} (g : Read K) → Err f ≡ answer_at read end g → g ≡ fault (refusal_of f)
+  refused-from end {f} (got k rest) e = absurd (ok-err (sym e))
+  refused-from end {f} (fault r) e = ap fault (sym (refusal_back r) ∙ ap refusal_of (sym (err_same e)))
 
   -- the answer r is known to be one of its two ways
-  module _ {r : X} where
-    pub took : {at : ℕ} {s : List ℕ} {g : Read K} {k : K} {past : Cursor} → r ≡ answer_at read refuse (at + length s) g → r ≡ read k past → Tail s g → Took at s g k past.at
+  module _ {r : Result A Refusal} where
+    pub took : {at : ℕ} {s : List ℕ} {g : Read K} {k : K} {past : Cursor} → r ≡ answer_at read (at + length s) g → r ≡ Ok (read k past) → Tail s g → Took at s g k past.at
     took h e t = took_from t (sym e ∙ h)
 
-    pub refused : (end : ℕ) (g : Read K) {f : Refusal} → r ≡ answer_at read refuse end g → r ≡ refuse f → g ≡ fault (refusal_of f)
+    pub refused : (end : ℕ) (g : Read K) {f : Refusal} → r ≡ answer_at read end g → r ≡ Err f → g ≡ fault (refusal_of f)
     refused end g h e = refused-from end g (sym e ∙ h)
 
-    module _ (at : ℕ) (s : List ℕ) (g : Read K) {k : K} {past : Cursor} (h : r ≡ answer_at read refuse (at + length s) g) (e : r ≡ read k past) (t : Tail s g) where
+    module _ (at : ℕ) (s : List ℕ) (g : Read K) {k : K} {past : Cursor} (h : r ≡ answer_at read (at + length s) g) (e : r ≡ Ok (read k past)) (t : Tail s g) where
       -- what `after` asks
       pub moved_on : at ≤ past.at
       moved_on = let T : Took at s g k past.at = took h e t in T.moved
@@ -74,100 +82,103 @@ module _ {K X : Type 0} {read : K → Cursor → X} {refuse : Refusal → X} (S 
       fits_after {u} i l = let T : Took at s g k past.at = took h e t in rw (i, T.ends) l
 
     -- and so of what the definition makes of it, in an answer of any kind
-    module _ {L Y : Type 0} (read' : L → Cursor → Y) (refuse' : Refusal → Y) where
-      pub stops : (end : ℕ) (g : Read K) {f : Refusal} (j : K → Reader L) → r ≡ answer_at read refuse end g → r ≡ refuse f → refuse' f ≡ answer_at read' refuse' end (next g j)
-      stops end g {f} j h e = rw (refused end g h e) (ap refuse' (sym (case_back f)))
+    module _ {L B : Type 0} (read' : L → Cursor → B) where
+      pub stops : (end : ℕ) (g : Read K) {f : Refusal} (j : K → Reader L) → r ≡ answer_at read end g → r ≡ Err f → Err f ≡ answer_at read' end (next g j)
+      stops end g {f} j h e = rw (refused end g h e) (ap (λ (x : Refusal). Err x) (sym (case_back f)))
 
-      module _ (at : ℕ) {s : List ℕ} (g : Read K) {k : K} {past : Cursor} (j : K → Reader L) (h : r ≡ answer_at read refuse (at + length s) g) (e : r ≡ read k past) (t : Tail s g) where
+      module _ (at : ℕ) {s : List ℕ} (g : Read K) {k : K} {past : Cursor} (j : K → Reader L) (h : r ≡ answer_at read (at + length s) g) (e : r ≡ Ok (read k past)) (t : Tail s g) where
         -- it goes on with the image behind
-        pub goes : {u : List ℕ} {x : Y} → u ≡ drop (past.at - at) s → x ≡ answer_at read' refuse' (past.at + length u) (j k u) → x ≡ answer_at read' refuse' (at + length s) (next g j)
+        pub goes : {u : List ℕ} {x : Result B Refusal} → u ≡ drop (past.at - at) s → x ≡ answer_at read' (past.at + length u) (j k u) → x ≡ answer_at read' (at + length s) (next g j)
         goes {u} i a = let T : Took at s g k past.at = took h e t in rw (T.is, ← T.ends, ← i) a
 
         -- it gives something and reads no further
-        pub gives : {l : L} → ((u : List ℕ) → j k u ≡ got l u) → read' l past ≡ answer_at read' refuse' (at + length s) (next g j)
+        pub gives : {l : L} → ((u : List ℕ) → j k u ≡ got l u) → Ok (read' l past) ≡ answer_at read' (at + length s) (next g j)
         gives {l} i =
             let T : Took at s g k past.at = took h e t in
             let p : at + length s - length (drop (past.at - at) s) ≡ past.at = omega (arith, T.ends) in
             rw (T.is, i (drop (past.at - at) s), p)
 
         -- it refuses
-        pub refuses : {f : Refusal} → ((u : List ℕ) → j k u ≡ fault (refusal_of f)) → refuse' f ≡ answer_at read' refuse' (at + length s) (next g j)
+        pub refuses : {f : Refusal} → ((u : List ℕ) → j k u ≡ fault (refusal_of f)) → Err f ≡ answer_at read' (at + length s) (next g j)
         refuses {f} i = let T : Took at s g k past.at = took h e t in rw (T.is, i (drop (past.at - at) s), case_back)
 
--- ---- the answer `Number`
+-- ---- a value beside the place
 
-pub number_shape : Shape number.Read number.Fault
-number_shape = record {
-  value = λ v w c d e. (cc);
-  place = λ v w c d e. (cc);
-  fault = λ f h e. (cc);
-  apart = λ v c f e. (let z : ◌≡◌ {A = ℕ} 0 1 = cc in omega arith);
+pub read_shape : {K : Type 0} → Shape {K = K} beside
+read_shape {K} = record {
+  value = λ v w c d e. ap (λ (p : K × Cursor). p.0) e;
+  place = λ v w c d e. ap (λ (p : K × Cursor). p.1) e;
 }
 
-module _ (at : ℕ) (s : List ℕ) (g : Read ℕ) {r : Number} {n : ℕ} {past : Cursor} (h : r ≡ number_at (at + length s) g) (e : r ≡ number.Read n past) (t : Tail s g) where
-  pub number-moved : at ≤ past.at
-  number-moved = moved_on number_shape at s g h e t
+module _ {K : Type 0} (at : ℕ) (s : List ℕ) (g : Read K) {r : Result (K × Cursor) Refusal} {n : K} {past : Cursor} (h : r ≡ read_at (at + length s) g) (e : r ≡ Ok (n, past)) (t : Tail s g) where
+  pub read-moved : at ≤ past.at
+  read-moved = moved_on read_shape at s g h e t
 
-  pub number-within : past.at ≤ at + length s
-  number-within = kept-within number_shape at s g h e t
+  pub read-within : past.at ≤ at + length s
+  read-within = kept-within read_shape at s g h e t
 
-  pub number_fits : {u : List ℕ} {m : ℕ} → u ≡ drop (past.at - at) s → at + length s ≤ m → past.at + length u ≤ m
-  number_fits i l = fits_after number_shape at s g h e t i l
+  pub read-fits : {u : List ℕ} {m : ℕ} → u ≡ drop (past.at - at) s → at + length s ≤ m → past.at + length u ≤ m
+  read-fits i l = fits_after read_shape at s g h e t i l
 
--- ---- the answer `Place`
+-- ---- two reads in a row, the second behind the first, whose answer ends at c
 
-pub place_shape : Shape placed place.Fault
+module _ {K L : Type 0} {at : ℕ} {s : List ℕ} {g : Read K} {a : K} {c : Cursor} (T : Took at s g a c.at) {u : List ℕ} (i : u ≡ drop (c.at - at) s) {f : Read L} {b : L} {d : Cursor} (U : Took c.at u f b d.at) where
+  pub row-moved : at ≤ d.at
+  row-moved = omega (arith, T.moved, U.moved)
+
+  pub row-within : d.at ≤ at + length s
+  row-within = let l = ap length i in let e = T.ends in omega (arith, U.within)
+
+  -- what is left behind both
+  pub row-rest : {v : List ℕ} → v ≡ drop (d.at - at) s → v ≡ drop (d.at - c.at) u
+  row-rest l =
+      let q : c.at - at + (d.at - c.at) ≡ d.at - at = omega (arith, T.moved, U.moved) in
+      l ∙ sym (ap (drop (d.at - c.at)) i ∙ drop-drop (d.at - c.at) (c.at - at) s ∙ ap (λ (w : ℕ). drop w s) q)
+
+-- ---- the place alone
+
+pub place_shape : Shape placed
 place_shape = record {
   value = λ v w c d e. refl;
-  place = λ v w c d e. (cc);
-  fault = λ f h e. (cc);
-  apart = λ v c f e. (let z : ◌≡◌ {A = ℕ} 0 1 = cc in omega arith);
+  place = λ v w c d e. e;
 }
 
--- ---- a value beside a place
+-- ---- a value that is seen as another
 
-pub seen_shape : {K : Type 0} (none : K) → Shape {K = K} {X = Seen K} seen (unseen none)
-seen_shape {K} none = record {
-  value = λ v w c d e. ap (λ (x : Seen K). x.value) e;
-  place = λ v w c d e. (let p : place.At c ≡ place.At d = ap (λ (x : Seen K). x.end) e in cc);
-  fault = λ f h e. (let p : place.Fault f ≡ place.Fault h = ap (λ (x : Seen K). x.end) e in cc);
-  apart = λ v c f e. (let p : place.At c ≡ place.Fault f = ap (λ (x : Seen K). x.end) e in let z : ◌≡◌ {A = ℕ} 0 1 = cc in omega arith);
-}
-
-module _ {K : Type 0} (none : K) (at : ℕ) (s : List ℕ) (g : Read K) {x : Seen K} {past : Cursor} (h : x ≡ seen_at none (at + length s) g) (e : x.end ≡ place.At past) (t : Tail s g) where
-  pub whole : x ≡ seen x.value past
-  whole = ap (λ (p : Place). record { value = x.value; end = p }) e
+module _ {A K : Type 0} (see : A → K) (at : ℕ) (s : List ℕ) (g : Read K) {r : Result (A × Cursor) Refusal} {v : A} {past : Cursor} (h : seen see r ≡ read_at (at + length s) g) (e : r ≡ Ok (v, past)) (t : Tail s g) where
+  pub whole : seen see r ≡ Ok (see v, past)
+  whole = rw e refl
 
   pub seen-moved : at ≤ past.at
-  seen-moved = moved_on (seen_shape none) at s g h whole t
+  seen-moved = moved_on read_shape at s g h whole t
 
   pub seen-within : past.at ≤ at + length s
-  seen-within = kept-within (seen_shape none) at s g h whole t
+  seen-within = kept-within read_shape at s g h whole t
 
   pub seen-fits : {u : List ℕ} {m : ℕ} → u ≡ drop (past.at - at) s → at + length s ≤ m → past.at + length u ≤ m
-  seen-fits i l = fits_after (seen_shape none) at s g h whole t i l
+  seen-fits i l = fits_after read_shape at s g h whole t i l
 
   -- what the definition makes of it
-  module _ {L Y : Type 0} (read' : L → Cursor → Y) (refuse' : Refusal → Y) (j : K → Reader L) where
-    pub seen-goes : {u : List ℕ} {y : Y} → u ≡ drop (past.at - at) s → y ≡ answer_at read' refuse' (past.at + length u) (j x.value u) → y ≡ answer_at read' refuse' (at + length s) (next g j)
-    seen-goes i a = goes (seen_shape none) read' refuse' at g j h whole t i a
+  module _ {L B : Type 0} (read' : L → Cursor → B) (j : K → Reader L) where
+    pub seen-goes : {u : List ℕ} {y : Result B Refusal} → u ≡ drop (past.at - at) s → y ≡ answer_at read' (past.at + length u) (j (see v) u) → y ≡ answer_at read' (at + length s) (next g j)
+    seen-goes i a = goes read_shape read' at g j h whole t i a
 
-    pub seen-gives : {l : L} → ((u : List ℕ) → j x.value u ≡ got l u) → read' l past ≡ answer_at read' refuse' (at + length s) (next g j)
-    seen-gives i = gives (seen_shape none) read' refuse' at g j h whole t i
+    pub seen-gives : {l : L} → ((u : List ℕ) → j (see v) u ≡ got l u) → Ok (read' l past) ≡ answer_at read' (at + length s) (next g j)
+    seen-gives i = gives read_shape read' at g j h whole t i
 
-pub seen-refused : {K : Type 0} (none : K) (end : ℕ) (g : Read K) {x : Seen K} {f : Refusal} → x ≡ seen_at none end g → x.end ≡ place.Fault f → g ≡ fault (refusal_of f)
-seen-refused {K} none end (got k rest) {x} {f} h e =
-    let p : x.end ≡ place.At (record { at = end - length rest }) = ap (λ (y : Seen K). y.end) h in
-    let z : ◌≡◌ {A = ℕ} 0 1 = cc in
-    absurd (omega arith)
-seen-refused {K} none end (fault r) {x} {f} h e =
-    let p : x.end ≡ place.Fault (case_of r) = ap (λ (y : Seen K). y.end) h in
-    let q : case_of r ≡ f = cc in
-    ap fault (sym (refusal_back r) ∙ ap refusal_of q)
+module _ {A K : Type 0} (see : A → K) (end : ℕ) (g : Read K) {r : Result (A × Cursor) Refusal} {f : Refusal} (h : seen see r ≡ read_at end g) (e : r ≡ Err f) where
+  pub unseen : seen see r ≡ Err f
+  unseen = rw e refl
 
-pub seen-stops : {K L Y : Type 0} (none : K) (read' : L → Cursor → Y) (refuse' : Refusal → Y) (end : ℕ) (g : Read K) (j : K → Reader L) {x : Seen K} {f : Refusal}
-    → x ≡ seen_at none end g → x.end ≡ place.Fault f → refuse' f ≡ answer_at read' refuse' end (next g j)
-seen-stops none read' refuse' end g j {f = f} h e = rw (seen-refused none end g h e) (ap refuse' (sym (case_back f)))
+  pub seen-refused : g ≡ fault (refusal_of f)
+  seen-refused = refused read_shape end g h unseen
+
+  pub seen-stops : {L B : Type 0} (read' : L → Cursor → B) (j : K → Reader L) → Err f ≡ answer_at read' end (next g j)
+  seen-stops read' j = stops read_shape read' end g j h unseen
+
+-- what `?` hands on of an answer that is seen as another
+pub seen_handed : {A K : Type 0} (see : A → K) (r : Result (A × Cursor) Refusal) {x : Result (K × Cursor) Refusal} {f : Refusal} → IsErrAnd r (λ e. e ≡ f) → Err f ≡ x → seen see r ≡ x
+seen_handed see r h e = ap (seen see) (handed_on h refl) ∙ e
 
 -- ---- what is kept
 
@@ -208,7 +219,7 @@ need-no c j s e = rw e refl
 abbrev nothing : {A : Type 0} → A → Unit {0}
 nothing a = tt
 
-module _ {A : Type 0} (at : ℕ) (s : List ℕ) (g : Read A) {x : Place} {past : Cursor} (h : x ≡ place_at (at + length s) g) (e : x ≡ place.At past) (t : Tail s g) where
+module _ {A : Type 0} (at : ℕ) (s : List ℕ) (g : Read A) {x : Result Cursor Refusal} {past : Cursor} (h : x ≡ place_at (at + length s) g) (e : x ≡ Ok past) (t : Tail s g) where
   pub place_took : Took at s (kept nothing g) (tt {0}) past.at
   place_took = took place_shape h e (kept_tail nothing t)
 
@@ -224,8 +235,8 @@ module _ {A : Type 0} (at : ℕ) (s : List ℕ) (g : Read A) {x : Place} {past :
   pub place-fits : {u : List ℕ} {m : ℕ} → u ≡ drop (past.at - at) s → at + length s ≤ m → past.at + length u ≤ m
   place-fits {u} i l = rw (i, place_took.ends) l
 
-pub place-refused : {A : Type 0} (end : ℕ) (g : Read A) {x : Place} {f : Refusal} → x ≡ place_at end g → x ≡ place.Fault f → g ≡ fault (refusal_of f)
+pub place-refused : {A : Type 0} (end : ℕ) (g : Read A) {x : Result Cursor Refusal} {f : Refusal} → x ≡ place_at end g → x ≡ Err f → g ≡ fault (refusal_of f)
 place-refused end g {f = f} h e = kept-fault nothing g (refusal_of f) (refused place_shape end (kept nothing g) h e)
 
 -- what a caller of the number readers asks for most needs
-pub ruleset answering = (number-moved, number-within, number_fits, place-moved, place-within, place-fits, seen-moved, seen-within, seen-fits, num_tail, up_to_tail, below_tail)
+pub ruleset answering = (read-moved, read-within, read-fits, place-moved, place-within, place-fits, seen-moved, seen-within, seen-fits, num_tail, up_to_tail, below_tail)

@@ -15,13 +15,12 @@ use Rattle.refusals.specs.declared.Refusal.{Refusal}
 use Rattle.refusals.specs.declared.Refusal.TheVariants.{Layout, OverLimit}
 use Rattle.refusals.specs.Refusing.{refusal_of}
 use Rattle.numbers.specs.declared.Cursor.{Cursor}
-use Rattle.numbers.specs.declared.Number.{Number}
-use Rattle.numbers.specs.declared.Number.TheVariants.{Read, Fault}
-use Rattle.numbers.specs.Answers.{number_at}
+use Rattle.std.specs.Prelude.{Result, Ok, Err}
+use Rattle.numbers.specs.Answers.{beside, read_at}
 use Rattle.numbers.specs.Limits.{most_image}
 use Rattle.numbers.specs.Weights.{Weighed, second, third, fourth, fifth}
 use Rattle.numbers.proofs.Tails.{num_tail}
-use Rattle.numbers.proofs.Answering.{number_shape, gives, refuses, stops}
+use Rattle.numbers.proofs.Answering.{read_shape, gives, refuses, stops}
 
 -- an image is as long as the model allows
 pub image-is : most_image ≡ m.most_image
@@ -105,11 +104,11 @@ more-weight h e = record { fits = (more-small {b = 0} h e (omega arith)).1 }
 -- ---- the groups after the first
 
 module _ (at left w n : ℕ) where
-  pub groups_none : (s : List ℕ) → length s ≡ 0 → Fault Layout ≡ number_at (at + length s) (groups left w n s)
+  pub groups_none : (s : List ℕ) → length s ≡ 0 → Err Layout ≡ read_at (at + length s) (groups left w n s)
   unfolding groups byte
   groups_none [] e = go left
     where
-      go : (k : ℕ) → Fault Layout ≡ number_at (at + 0) (groups k w n [])
+      go : (k : ℕ) → Err Layout ≡ read_at (at + 0) (groups k w n [])
       go zero = refl
       go (suc k) = refl
   groups_none (b ∷ s) e = absurd (omega arith)
@@ -119,15 +118,15 @@ module _ (at left w n : ℕ) where
     first = ap (groups left w n) (cons_of s some)
 
     module _ (e : left ≡ 0) where
-      pub fifth-over : 15 < get_or s 0 0 → Fault OverLimit ≡ number_at (at + length s) (groups left w n s)
+      pub fifth-over : 15 < get_or s 0 0 → Err OverLimit ≡ read_at (at + length s) (groups left w n s)
       unfolding groups byte
       fifth-over h = rw (first, e, lt-leb (get_or s 0 0) 15 h)
 
-      pub fifth-zero : get_or s 0 0 ≤ 15 → get_or s 0 0 ≡ 0 → Fault Layout ≡ number_at (at + length s) (groups left w n s)
+      pub fifth-zero : get_or s 0 0 ≤ 15 → get_or s 0 0 ≡ 0 → Err Layout ≡ read_at (at + length s) (groups left w n s)
       unfolding groups byte
       fifth-zero h z = rw (first, e, le-leb (get_or s 0 0) 15 h, eq-eqb (get_or s 0 0) 0 z)
 
-      pub fifth-last : get_or s 0 0 ≤ 15 → (get_or s 0 0 ≡ 0 → ⊥) → Read (n + get_or s 0 0 * w) (record { at = at + 1 }) ≡ number_at (at + length s) (groups left w n s)
+      pub fifth-last : get_or s 0 0 ≤ 15 → (get_or s 0 0 ≡ 0 → ⊥) → Ok (n + get_or s 0 0 * w, record { at = at + 1 }) ≡ read_at (at + length s) (groups left w n s)
       unfolding groups byte
       fifth-last h z = rw (first, e, le-leb (get_or s 0 0) 15 h, ne_eqb (get_or s 0 0) 0 z, one_past at s some)
 
@@ -135,24 +134,24 @@ module _ (at left w n : ℕ) where
       more : groups left w n s ≡ groups (suc (left - 1)) w n (get_or s 0 0 ∷ drop 1 s)
       more = first ∙ (let p : left ≡ suc (left - 1) = omega arith in ap (λ (k : ℕ). groups k w n (get_or s 0 0 ∷ drop 1 s)) p)
 
-      pub group-zero : get_or s 0 0 ≡ 0 → Fault Layout ≡ number_at (at + length s) (groups left w n s)
+      pub group-zero : get_or s 0 0 ≡ 0 → Err Layout ≡ read_at (at + length s) (groups left w n s)
       unfolding groups byte
       group-zero z = rw (more, lt-ltb (get_or s 0 0) 128 (omega arith), eq-eqb (get_or s 0 0) 0 z)
 
-      pub group-last : (get_or s 0 0 ≡ 0 → ⊥) → get_or s 0 0 < 128 → Read (n + get_or s 0 0 * w) (record { at = at + 1 }) ≡ number_at (at + length s) (groups left w n s)
+      pub group-last : (get_or s 0 0 ≡ 0 → ⊥) → get_or s 0 0 < 128 → Ok (n + get_or s 0 0 * w, record { at = at + 1 }) ≡ read_at (at + length s) (groups left w n s)
       unfolding groups byte
       group-last z h = rw (more, lt-ltb (get_or s 0 0) 128 h, ne_eqb (get_or s 0 0) 0 z, one_past at s some)
 
-      pub group-more : 128 ≤ get_or s 0 0 → {r : Number}
-          → r ≡ number_at (at + 1 + length (take (length s - 1) (drop 1 s))) (groups (left - 1) (w * 128) (n + (get_or s 0 0 - 128) * w) (take (length s - 1) (drop 1 s)))
-          → r ≡ number_at (at + length s) (groups left w n s)
+      pub group-more : 128 ≤ get_or s 0 0 → {r : Result (ℕ × Cursor) Refusal}
+          → r ≡ read_at (at + 1 + length (take (length s - 1) (drop 1 s))) (groups (left - 1) (w * 128) (n + (get_or s 0 0 - 128) * w) (take (length s - 1) (drop 1 s)))
+          → r ≡ read_at (at + length s) (groups left w n s)
       unfolding groups byte
       group-more h a = rw (more, le-ltb (get_or s 0 0) 128 h) (rw (same_end at s some, part-from) at a)
 
 -- ---- the first
 
 module _ (at : ℕ) where
-  pub num-none : (s : List ℕ) → length s ≡ 0 → Fault Layout ≡ number_at (at + length s) (num s)
+  pub num-none : (s : List ℕ) → length s ≡ 0 → Err Layout ≡ read_at (at + length s) (num s)
   unfolding num byte
   num-none [] e = refl
   num-none (b ∷ s) e = absurd (omega arith)
@@ -161,43 +160,43 @@ module _ (at : ℕ) where
     num-first : num s ≡ num (get_or s 0 0 ∷ drop 1 s)
     num-first = ap num (cons_of s some)
 
-    pub num-one : get_or s 0 0 < 128 → Read (get_or s 0 0) (record { at = at + 1 }) ≡ number_at (at + length s) (num s)
+    pub num-one : get_or s 0 0 < 128 → Ok (get_or s 0 0, record { at = at + 1 }) ≡ read_at (at + length s) (num s)
     unfolding num byte
     num-one h = rw (num-first, lt-ltb (get_or s 0 0) 128 h, one_past at s some)
 
-    pub num-more : 128 ≤ get_or s 0 0 → {r : Number}
-        → r ≡ number_at (at + 1 + length (take (length s - 1) (drop 1 s))) (groups 3 128 (get_or s 0 0 - 128) (take (length s - 1) (drop 1 s)))
-        → r ≡ number_at (at + length s) (num s)
+    pub num-more : 128 ≤ get_or s 0 0 → {r : Result (ℕ × Cursor) Refusal}
+        → r ≡ read_at (at + 1 + length (take (length s - 1) (drop 1 s))) (groups 3 128 (get_or s 0 0 - 128) (take (length s - 1) (drop 1 s)))
+        → r ≡ read_at (at + length s) (num s)
     unfolding num byte
     num-more h a = rw (num-first, le-ltb (get_or s 0 0) 128 h) (rw (same_end at s some, part-from) at a)
 
 -- ---- a number with a limit
 
-module _ (at : ℕ) (s : List ℕ) {r : Number} (h : r ≡ number_at (at + length s) (num s)) where
-  module _ {n : ℕ} {past : Cursor} (e : r ≡ Read n past) where
-    pub up_to-yes : (f : Refusal) (m : ℕ) → n ≤ m → Read n past ≡ number_at (at + length s) (num_up_to (refusal_of f) m s)
+module _ (at : ℕ) (s : List ℕ) {r : Result (ℕ × Cursor) Refusal} (h : r ≡ read_at (at + length s) (num s)) where
+  module _ {n : ℕ} {past : Cursor} (e : r ≡ Ok (n, past)) where
+    pub up_to-yes : (f : Refusal) (m : ℕ) → n ≤ m → Ok (n, past) ≡ read_at (at + length s) (num_up_to (refusal_of f) m s)
     unfolding num_up_to
-    up_to-yes f m l = gives number_shape Read Fault at (num s) _ h e (num_tail s) (λ u. rw (le-leb n m l))
+    up_to-yes f m l = gives read_shape beside at (num s) _ h e (num_tail s) (λ u. rw (le-leb n m l))
 
-    pub up_to-no : (f : Refusal) (m : ℕ) → m < n → Fault f ≡ number_at (at + length s) (num_up_to (refusal_of f) m s)
+    pub up_to-no : (f : Refusal) (m : ℕ) → m < n → Err f ≡ read_at (at + length s) (num_up_to (refusal_of f) m s)
     unfolding num_up_to
-    up_to-no f m l = refuses number_shape Read Fault at (num s) _ h e (num_tail s) (λ u. rw (lt-leb n m l))
+    up_to-no f m l = refuses read_shape beside at (num s) _ h e (num_tail s) (λ u. rw (lt-leb n m l))
 
-    pub below-yes : (m : ℕ) → n < m → Read n past ≡ number_at (at + length s) (num_below m s)
+    pub below-yes : (m : ℕ) → n < m → Ok (n, past) ≡ read_at (at + length s) (num_below m s)
     unfolding num_below
-    below-yes m l = gives number_shape Read Fault at (num s) _ h e (num_tail s) (λ u. rw (lt-ltb n m l))
+    below-yes m l = gives read_shape beside at (num s) _ h e (num_tail s) (λ u. rw (lt-ltb n m l))
 
-    pub below-no : (m : ℕ) → m ≤ n → Fault Layout ≡ number_at (at + length s) (num_below m s)
+    pub below-no : (m : ℕ) → m ≤ n → Err Layout ≡ read_at (at + length s) (num_below m s)
     unfolding num_below
-    below-no m l = refuses number_shape Read Fault at (num s) _ h e (num_tail s) (λ u. rw (le-ltb n m l))
+    below-no m l = refuses read_shape beside at (num s) _ h e (num_tail s) (λ u. rw (le-ltb n m l))
 
-  module _ {f : Refusal} (e : r ≡ Fault f) where
-    pub up_to-stops : (c : Refusal) (m : ℕ) → Fault f ≡ number_at (at + length s) (num_up_to (refusal_of c) m s)
+  module _ {f : Refusal} (e : r ≡ Err f) where
+    pub up_to-stops : (c : Refusal) (m : ℕ) → Err f ≡ read_at (at + length s) (num_up_to (refusal_of c) m s)
     unfolding num_up_to
-    up_to-stops c m = stops number_shape Read Fault (at + length s) (num s) _ h e
+    up_to-stops c m = stops read_shape beside (at + length s) (num s) _ h e
 
-    pub below-stops : (m : ℕ) → Fault f ≡ number_at (at + length s) (num_below m s)
+    pub below-stops : (m : ℕ) → Err f ≡ read_at (at + length s) (num_below m s)
     unfolding num_below
-    below-stops m = stops number_shape Read Fault (at + length s) (num s) _ h e
+    below-stops m = stops read_shape beside (at + length s) (num s) _ h e
 
 pub ruleset number_laws = (part-from, rest-fits, one_less, weighed_first, weighed_more, fifth_product, fifth_sum, last_product, last_sum, more_product, more_sum, more-weight, groups_none, fifth-over, fifth-zero, fifth-last, group-zero, group-last, group-more, num-none, num-one, num-more, up_to-yes, up_to-no, up_to-stops, below-yes, below-no, below-stops)

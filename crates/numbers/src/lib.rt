@@ -7,7 +7,7 @@ ghost use Rattle.numbers.specs.Limits.{most_image};
 ghost use Rattle.model.specs.Reading.{num, groups, num_up_to, num_below};
 ghost use Rattle.model.specs.Writing.{num_bytes};
 ghost use Rattle.refusals.specs.Refusing.{refusal_of};
-ghost use Rattle.numbers.specs.Answers.{number_at};
+ghost use Rattle.numbers.specs.Answers.{read_at};
 ghost use Rattle.numbers.specs.Weights.{Weighed};
 
 use refusals::Refusal;
@@ -18,19 +18,8 @@ pub struct Cursor {
     pub at: usize,
 }
 
-// A number with the place past it, or the fault.
-#[derive(Clone, Copy)]
-pub enum Number {
-    Read(u32, Cursor),
-    Fault(Refusal),
-}
-
-// The place past something that was read, or the fault.
-#[derive(Clone, Copy)]
-pub enum Place {
-    At(Cursor),
-    Fault(Refusal),
-}
+// What was read with the place past it, or the fault.
+pub type Read<T> = Result<(T, Cursor), Refusal>;
 
 impl Cursor {
     // Bytes of an image.
@@ -49,45 +38,45 @@ impl Cursor {
     }
 
     // The number at this cursor, where `s` is the image from here on.
-    pub fn number(self, s: &[u8]) -> Number
+    pub fn number(self, s: &[u8]) -> Read<u32>
         requires { self.at + length s.now ≤ most_image }
-        ensures { result ≡ number_at (self.at + length s.now) (num s.now) }
+        ensures { result ≡ read_at (self.at + length s.now) (num s.now) }
     {
-        if s.len() == 0 {
-            return Number::Fault(Refusal::Layout);
+        if s.is_empty() {
+            return Err(Refusal::Layout);
         }
         let b = s[0];
         let past = Cursor { at: self.at + 1 };
         if b < 128 {
-            return Number::Read(b as u32, past);
+            return Ok((b as u32, past));
         }
         past.groups(&s[1..], 3, 128, (b - 128) as u32)
     }
 
     // The groups after the first: `sum` is what they add to, `weight` the next one's, and `left` more come before the fifth.
-    fn groups(self, s: &[u8], left: u32, weight: u32, sum: u32) -> Number
+    fn groups(self, s: &[u8], left: u32, weight: u32, sum: u32) -> Read<u32>
         requires { (self.at + length s.now ≤ most_image) × Weighed left weight sum }
-        ensures { result ≡ number_at (self.at + length s.now) (groups left weight sum s.now) }
+        ensures { result ≡ read_at (self.at + length s.now) (groups left weight sum s.now) }
     {
-        if s.len() == 0 {
-            return Number::Fault(Refusal::Layout);
+        if s.is_empty() {
+            return Err(Refusal::Layout);
         }
         let b = s[0];
         let past = Cursor { at: self.at + 1 };
         if left == 0 {
             if 15 < b {
-                return Number::Fault(Refusal::OverLimit);
+                return Err(Refusal::OverLimit);
             }
             if b != 0 {
-                return Number::Read(sum + b as u32 * weight, past);
+                return Ok((sum + b as u32 * weight, past));
             }
-            return Number::Fault(Refusal::Layout);
+            return Err(Refusal::Layout);
         }
         if b == 0 {
-            return Number::Fault(Refusal::Layout);
+            return Err(Refusal::Layout);
         }
         if b < 128 {
-            return Number::Read(sum + b as u32 * weight, past);
+            return Ok((sum + b as u32 * weight, past));
         }
         past.groups(
             &s[1..],
@@ -98,37 +87,27 @@ impl Cursor {
     }
 
     // A number that is at most `most`, else the fault given.
-    pub fn number_up_to(self, s: &[u8], fault: Refusal, most: u32) -> Number
+    pub fn number_up_to(self, s: &[u8], fault: Refusal, most: u32) -> Read<u32>
         requires { self.at + length s.now ≤ most_image }
-        ensures { result ≡ number_at (self.at + length s.now) (num_up_to (refusal_of fault) most s.now) }
+        ensures { result ≡ read_at (self.at + length s.now) (num_up_to (refusal_of fault) most s.now) }
     {
-        match self.number(s) {
-            Number::Read(n, past) => {
-                if n <= most {
-                    Number::Read(n, past)
-                } else {
-                    Number::Fault(fault)
-                }
-            }
-            Number::Fault(f) => Number::Fault(f),
+        let (n, past) = self.number(s)?;
+        if most < n {
+            return Err(fault);
         }
+        Ok((n, past))
     }
 
     // A number of something declared: below `limit`.
-    pub fn number_below(self, s: &[u8], limit: u32) -> Number
+    pub fn number_below(self, s: &[u8], limit: u32) -> Read<u32>
         requires { self.at + length s.now ≤ most_image }
-        ensures { result ≡ number_at (self.at + length s.now) (num_below limit s.now) }
+        ensures { result ≡ read_at (self.at + length s.now) (num_below limit s.now) }
     {
-        match self.number(s) {
-            Number::Read(n, past) => {
-                if n < limit {
-                    Number::Read(n, past)
-                } else {
-                    Number::Fault(Refusal::Layout)
-                }
-            }
-            Number::Fault(f) => Number::Fault(f),
+        let (n, past) = self.number(s)?;
+        if limit <= n {
+            return Err(Refusal::Layout);
         }
+        Ok((n, past))
     }
 }
 

@@ -1,4 +1,4 @@
-use Rattle.std.proofs.Common.{rules, ◌-◌}
+use Rattle.std.proofs.Common.{rules}
 use Rattle.numbers.proofs.put_number.Goals as goal
 use Rattle.numbers.proofs.Writing.{writing_laws}
 

@@ -1,4 +1,3 @@
-use Rattle.std.proofs.Common.{◌-◌}
 use Rattle.numbers.proofs.Cursor.+groups.Given as goal
 
 abbrev pub decreases-groups : goal.decreases-groups

@@ -1,12 +1,13 @@
-use Rattle.std.proofs.Common.{rules, ◌-◌}
+use Rattle.std.proofs.Common.{rules}
 use Rattle.numbers.proofs.Cursor.number_below.Goals as goal
-use Rattle.numbers.proofs.Reading.{number_laws}
+use Rattle.refusals.proofs.Handing.{handed_on}
+use Rattle.numbers.proofs.Reading.{number_laws, below-stops}
 
-pub returns-then-n-limit : goal.returns-then-n-limit
-returns-then-n-limit c = search (number_laws, rules)
+pub returns-in_err-n : goal.returns-in_err-n
+returns-in_err-n c = handed_on c.from_residual.ensures.1 (below-stops _ _ c.number.ensures c.in_err-n.was _)
 
-pub returns-else-n-limit : goal.returns-else-n-limit
-returns-else-n-limit c = search (number_laws, rules)
+pub returns-then-limit-n : goal.returns-then-limit-n
+returns-then-limit-n c = search (number_laws, rules)
 
-pub returns-in-Fault : goal.returns-in-Fault
-returns-in-Fault c = search (number_laws, rules)
+pub returns : goal.returns
+returns c = search (number_laws, rules)

@@ -1,12 +1,13 @@
-use Rattle.std.proofs.Common.{rules, ◌-◌}
+use Rattle.std.proofs.Common.{rules}
 use Rattle.numbers.proofs.Cursor.number_up_to.Goals as goal
-use Rattle.numbers.proofs.Reading.{number_laws}
+use Rattle.refusals.proofs.Handing.{handed_on}
+use Rattle.numbers.proofs.Reading.{number_laws, up_to-no, up_to-stops}
 
-pub returns-then-n-most : goal.returns-then-n-most
-returns-then-n-most c = search (number_laws, rules)
+pub returns-in_err-n : goal.returns-in_err-n
+returns-in_err-n c = handed_on c.from_residual.ensures.1 (up_to-stops _ _ c.number.ensures c.in_err-n.was _ _)
 
-pub returns-else-n-most : goal.returns-else-n-most
-returns-else-n-most c = search (number_laws, rules)
+pub returns-then-most-n : goal.returns-then-most-n
+returns-then-most-n c = up_to-no _ _ c.number.ensures c.in_ok-n.was _ _ c.if-most-n.true
 
-pub returns-in-Fault : goal.returns-in-Fault
-returns-in-Fault c = search (number_laws, rules)
+pub returns : goal.returns
+returns c = search (number_laws, rules)
