@@ -5,6 +5,7 @@ use mathlib.Core.List.{List, []}
 use Prim.Native.Nat.{ℕ, zero, suc, ◌+◌, ◌-◌, ◌*◌, ◌/◌, ◌%◌, ◌^◌, ◌≤◌, ◌<◌}
 use native.Mathlib.Nat.{zero-add, suc-add, add_comm, div-one, mod-eq_of_lt, div-eq_of_lt}
 use native.Mathlib.Omega.{arith}
+use lib.Count.{ones, ones_step}
 use lib.Dec.{eqb}
 use lib.ListN.{length, get_or}
 use lib.Pow.{shr-shr, field, mod-mod-pow}
@@ -12,7 +13,7 @@ use borrow.Author.Tests.{eqb-true}
 use Rattle.model.specs.Limits.{most_scopes}
 use Rattle.model.specs.Scopes.{keep, members_from, members}
 use Rattle.laws.proofs.Members.{members-none}
-use Rattle.scopes.specs.Sets.{words_from, set_words, set_scopes, word_members, most_long, long_members}
+use Rattle.scopes.specs.Sets.{word_digits, words_from, set_words, set_scopes, most_long, long_members}
 use Rattle.scopes.proofs.Words.{Words, words-low, words_above}
 use Rattle.scopes.proofs.Order.{digit-one, half_less}
 
@@ -24,41 +25,18 @@ length-keep m n l = go (eqb (m % 2) 1) refl
     go true e = let o = eqb-true (m % 2) 1 e in omega arith
     go false e = let z = digit-one m e in omega arith
 
--- n members are counted, and x is what is left of m
-pub record Counted (m x n : ℕ) : Type 0 where
-  pub digits : ℕ
-  pub from : ℕ
-  pub left : x < 2 ^ digits
-  pub few : n + digits ≤ 64
-  pub is : n + length (members_from digits from x) ≡ length (word_members m)
+-- the digits of a word that are 1, counted from 1
+abbrev word_members : ℕ → List ℕ
+word_members w = members_from word_digits 1 w
 
-pub count-start : {m : ℕ} → m < 2 ^ 64 → Counted m m 0
-count-start h = record { digits = 64; from = 1; left = h; few = omega arith; is = omega arith }
+-- they are as many as the digits that are 1
+length-members : (d n x : ℕ) → x < 2 ^ d → length (members_from d n x) ≡ ones x
+unfolding members_from ones
+length-members zero n x h = let e : 2 ^ 0 ≡ 1 = refl in let z : x ≡ 0 = omega (arith, e) in ap ones (sym z)
+length-members (suc d) n x h = length-keep x n (members_from d (suc n) (x / 2)) ∙ ap (λ (k : ℕ). x % 2 + k) (length-members d (suc n) (x / 2) (half_less d x h)) ∙ sym (ones_step x)
 
-module _ {m x n : ℕ} (w : Counted m x n) where
-  pub count-more : (x ≡ 0 → ⊥) → Counted m (x / 2) (n + x % 2)
-  unfolding members_from
-  count-more some = go w.digits w.left w.few w.is
-    where
-      go : (d : ℕ) → x < 2 ^ d → n + d ≤ 64 → n + length (members_from d w.from x) ≡ length (word_members m) → Counted m (x / 2) (n + x % 2)
-      go zero h f i = absurd (let e : 2 ^ 0 ≡ 1 = refl in some (omega (arith, e)))
-      go (suc d) h f i =
-          let k = length-keep x w.from (members_from d (suc w.from) (x / 2)) in
-          record { digits = d; from = suc w.from; left = half_less d x h; few = omega arith; is = omega arith }
-
-  pub count_small : n + x % 2 < 4294967296
-  count_small = omega (arith, w.few)
-
-  pub count-few : n ≤ 64
-  count-few = omega (arith, w.few)
-
-  pub count-done : x ≡ 0 → n ≡ length (word_members m)
-  count-done e =
-      let z : members_from w.digits w.from x ≡ [] = ap (members_from w.digits w.from) e ∙ members-none w.digits w.from in
-      let l = ap length z in
-      omega (arith, w.is)
-
-pub ruleset counting = (count-start, count-more, count_small, count-few, count-done)
+ones-word : {w o : ℕ} → w < 2 ^ 64 → o ≡ ones w → o ≡ length (word_members w)
+ones-word {w} h e = e ∙ sym (length-members 64 1 w h)
 
 -- ---- the words in turn
 
@@ -99,9 +77,10 @@ unfolding words_from members_from
 words-start = record { inside = omega arith; few = omega arith; is = refl }
 
 module _ {l : List ℕ} {i n : ℕ} (w : CountedWords l i n) where
-  pub words_more : {o : ℕ} → i < set_words → Words 64 l → (o ≡ length (word_members (get_or l i 0))) × (o ≤ 64) → CountedWords l (i + 1) (n + o)
+  pub words_more : {o : ℕ} → i < set_words → Words 64 l → o ≡ ones (get_or l i 0) → o ≤ 64 → CountedWords l (i + 1) (n + o)
   unfolding words_from
-  words_more {o} h s (e, f) =
+  words_more {o} h s e' f =
+      let e : o ≡ length (word_members (get_or l i 0)) = ones-word (s.small i) e' in
       let x = words_from 64 (i + 1) l 0 in
       let low : x % 2 ^ (i * 64) ≡ words_from 64 i l 0 = words-low 64 i 1 l 0 s in
       let high : x / 2 ^ (i * 64) ≡ get_or l i 0 = words_above 64 i 1 l s ∙ zero-add (get_or l i 0) in
@@ -162,12 +141,12 @@ pub record CountedLong (l : List ℕ) (i n : ℕ) : Type 0 where
   pub few : n ≤ i * 64 - 127
   pub is : n ≡ length (members_from (i * 64 - 127) 128 (words_from 64 i l 0 / 2 ^ 127))
 
-pub long-start : {l : List ℕ} {n : ℕ} → Words 64 l → (n ≡ length (word_members (get_or l 1 0 / 2 ^ 63))) × (n ≤ 64) → CountedLong l 2 n
+pub long-start : {l : List ℕ} {n : ℕ} → Words 64 l → n ≡ ones (get_or l 1 0 / 2 ^ 63) → CountedLong l 2 n
 unfolding words_from
-long-start {l} {n} s (e, _) = record { from = omega arith; inside = omega arith; few = few-one _ counted; is = counted ∙ ap (λ (v : ℕ). length (members_from 1 128 v)) (sym top) }
+long-start {l} {n} s e = record { from = omega arith; inside = omega arith; few = few-one _ counted; is = counted ∙ ap (λ (v : ℕ). length (members_from 1 128 v)) (sym top) }
   where
     counted : n ≡ length (members_from 1 128 (get_or l 1 0 / 2 ^ 63))
-    counted = e ∙ top-counted (get_or l 1 0) (s.small 1)
+    counted = ones-word (omega (arith, s.small 1)) e ∙ top-counted (get_or l 1 0) (s.small 1)
 
     few-one : (v : ℕ) → n ≡ length (members_from 1 128 v) → n ≤ 1
     few-one v g = omega (arith, one-few 128 v)
@@ -180,10 +159,13 @@ module _ {l : List ℕ} {i n : ℕ} (w : CountedLong l i n) where
   begins : i * 64 - 127 + 127 ≡ i * 64
   begins = omega (arith, w.from)
 
-  pub long-more : {o : ℕ} → i < set_words → Words 64 l → (o ≡ length (word_members (get_or l i 0))) × (o ≤ 64) → CountedLong l (i + 1) (n + o)
+  pub long-more : {o : ℕ} → i < set_words → Words 64 l → o ≡ ones (get_or l i 0) → o ≤ 64 → CountedLong l (i + 1) (n + o)
   unfolding words_from
-  long-more {o} h s (e, f) = record { from = omega (arith, w.from); inside = omega arith; few = omega (arith, w.few, w.from); is = sym total }
+  long-more {o} h s e' f = record { from = omega (arith, w.from); inside = omega arith; few = omega (arith, w.few, w.from); is = sym total }
     where
+      e : o ≡ length (word_members (get_or l i 0))
+      e = ones-word (s.small i) e'
+
       d : ℕ
       d = i * 64 - 127
 

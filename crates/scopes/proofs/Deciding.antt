@@ -5,91 +5,76 @@ use mathlib.Core.List.{List}
 use Prim.Native.Nat.{ℕ, zero, suc, ◌+◌, ◌-◌, ◌*◌, ◌/◌, ◌%◌, ◌^◌, ◌≤◌, ◌<◌}
 use native.Mathlib.Nat.{zero-add, add_comm, le_trans, le_of_eq, div-one, mod-one}
 use native.Mathlib.Omega.{arith}
+use lib.Bits.{bit_xor, xor_add_and, xor_lt, xor_mod, xor_shr, and_le_l, and_le_r, and_self}
+use lib.Count.{count_trailing_zeros, under}
 use lib.Dec.{eqb}
-use lib.ListN.{get_or}
+use lib.ListN.{get_or, length, drop}
 use lib.Pow.{shr-shr, shr_le, shr_mono, low, mod-pow-add, mod-mod-pow}
-use borrow.Author.Count.{below_more}
 use borrow.Author.Tests.{eq-eqb, ne_eqb}
+use Rattle.std.specs.Bool.{MatchBool}
+use Rattle.std.specs.List.{AllWithin, HoldsAt}
+use Rattle.std.proofs.lemmas.List.{get_or-drop, length-drop}
 use Rattle.model.specs.Scopes.{set_before}
-use Rattle.scopes.specs.Sets.{words_from, set_words, Differing}
+use Rattle.scopes.specs.Sets.{word_digits, words_from, set_words}
 use Rattle.scopes.proofs.Order.{Alike, half_less, agreeing, before_self, mine, other}
 use Rattle.scopes.proofs.Ops.{Each, above}
 use Rattle.scopes.proofs.Words.{Words, words_small, words_same, words_above, words-low, words-none, digit_at}
 
--- ---- the lowest digit in which two words differ: x and y are left of a and b without the q low digits
+-- ---- the lowest digit in which two words differ: the lowest that is 1 where they are added without carry
 
-pub record Halved (a b x y q : ℕ) : Type 0 where
-  pub digits : ℕ
-  pub all : digits + q ≡ 64
-  pub left : x < 2 ^ digits
-  pub right : y < 2 ^ digits
-  pub differ : x ≡ y → ⊥
-  pub mine : x ≡ a / 2 ^ q
-  pub its : y ≡ b / 2 ^ q
+-- q is the lowest digit in which two words differ
+pub record Differing (a b q : ℕ) : Type 0 where
+  pub inside : q < word_digits
   pub below : a % 2 ^ q ≡ b % 2 ^ q
+  pub there : a / 2 ^ q % 2 ≡ b / 2 ^ q % 2 → ⊥
 
-pub halved_start : {a b : ℕ} → a < 2 ^ 64 → b < 2 ^ 64 → (a ≡ b → ⊥) → Halved a b a b 0
-halved_start {a} {b} f g d = record { digits = 64; all = refl; left = f; right = g; differ = d; mine = sym (div-one a); its = sym (div-one b); below = mod-one a ∙ sym (mod-one b) }
+record Lowest (k x t : ℕ) : Type 0 where
+  inside : t < k
+  below : x % 2 ^ t ≡ 0
+  one : x / 2 ^ t % 2 ≡ 1
 
-module _ {a b x y q : ℕ} (v : Halved a b x y q) where
-  -- there is a digit left to look at
-  some : (d : ℕ) → x < 2 ^ d → y < 2 ^ d → 0 < d
-  some zero f g = absurd (let e : 2 ^ 0 ≡ 1 = refl in v.differ (omega (arith, e)))
-  some (suc d) f g = omega arith
+lowest : (k x : ℕ) → x < 2 ^ k → (x ≡ 0 → ⊥) → Lowest k x (count_trailing_zeros k x)
+unfolding count_trailing_zeros
+lowest zero x h d = absurd (let e : 2 ^ 0 ≡ 1 = refl in d (omega (arith, e)))
+lowest (suc k) x h d = go (x % 2) refl (λ n. lowest k (x / 2) (half_less k x h) n)
+  where
+    go : (b : ℕ) → x % 2 ≡ b → ((x / 2 ≡ 0 → ⊥) → Lowest k (x / 2) (count_trailing_zeros k (x / 2))) → Lowest (suc k) x (under b (count_trailing_zeros k (x / 2)))
+    go (suc b) e rest = record { inside = omega arith; below = mod-one x; one = ap (λ (z : ℕ). z % 2) (div-one x) ∙ (let o : x % 2 ≡ 1 = omega arith in o) }
+    go zero e rest =
+        let t = count_trailing_zeros k (x / 2) in
+        let w = rest (λ n. d (omega arith)) in
+        let plus : suc t ≡ t + 1 = omega arith in
+        let up : suc t ≡ 1 + t = omega arith in
+        let split : x % 2 ^ suc t ≡ x / 2 % 2 ^ t * 2 + x % 2 = ap (λ (n : ℕ). x % 2 ^ n) plus ∙ mod-pow-add x t 1 in
+        record {
+          inside = omega (arith, w.inside);
+          below = omega (arith, split, w.below);
+          one = ap (λ (z : ℕ). z % 2) (ap (λ (n : ℕ). x / 2 ^ n) up ∙ sym (shr-shr x 1 t)) ∙ w.one;
+        }
 
-  pub halved_inside : q < 64
-  halved_inside = let s = some v.digits v.left v.right in omega (arith, v.all)
+pub xor-none : {a b : ℕ} → bit_xor a b ≡ 0 → a ≡ b
+xor-none {a} {b} e = omega (arith, xor_add_and a b, and_le_l a b, and_le_r a b)
 
-  pub halved_more : x % 2 ≡ y % 2 → Halved a b (x / 2) (y / 2) (q + 1)
-  halved_more e = go v.digits v.all v.left v.right
-    where
-      rest : (z u : ℕ) → u ≡ z / 2 ^ q → u / 2 ≡ z / 2 ^ (q + 1)
-      rest z u i = ap (λ (k : ℕ). k / 2) i ∙ shr-shr z q 1
+pub xor_same : (a : ℕ) → bit_xor a a ≡ 0
+xor_same a = omega (arith, xor_add_and a a, and_self a)
 
-      plus : q + 1 ≡ 1 + q
-      plus = add_comm q 1
+pub differing_at : {a b : ℕ} → a < 2 ^ 64 → b < 2 ^ 64 → (bit_xor a b ≡ 0 → ⊥) → Differing a b (count_trailing_zeros 64 (bit_xor a b))
+differing_at {a} {b} f g d =
+    let w = lowest 64 (bit_xor a b) (xor_lt 64 a b f g) d in
+    let t = count_trailing_zeros 64 (bit_xor a b) in
+    record {
+      inside = w.inside;
+      below = xor-none (sym (xor_mod a b t) ∙ w.below);
+      there = λ e.
+          let z : bit_xor a b / 2 ^ t % 2 ≡ 0 =
+          ap (λ (x : ℕ). x % 2) (xor_shr a b t) ∙ xor_mod (a / 2 ^ t) (b / 2 ^ t) 1 ∙ ap (λ (x : ℕ). bit_xor x (b / 2 ^ t % 2)) e ∙ xor_same (b / 2 ^ t % 2) in
+          omega (arith, w.one);
+    }
 
-      low-more : (z u : ℕ) → u ≡ z / 2 ^ q → z % 2 ^ (q + 1) ≡ u % 2 * 2 ^ q + z % 2 ^ q
-      low-more z u i = ap (λ (k : ℕ). z % 2 ^ k) plus ∙ mod-pow-add z 1 q ∙ ap (λ (k : ℕ). k % 2 * 2 ^ q + z % 2 ^ q) (sym i)
-
-      go : (d : ℕ) → d + q ≡ 64 → x < 2 ^ d → y < 2 ^ d → Halved a b (x / 2) (y / 2) (q + 1)
-      go zero s f g = absurd (let k : 2 ^ 0 ≡ 1 = refl in v.differ (omega (arith, k)))
-      go (suc d) s f g = record {
-        digits = d;
-        all = omega arith;
-        left = half_less d x f;
-        right = half_less d y g;
-        differ = λ i. v.differ (omega arith);
-        mine = rest a x v.mine;
-        its = rest b y v.its;
-        below = low-more a x v.mine ∙ ap₂ (λ (j k : ℕ). j * 2 ^ q + k) e v.below ∙ sym (low-more b y v.its);
-      }
-
-  pub halved_done : (x % 2 ≡ y % 2 → ⊥) → Differing a b q
-  halved_done d = record {
-    inside = halved_inside;
-    below = v.below;
-    there = λ e. d (ap (λ (k : ℕ). k % 2) v.mine ∙ e ∙ ap (λ (k : ℕ). k % 2) (sym v.its));
-  }
+pub differing_inside : {a b : ℕ} → a < 2 ^ 64 → b < 2 ^ 64 → (bit_xor a b ≡ 0 → ⊥) → count_trailing_zeros 64 (bit_xor a b) < 64
+differing_inside f g d = (differing_at f g d).inside
 
 -- ---- whether a set reaches digit q of word i
-
--- the words above word i are 0 up to word k
-pub record Empty (n : ℕ) (l : List ℕ) (i k : ℕ) : Type 0 where
-  pub from : i < k
-  pub inside : k ≤ n
-  pub empty : (j : ℕ) → j < k → i < j → get_or l j 0 ≡ 0
-
-module _ {n : ℕ} {l : List ℕ} {i : ℕ} where
-  pub empty-none : i < n → Empty n l i (i + 1)
-  empty-none h = record { from = omega arith; inside = omega arith; empty = λ j f g. absurd (omega arith) }
-
-  pub empty-more : {k : ℕ} → Empty n l i k → k < n → get_or l k 0 ≡ 0 → Empty n l i (k + 1)
-  empty-more {k} v h z = record {
-    from = omega (arith, v.from);
-    inside = omega arith;
-    empty = below_more (λ (j : ℕ). i < j → get_or l j 0 ≡ 0) k v.empty (λ g. z);
-  }
 
 module _ {n : ℕ} {l : List ℕ} (i q : ℕ) (s : Words 64 l) where
   -- without what lies below the digit
@@ -117,11 +102,29 @@ module _ {n : ℕ} {l : List ℕ} (i q : ℕ) (s : Words 64 l) where
       let y : x / 2 ^ (k * 64) ≡ words_from 64 (suc (n - suc k)) l k = ap (λ (m : ℕ). words_from 64 m l 0 / 2 ^ (k * 64)) (above n k h) ∙ words_above 64 k (suc (n - suc k)) l s in
       d (omega arith)))
 
-  pub reaches-not : {k : ℕ} → i < n → (get_or l i 0 / 2 ^ q ≡ 0) → Empty n l i k → n ≤ k → not (eqb (words_from 64 n l 0 / 2 ^ (i * 64 + q)) 0) ≡ false
+  pub reaches-not : i < n → (get_or l i 0 / 2 ^ q ≡ 0) → ((j : ℕ) → i < j → j < n → get_or l j 0 ≡ 0) → not (eqb (words_from 64 n l 0 / 2 ^ (i * 64 + q)) 0) ≡ false
   unfolding words_from
-  reaches-not h z v g =
-      let none : words_from 64 (n - suc i) l (suc i) ≡ 0 = words-none 64 (n - suc i) l (suc i) (λ j a b. v.empty j (omega arith) (omega arith)) in
+  reaches-not h z empty =
+      let none : words_from 64 (n - suc i) l (suc i) ≡ 0 = words-none 64 (n - suc i) l (suc i) (λ j a b. empty j (omega arith) (omega arith)) in
       ap not (eq-eqb _ _ (from-digit h ∙ ap (λ (x : ℕ). (x * 2 ^ 64 + get_or l i 0) / 2 ^ q) none ∙ ap (λ (x : ℕ). x / 2 ^ q) (zero-add (get_or l i 0)) ∙ z))
+
+module _ {n : ℕ} {l : List ℕ} (i q : ℕ) (s : Words 64 l) (h : i < n) where
+  pub reaches_now : (get_or l i 0 / 2 ^ q ≡ 0 → ⊥) → not (eqb (get_or l i 0 / 2 ^ q) 0) ≡ not (eqb (words_from 64 n l 0 / 2 ^ (i * 64 + q)) 0)
+  reaches_now d = ap not (ne_eqb _ 0 d) ∙ sym (reaches_here i q s h d)
+
+  -- what a test of the words above gives
+  pub reaches_any : (r : Bool) → get_or l i 0 / 2 ^ q ≡ 0 → q < 64 → length l ≡ n
+      → MatchBool r ((k : ℕ) × (k < length (drop (i + 1) l)) × HoldsAt (λ x. x ≡ 0 → ⊥) (drop (i + 1) l) k) (AllWithin (λ x. x ≡ 0) (drop (i + 1) l) 0 (length (drop (i + 1) l)))
+      → r ≡ not (eqb (words_from 64 n l 0 / 2 ^ (i * 64 + q)) 0)
+  reaches_any true z f e (k, g, d) =
+      let inside : i + 1 + k < n = omega (arith, length-drop (i + 1) l) in
+      let there : get_or l (i + 1 + k) 0 ≡ 0 → ⊥ = λ y. d 0 (get_or-drop (i + 1) l k 0 ∙ y) in
+      sym (reaches_above i q s (omega arith) inside f there)
+  reaches_any false z f e all =
+      let none : (j : ℕ) → i < j → j < n → get_or l j 0 ≡ 0 = λ j a b.
+      let at : j ≡ i + 1 + (j - (i + 1)) = omega arith in
+      ap (λ (k : ℕ). get_or l k 0) at ∙ sym (get_or-drop (i + 1) l (j - (i + 1)) 0) ∙ all (j - (i + 1)) 0 (omega arith) (omega (arith, length-drop (i + 1) l)) in
+      sym (reaches-not i q s h z none)
 
 -- ---- the order of two sets whose words below word i agree
 

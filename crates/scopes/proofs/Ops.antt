@@ -3,19 +3,19 @@ use mathlib.Core.Path.{◌≡◌, refl, sym, ap, ap₂, ◌∙◌}
 use mathlib.Core.Bool.{true, false}
 use mathlib.Core.List.{List}
 use Prim.Native.Nat.{ℕ, suc, ◌+◌, ◌-◌, ◌*◌, ◌/◌, ◌%◌, ◌^◌, ◌≤◌, ◌<◌}
-use native.Mathlib.Nat.{zero-add}
 use native.Mathlib.Omega.{arith}
-use lib.Bits.{bit_and, bit_or, bit_xor, and_block, or_block, xor_block, and_shr, and_mod, and_lt}
-use lib.Dec.{eqb}
+use lib.Bits.{bit_and, bit_or, bit_xor, and_block, or_block, xor_block, and_shr, and_mod, and_lt, and_comm, and_self, xor_add_and}
 use lib.ListN.{get_or, length, set, length-set}
 use lib.Seq.{get_or-set_same, get_or-set_other}
 use borrow.Author.Count.{below_more}
 use borrow.Author.Tests.{eq-eqb, ne_eqb}
 use mir.Syntax.{w64}
 use mir.Val.{Fits}
+use Rattle.std.specs.Int.{bit_not}
+use Rattle.std.proofs.lemmas.Nat.{and-not, and_assoc}
 use Rattle.model.specs.Scopes as model
 use Rattle.scopes.specs.Sets.{words_from}
-use Rattle.scopes.proofs.Words.{Words, words_same, word_at, by-words}
+use Rattle.scopes.proofs.Words.{Words, word_at, by-words}
 
 -- ---- an operation on each pair of words: below i, r has its results
 
@@ -50,6 +50,15 @@ prune_block : (k x y p q : ℕ) → p < 2 ^ k → q < 2 ^ k
 prune_block k x y p q g h =
     ap (bit_xor (y * 2 ^ k + q)) (and_block k x y p q g h) ∙ xor_block k y (bit_and x y) q (bit_and p q) h (and_lt k p q g h)
 
+-- the digits of m that p has not
+pub pruned : {p m : ℕ} → p < 2 ^ 64 → m < 2 ^ 64 → bit_and m (bit_not w64 p) ≡ bit_xor m (bit_and p m)
+pruned {p} {m} f g =
+    let out = xor_add_and m (bit_and p m) in
+    let inner : bit_and m (bit_and p m) ≡ bit_and p m = ap (bit_and m) (and_comm p m) ∙ sym (and_assoc p m m) ∙ ap (λ (x : ℕ). bit_and x p) (and_self m) ∙ and_comm m p in
+    let rest : bit_and (bit_not w64 p) m + bit_and p m ≡ m = and-not 64 p m f g in
+    let turned : bit_and m (bit_not w64 p) ≡ bit_and (bit_not w64 p) m = and_comm m (bit_not w64 p) in
+    omega arith
+
 module _ {n : ℕ} {a b r : List ℕ} {i : ℕ} (w : ℕ) where
   pub union-all : Over bit_or n a b r i → n ≤ i → Words w a → Words w b → words_from w n r 0 ≡ bit_or (words_from w n a 0) (words_from w n b 0)
   union-all v h = over-all v w h refl or_block
@@ -58,6 +67,10 @@ module _ {n : ℕ} {a b r : List ℕ} {i : ℕ} (w : ℕ) where
   pub prune-all : Over (λ p m. bit_xor m (bit_and p m)) n a b r i → n ≤ i → Words w a → Words w b → words_from w n r 0 ≡ model.prune (words_from w n a 0) (words_from w n b 0)
   unfolding model.prune
   prune-all v h = over-all v w h refl prune_block
+
+pub pruned_more : {n : ℕ} {a b r : List ℕ} {i : ℕ} → Over (λ p m. bit_xor m (bit_and p m)) n a b r i → Words 64 a → Words 64 b → i < n
+    → Over (λ p m. bit_xor m (bit_and p m)) n a b (set r i (bit_and (get_or b i 0) (bit_not w64 (get_or a i 0)))) (i + 1)
+pruned_more {i = i} v s t h = let e = pruned (s.small i) (t.small i) in rw e (over-more v h)
 
 -- ---- a test of each pair of words: it held below i
 

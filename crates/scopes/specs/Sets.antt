@@ -1,5 +1,5 @@
 -- What the code's scope sets stand for.
-use Rattle.std.specs.Prelude.{ℕ, zero, suc, ◌+◌, ◌-◌, ◌*◌, ◌/◌, ◌%◌, ◌^◌, ◌≤◌, ◌<◌, ◌≡◌, List, get_or}
+use Rattle.std.specs.Prelude.{ℕ, zero, suc, ◌+◌, ◌-◌, ◌*◌, ◌/◌, ◌^◌, ◌≤◌, List, get_or}
 use Rattle.model.specs.Scopes.{Scopes, members_from}
 use Rattle.scopes.specs.declared.Scope.{Scope}
 use Rattle.scopes.specs.declared.ScopeSet.{ScopeSet}
@@ -28,16 +28,6 @@ scopes_of s = words_from word_digits set_words s.words 0
 pub record Declared (k : Scope) : Type 0 where
   pub from_one : 1 ≤ k.0
   pub most : k.0 ≤ set_scopes
-
--- the digits of a word that are 1, counted from 1
-abbrev pub word_members : ℕ → List ℕ
-word_members w = members_from word_digits 1 w
-
--- q is the lowest digit in which two words differ
-pub record Differing (a b q : ℕ) : Type 0 where
-  pub inside : q < word_digits
-  pub below : a % 2 ^ q ≡ b % 2 ^ q
-  pub there : a / 2 ^ q % 2 ≡ b / 2 ^ q % 2 → ⊥
 
 -- the members whose numbers take two groups in an image: those from 128 on
 abbrev pub most_long : ℕ

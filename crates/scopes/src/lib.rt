@@ -4,20 +4,20 @@
 ghost use Rattle.std.specs.Prelude.{◌≡◌, not, ◌+◌, ◌*◌, ◌/◌, ◌^◌, ◌≤◌, ◌<◌, length, eqb};
 ghost use Rattle.std.specs.Int.Bits.{bit_or};
 ghost use Rattle.model.specs.Scopes as model;
-ghost use Rattle.scopes.specs.Sets.{word_digits, set_words, set_scopes, most_long, scopes_of, word_members, long_members, Declared, Differing};
+ghost use Rattle.scopes.specs.Sets.{word_digits, set_words, set_scopes, most_long, scopes_of, long_members, Declared};
 
 // Scope numbers, name numbers and point numbers are separate countings: a name never serves as a scope.
-#[derive(Clone, Copy)]
+#[derive(Clone, Copy, PartialEq, Eq)]
 pub struct Scope(pub u32);
 
-#[derive(Clone, Copy)]
+#[derive(Clone, Copy, PartialEq, Eq)]
 pub struct Name(pub u32);
 
-#[derive(Clone, Copy)]
+#[derive(Clone, Copy, PartialEq, Eq)]
 pub struct Point(pub u32);
 
 // Symbols are numbered as names 0 to 3 and the image's words.
-#[derive(Clone, Copy)]
+#[derive(Clone, Copy, PartialEq, Eq)]
 pub struct Symbol(pub u32);
 
 impl Scope {
@@ -74,8 +74,7 @@ impl ScopeSet {
         requires { Declared k }
         ensures { scopes_of result ≡ model.add k.0 (scopes_of self) }
     {
-        let one = ScopeSet::only(k);
-        one.union(self)
+        ScopeSet::only(k).union(self)
     }
 
     // Take it out if it is there, else put it in.
@@ -84,9 +83,10 @@ impl ScopeSet {
         ensures { scopes_of result ≡ model.flip k.0 (scopes_of self) }
     {
         if self.has(k) {
-            return self.prune(ScopeSet::only(k));
+            self.prune(ScopeSet::only(k))
+        } else {
+            self.add(k)
         }
-        self.add(k)
     }
 
     // The members that are not prunable.
@@ -94,11 +94,8 @@ impl ScopeSet {
         ensures { scopes_of result ≡ model.prune (scopes_of prunable) (scopes_of self) }
     {
         let mut r = self;
-        let mut i: usize = 0;
-        while i < ScopeSet::WORDS {
-            let w = self.words[i];
-            r.words[i] = w ^ (prunable.words[i] & w);
-            i += 1;
+        for i in 0..ScopeSet::WORDS {
+            r.words[i] = self.words[i] & !prunable.words[i];
         }
         r
     }
@@ -107,10 +104,8 @@ impl ScopeSet {
         ensures { scopes_of result ≡ bit_or (scopes_of self) (scopes_of other) }
     {
         let mut r = self;
-        let mut i: usize = 0;
-        while i < ScopeSet::WORDS {
+        for i in 0..ScopeSet::WORDS {
             r.words[i] = self.words[i] | other.words[i];
-            i += 1;
         }
         r
     }
@@ -119,13 +114,10 @@ impl ScopeSet {
     pub fn within(self, other: ScopeSet) -> bool
         ensures { result ≡ model.within (scopes_of self) (scopes_of other) }
     {
-        let mut i: usize = 0;
-        while i < ScopeSet::WORDS {
-            let w = self.words[i];
-            if w & other.words[i] != w {
+        for i in 0..ScopeSet::WORDS {
+            if self.words[i] & other.words[i] != self.words[i] {
                 return false;
             }
-            i += 1;
         }
         true
     }
@@ -135,8 +127,7 @@ impl ScopeSet {
         ensures { result ≡ model.has k.0 (scopes_of self) }
     {
         let place = k.0 - 1;
-        let i = (place / 64) as usize;
-        (self.words[i] >> (place % 64)) % 2 == 1
+        (self.words[(place / 64) as usize] >> (place % 64)) % 2 == 1
     }
 
     // How many members there are.
@@ -144,11 +135,9 @@ impl ScopeSet {
         ensures value { result ≡ length (model.members (scopes_of self)) }
         ensures upper_bound { result ≤ set_scopes }
     {
-        let mut n: u32 = 0;
-        let mut i: usize = 0;
-        while i < ScopeSet::WORDS {
-            n += ones(self.words[i]);
-            i += 1;
+        let mut n = 0;
+        for i in 0..ScopeSet::WORDS {
+            n += self.words[i].count_ones();
         }
         n
     }
@@ -157,12 +146,9 @@ impl ScopeSet {
     pub fn count_long(self) -> u32
         ensures { (result ≡ length (long_members (scopes_of self))) × (result ≤ most_long) }
     {
-        let top = self.words[1] >> 63;
-        let mut n = ones(top);
-        let mut i: usize = 2;
-        while i < ScopeSet::WORDS {
-            n += ones(self.words[i]);
-            i += 1;
+        let mut n = (self.words[1] >> 63).count_ones();
+        for i in 2..ScopeSet::WORDS {
+            n += self.words[i].count_ones();
         }
         n
     }
@@ -172,65 +158,25 @@ impl ScopeSet {
         requires { (i < set_words) × (q < word_digits) }
         ensures { result ≡ not (eqb (scopes_of self / 2 ^ (i * word_digits + q)) 0) }
     {
-        if self.words[i] >> q != 0 {
-            return true;
-        }
-        let mut k = i + 1;
-        while k < ScopeSet::WORDS {
-            if self.words[k] != 0 {
-                return true;
-            }
-            k += 1;
-        }
-        false
+        self.words[i] >> q != 0 || self.words[i + 1..].iter().any(|word| *word != 0)
     }
 
     // The order of an image: that of the ascending lists of members, a proper prefix first. The lowest digit in which the sets differ decides.
     pub fn before(self, other: ScopeSet) -> bool
         ensures { result ≡ model.set_before (scopes_of self) (scopes_of other) }
     {
-        let mut i: usize = 0;
-        while i < ScopeSet::WORDS {
-            let a = self.words[i];
-            let b = other.words[i];
-            if a != b {
-                let q = differing(a, b);
-                if (a >> q) % 2 == 1 {
-                    return other.reaches(i, q);
-                }
-                return !self.reaches(i, q);
+        for i in 0..ScopeSet::WORDS {
+            let mine = self.words[i];
+            let differing = mine ^ other.words[i];
+            if differing != 0 {
+                let q = differing.trailing_zeros();
+                return if (mine >> q) % 2 == 1 {
+                    other.reaches(i, q)
+                } else {
+                    !self.reaches(i, q)
+                };
             }
-            i += 1;
         }
         false
     }
-}
-
-// How many digits of a word are 1. What is left of it is halved, so that the walk ends at the last.
-fn ones(word: u64) -> u32
-    ensures { (result ≡ length (word_members word)) × (result ≤ word_digits) }
-{
-    let mut rest = word;
-    let mut n: u32 = 0;
-    while rest != 0 {
-        n += (rest % 2) as u32;
-        rest /= 2;
-    }
-    n
-}
-
-// The lowest digit in which two words differ.
-fn differing(a: u64, b: u64) -> u32
-    requires { a ≡ b → ⊥ }
-    ensures { Differing a b result }
-{
-    let mut x = a;
-    let mut y = b;
-    let mut q: u32 = 0;
-    while x % 2 == y % 2 {
-        x /= 2;
-        y /= 2;
-        q += 1;
-    }
-    q
 }

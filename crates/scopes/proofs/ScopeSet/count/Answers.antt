@@ -1,4 +1,4 @@
-use Rattle.std.proofs.Common.{rules, ◌-◌}
+use Rattle.std.proofs.Common.{rules}
 use Rattle.scopes.proofs.ScopeSet.count.Goals as goal
 use Rattle.scopes.proofs.Counting.{counting_words}
 use Rattle.scopes.proofs.Ops.{of_fits}

@@ -1,4 +1,4 @@
-use Rattle.std.proofs.Common.{rules, ◌-◌}
+use Rattle.std.proofs.Common.{rules}
 use Rattle.scopes.proofs.ScopeSet.count_long.Goals as goal
 use Rattle.scopes.proofs.Counting.{counting_long}
 use Rattle.scopes.proofs.Ops.{of_fits}

@@ -1,4 +1,4 @@
-use Rattle.std.proofs.Common.{rules, ◌-◌}
+use Rattle.std.proofs.Common.{rules}
 use Rattle.scopes.proofs.ScopeSet.union.Goals as goal
 use Rattle.scopes.proofs.Ops.{union-all, of_fits}
 
