@@ -1,5 +1,5 @@
 -- Laws of the table: what was put is got, and what lies below stays.
-use mathlib.Core.Path.{◌≡◌, refl, sym, ap, ap₂, ◌∙◌}
+use mathlib.Core.Path.{◌≡◌, refl, ap, ap₂, ◌∙◌}
 use mathlib.Core.List.{List, [], ◌∷◌}
 use Prim.Native.Nat.{ℕ, zero, suc, ◌+◌, ◌*◌, ◌/◌, ◌%◌, ◌^◌, ◌≤◌, ◌<◌}
 use native.Mathlib.Nat.{div-add-mod'}
@@ -11,7 +11,7 @@ use Rattle.model.specs.Limits as m
 use Rattle.scopes.proofs.Stores.{stores_before, stores_at, stores_first}
 use Rattle.scopes.specs.Sets.{scopes_of, words_from}
 use Rattle.scopes.specs.declared.ScopeSet.{ScopeSet}
-use Rattle.table.specs.Sizes.{set_size, place_of1, place_of2, node_size, cell_size, entry_size, unit_size, most_budget, table_size}
+use Rattle.table.specs.Sizes.{set_size, place_of1, place_of2, node_size, cell_size, entry_size, unit_size, most_budget}
 use Rattle.table.specs.Tags.{function_tag}
 use Rattle.table.specs.Words.{join, get_word, put_word, halves, get_set, put_set, sets_of, get_node, put_node, node_words, get_sets, put_sets, put_object, get_body, put_function, function_words, get_cell, put_cell, cell_words, get_entry, put_entry, entry_words, Same}
 use Rattle.table.specs.declared.Node.{Node}
@@ -77,6 +77,30 @@ unfolding get_word Same
 get_word-same n l l' i s h = rw (s i (omega arith), s (i + 1) (omega arith))
 
 -- ---- scope sets
+
+-- the k low words of a set put in their places
+unfoldable pub puts : ℕ → List ℕ → ℕ → List ℕ → List ℕ
+puts zero l i ws = l
+puts (suc k) l i ws = put_word (puts k l i ws) (i + 2 * k) (get_or ws k 0)
+
+pub length-puts : (k : ℕ) (l : List ℕ) (i : ℕ) (ws : List ℕ) → length (puts k l i ws) ≡ length l
+unfolding puts
+length-puts zero l i ws = refl
+length-puts (suc k) l i ws = length-put_word (puts k l i ws) (i + 2 * k) _ ∙ length-puts k l i ws
+
+pub puts-none : (l : List ℕ) (i : ℕ) (ws : List ℕ) → l ≡ puts 0 l i ws
+unfolding puts
+puts-none l i ws = refl
+
+pub puts-more : (k : ℕ) (l l' l'' : List ℕ) (i : ℕ) (ws : List ℕ) → l' ≡ puts k l i ws → l'' ≡ put_word l' (i + 2 * k) (get_or ws k 0) → l'' ≡ puts (k + 1) l i ws
+unfolding puts
+puts-more k l l' l'' i ws e f =
+    let one : suc k ≡ k + 1 = omega arith in
+    f ∙ ap (λ (x : List ℕ). put_word x (i + 2 * k) (get_or ws k 0)) e ∙ ap (λ (n : ℕ). puts n l i ws) one
+
+pub puts_all : (l : List ℕ) (i : ℕ) (s : ScopeSet) → puts 4 l i s.words ≡ put_set l i s
+unfolding puts put_set
+puts_all l i s = let a : i + 2 * 0 ≡ i = omega arith in ap (λ (j : ℕ). put_word (put_word (put_word (put_word l j (get_or s.words 0 0)) (i + 2) (get_or s.words 1 0)) (i + 4) (get_or s.words 2 0)) (i + 6) (get_or s.words 3 0)) a
 
 length-put_set : (l : List ℕ) (i : ℕ) (s : ScopeSet) → length (put_set l i s) ≡ length l
 unfolding put_set

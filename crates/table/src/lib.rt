@@ -8,6 +8,7 @@ ghost use Rattle.table.specs.Words.{join, get_word, put_word, get_set, put_set, 
 ghost use Rattle.table.specs.Sizes.{set_size, cell_size, entry_size, node_size, unit_size};
 
 use scopes::{Name, ScopeSet};
+use std::array;
 
 // What a unit of budget pays for.
 pub const WORDS_PER_UNIT: usize = 40;
@@ -22,6 +23,7 @@ pub struct Node {
     pub content: u32,
 }
 
+// A tag stays a number and no enum: it is a word of the lent table, where any number may stand, and reading one can't fail.
 impl Node {
     // Syntax objects have the tags of an image.
     pub const SYMBOL: u32 = 0;
@@ -123,17 +125,11 @@ impl Entry {
     pub const WORDS: u32 = Cell::WORDS;
 }
 
-fn wide(x: u32) -> u64
-    ensures { result ≡ x }
-{
-    x as u64
-}
-
 // A word of a set from its low and high half.
 fn joined(low: u32, high: u32) -> u64
     ensures { result ≡ join low high }
 {
-    wide(high) * 4294967296 + wide(low)
+    u64::from(high) << 32 | u64::from(low)
 }
 
 fn get_word(table: &[u32], at: usize) -> u64
@@ -148,7 +144,7 @@ fn put_word(table: &mut [u32], at: usize, word: u64)
     ensures { table.new ≡ put_word table.old at word }
 {
     table[at] = (word % 4294967296) as u32;
-    table[at + 1] = (word / 4294967296) as u32;
+    table[at + 1] = (word >> 32) as u32;
 }
 
 // The one place that knows how a scope set lies in the table.
@@ -156,12 +152,8 @@ fn get_set(table: &[u32], at: usize) -> ScopeSet
     requires { at + set_size ≤ length table.now }
     ensures { result ≡ get_set table.now at }
 {
-    let w0 = get_word(table, at);
-    let w1 = get_word(table, at + 2);
-    let w2 = get_word(table, at + 4);
-    let w3 = get_word(table, at + 6);
     ScopeSet {
-        words: [w0, w1, w2, w3],
+        words: array::from_fn(|k| get_word(table, at + 2 * k)),
     }
 }
 
@@ -169,10 +161,9 @@ fn put_set(table: &mut [u32], at: usize, set: ScopeSet)
     requires { at + set_size ≤ length table.old }
     ensures { table.new ≡ put_set table.old at set }
 {
-    put_word(table, at, set.words[0]);
-    put_word(table, at + 2, set.words[1]);
-    put_word(table, at + 4, set.words[2]);
-    put_word(table, at + 6, set.words[3]);
+    for k in 0..ScopeSet::WORDS {
+        put_word(table, at + 2 * k, set.words[k]);
+    }
 }
 
 pub fn get_node(table: &[u32], at: u32) -> Node
@@ -200,10 +191,11 @@ pub fn get_sets(table: &[u32], at: u32) -> Sets
     ensures { result ≡ get_sets table.now at }
 {
     let i = at as usize;
-    let at0 = get_set(table, i + Sets::AT0);
-    let at1 = get_set(table, i + Sets::AT1);
-    let at2 = get_set(table, i + Sets::AT2);
-    Sets { at0, at1, at2 }
+    Sets {
+        at0: get_set(table, i + Sets::AT0),
+        at1: get_set(table, i + Sets::AT1),
+        at2: get_set(table, i + Sets::AT2),
+    }
 }
 
 fn put_sets(table: &mut [u32], at: u32, sets: Sets)
@@ -220,10 +212,8 @@ pub fn put_object(table: &mut [u32], at: u32, object: Object)
     requires { at + node_size ≤ length table.old }
     ensures { table.new ≡ put_object table.old at object }
 {
-    let node = object.node;
-    let sets = object.sets;
-    put_node(table, at, node);
-    put_sets(table, at, sets);
+    put_node(table, at, object.node);
+    put_sets(table, at, object.sets);
 }
 
 pub fn get_body(table: &[u32], at: u32) -> Body
@@ -282,11 +272,10 @@ pub fn get_entry(table: &[u32], at: u32) -> Entry
     ensures { result ≡ get_entry table.now at }
 {
     let i = at as usize;
-    let name = Name(table[i + 2]);
     Entry {
         at: table[i],
         next: table[i + 1],
-        name,
+        name: Name(table[i + 2]),
         kind: table[i + 3],
     }
 }
@@ -307,10 +296,5 @@ pub fn clear(table: &mut [u32], budget: u32)
     requires { unit_size * budget ≤ length table.old }
     ensures { table.new ≡ cleared budget table.old }
 {
-    let n = (budget as usize) * WORDS_PER_UNIT;
-    let mut k: usize = 0;
-    while k < n {
-        table[k] = 0;
-        k += 1;
-    }
+    table[..budget as usize * WORDS_PER_UNIT].fill(0);
 }
