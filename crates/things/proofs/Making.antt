@@ -1,5 +1,5 @@
 -- Making: one law for each way out, and what a stored node stands for.
-use mathlib.Core.Path.{◌≡◌, refl, ap, ◌∙◌}
+use mathlib.Core.Path.{◌≡◌, refl, ◌∙◌}
 use mathlib.Core.List.{List}
 use Prim.Native.Nat.{ℕ, ◌+◌, ◌^◌, ◌≤◌, ◌<◌, min, max}
 use native.Mathlib.Omega.{arith}
@@ -15,7 +15,7 @@ use Rattle.table.specs.declared.Object.{Object}
 use Rattle.table.specs.declared.Body.{Body}
 use Rattle.table.specs.declared.Cell.{Cell}
 use Rattle.table.proofs.Laws.{put_node-below, get_put_node, put_object-below, node-put_object, sets-put_object, put_function-below, node-put_function, body_put_function, put_cell-below, get_put_cell}
-use Rattle.things.specs.Weights.{tsizes, weight, weights}
+use Rattle.things.specs.Weights.{tsizes, weights}
 use Rattle.things.specs.Rep.{Rep, RepP, is-var, is-app, is-fun, is-lst, is-datum, is-atom, is-list, is-part, sets_of}
 use Rattle.things.specs.Measuring.{Seen, SeenP, Measured, MeasuredP}
 use Rattle.things.specs.Making.{Roomy, Stored, StoredObject, Closable, Closed, Linkable, Linked}

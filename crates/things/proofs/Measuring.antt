@@ -1,6 +1,7 @@
 -- Measuring: one law for each way out.
 use mathlib.Core.Path.{◌≡◌, refl, sym}
 use mathlib.Core.List.{List}
+use mathlib.Core.Logic.{◌⊎◌, inl, inr}
 use Prim.Native.Nat.{ℕ, ◌+◌, ◌^◌, ◌≤◌, ◌<◌, min}
 use native.Mathlib.Omega.{arith}
 use lib.ListN.{length}
@@ -84,7 +85,7 @@ module _ {l : List ℕ} {i : ℕ} {o : Node} (e : o ≡ get_node l i) where
   pub app-seen : Seen l i → o.tag ≡ application_tag → SeenP l o.content
   app-seen r h = let p = app-at r.shown e h in record { top = r.top; thing = tcons p.first p.others; shown = p.shown; inside = r.inside; small = r.small }
 
-  pub app_measured : {ex : Extent} → o.tag ≡ application_tag → MeasuredL l o.content ex → Measured l i ex
+  app_measured : {ex : Extent} → o.tag ≡ application_tag → MeasuredL l o.content ex → Measured l i ex
   app_measured {ex} h q =
       record {
         means = λ top t r.
@@ -99,7 +100,7 @@ module _ {l : List ℕ} {i : ℕ} {o : Node} (e : o ≡ get_node l i) where
   pub lst-seen : Seen l i → o.tag ≡ list_value_tag → SeenP l o.content
   lst-seen r h = let p = lst-at r.shown e h in record { top = r.top; thing = p.parts; shown = p.shown; inside = r.inside; small = r.small }
 
-  pub lst_measured : {ex : Extent} → o.tag ≡ list_value_tag → MeasuredL l o.content ex → Measured l i ex
+  lst_measured : {ex : Extent} → o.tag ≡ list_value_tag → MeasuredL l o.content ex → Measured l i ex
   lst_measured {ex} h q =
       record {
         means = λ top t r.
@@ -110,6 +111,15 @@ module _ {l : List ℕ} {i : ℕ} {o : Node} (e : o ≡ get_node l i) where
             let d : ex.nesting ≡ tnesting (lst p.parts) = omega (arith, w.nesting, nest_lst p.parts) in
             rw p.is (record { size = a; weight = b; nesting = d });
       }
+
+  -- an application or a list value
+  pub either-seen : Seen l i → (o.tag ≡ application_tag) ⊎ (o.tag ≡ list_value_tag) → SeenP l o.content
+  either-seen r (inl h) = app-seen r h
+  either-seen r (inr h) = lst-seen r h
+
+  pub either_measured : {ex : Extent} → (o.tag ≡ application_tag) ⊎ (o.tag ≡ list_value_tag) → MeasuredL l o.content ex → Measured l i ex
+  either_measured (inl h) q = app_measured h q
+  either_measured (inr h) q = lst_measured h q
 
   module _ (s : Seen l i) (h : o.tag ≡ function_tag) {y : Body} (f : y ≡ get_body l i) where
     pub fun-size : y.size ≤ most_size
@@ -154,4 +164,4 @@ module _ {l : List ℕ} {i : ℕ} {ex : Extent} (k : Measured l i ex) where
   pub covered_size : {units : ℕ} → units < most_size → ex.weight ≤ units → (x : Stx) {top : ℕ} → Rep l top i (stx x) → ex.weight ≡ size x
   covered_size few enough x w = omega (arith, charged-size x w)
 
-pub ruleset laws = (none_measured, cell_inside, cell_measured, parts-size, parts-weight, parts_nest, list_measured, node-inside, atom_measured, stx-seen, stx_measured, app-seen, app_measured, lst-seen, lst_measured, fun-size, fun_nest, fun_measured, flat_measured)
+pub ruleset laws = (none_measured, cell_inside, cell_measured, parts-size, parts-weight, parts_nest, list_measured, node-inside, atom_measured, stx-seen, stx_measured, either-seen, either_measured, fun-size, fun_nest, fun_measured, flat_measured)

@@ -1,7 +1,7 @@
 -- A chain turned round. What is made part by part comes out with its last part first, since a cell points only to what lies below it; turned
 -- round once more it stands as it should.
-use Rattle.std.specs.Prelude.{List, ℕ, zero, suc, ◌+◌, ◌*◌, ◌≤◌, ◌≡◌, length}
-use Rattle.model.specs.Trees.{Tree, Trees, tnil, tcons}
+use Rattle.std.specs.Prelude.{List, ℕ, suc, ◌+◌, ◌*◌, ◌≤◌, ◌≡◌, length}
+use Rattle.model.specs.Trees.{Trees, tnil, tcons}
 use Rattle.table.specs.Sizes.{cell_size, table_size}
 use Rattle.table.specs.Words.{Same}
 use Rattle.things.specs.Rep.{RepP}

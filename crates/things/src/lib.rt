@@ -1,7 +1,7 @@
 // What the table stands for: trees and syntax objects. A syntax value is its object.
 #![tactic(auto)]
 
-ghost use Rattle.std.specs.Prelude.{◌≡◌, ℕ, ◌+◌, ◌≤◌, min, max, length};
+ghost use Rattle.std.specs.Prelude.{◌≡◌, ℕ, ◌+◌, ◌≤◌, min, length};
 ghost use Rattle.things.specs.Turning.{Turnable, Turned};
 ghost use Rattle.things.specs.Making.{Roomy, Stored, StoredObject, Linkable, Linked, Closable, Closed};
 ghost use Rattle.things.specs.Measuring.{Seen, SeenP, Measured, MeasuredP, MeasuredL};
@@ -34,14 +34,7 @@ fn sum(a: u32, b: u32) -> u32
     requires { (a ≤ most_size) × (b ≤ most_size) }
     ensures { result ≡ min most_size (a + b) }
 {
-    let n = a + b;
-    if n < Extent::MOST { n } else { Extent::MOST }
-}
-
-fn larger(a: u32, b: u32) -> u32
-    ensures { result ≡ max a b }
-{
-    if a < b { b } else { a }
+    Extent::MOST.min(a + b)
 }
 
 // ---- measuring
@@ -84,40 +77,34 @@ pub fn measure(table: &[u32], i: u32) -> Extent
     ensures { Measured table.now i result }
 {
     let n = table::get_node(table, i);
-    let tag = n.tag;
-    if tag < Node::LIST {
-        return Extent {
+    match n.tag {
+        Node::SYMBOL..=Node::RUNG_WORD => Extent {
             size: 1,
             weight: 1,
             nesting: 1,
-        };
-    }
-    if tag == Node::LIST {
-        let m = measure_parts(table, n.content);
-        return Extent {
+        },
+        Node::LIST => {
+            let m = measure_parts(table, n.content);
+            Extent {
+                size: 1,
+                weight: sum(1, m.weight),
+                nesting: m.nesting + 1,
+            }
+        }
+        Node::APPLICATION | Node::LIST_VALUE => measure_list(table, n.content),
+        Node::FUNCTION => {
+            let b = table::get_body(table, i);
+            Extent {
+                size: sum(1, b.size),
+                weight: 0,
+                nesting: b.nesting + 1,
+            }
+        }
+        _ => Extent {
             size: 1,
-            weight: sum(1, m.weight),
-            nesting: m.nesting + 1,
-        };
-    }
-    if tag == Node::APPLICATION {
-        return measure_list(table, n.content);
-    }
-    if tag == Node::LIST_VALUE {
-        return measure_list(table, n.content);
-    }
-    if tag == Node::FUNCTION {
-        let b = table::get_body(table, i);
-        return Extent {
-            size: sum(1, b.size),
             weight: 0,
-            nesting: b.nesting + 1,
-        };
-    }
-    Extent {
-        size: 1,
-        weight: 0,
-        nesting: 1,
+            nesting: 1,
+        },
     }
 }
 
@@ -176,18 +163,15 @@ pub fn link(table: &mut [u32], top: u32, head: u32, tail: u32) -> Made
 {
     let m = measure(table, head);
     let n = measure_parts(table, tail);
-    let weight = sum(m.weight, n.weight);
-    let size = sum(m.size, n.size);
-    let nesting = larger(m.nesting, n.nesting);
     table::put_cell(
         table,
         top,
         Cell {
             head,
             tail,
-            weight,
-            size,
-            nesting,
+            weight: sum(m.weight, n.weight),
+            size: sum(m.size, n.size),
+            nesting: m.nesting.max(n.nesting),
         },
     );
     Made {
@@ -203,7 +187,7 @@ pub fn turn(table: &mut [u32], top: u32, c: u32) -> Made
 {
     let mut end = top;
     let mut from = c;
-    let mut at: u32 = 0;
+    let mut at = 0;
     while from != 0 {
         let x = table::get_cell(table, from);
         let m = link(table, end, x.head, at);

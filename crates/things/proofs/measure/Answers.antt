@@ -1,9 +1,7 @@
-use Rattle.std.proofs.Common.{rules, ◌-◌}
+use Rattle.std.proofs.Common.{rules}
 use Rattle.things.proofs.measure.Goals as goal
-use Rattle.things.proofs.Measuring.{laws}
-
-pub returns-then-tag-lt-LIST : goal.returns-then-tag-lt-LIST
-returns-then-tag-lt-LIST c = search (laws, rules)
+use Rattle.things.proofs.Measuring.{laws, either-seen, either_measured, atom_measured, flat_measured}
+use native.Mathlib.Omega.{arith}
 
 pub measure_parts-m-requires : goal.measure_parts-m-requires
 measure_parts-m-requires c = search (laws, rules)
@@ -14,30 +12,26 @@ sum-requires c = search (laws, rules)
 pub overflow_add-result : goal.overflow_add-result
 overflow_add-result c = search (laws, rules)
 
-pub returns-then-tag-eq-LIST : goal.returns-then-tag-eq-LIST
-returns-then-tag-eq-LIST c = search (laws, rules)
-
 pub measure_list-requires : goal.measure_list-requires
-measure_list-requires c = search (laws, rules)
+measure_list-requires c = either-seen c.get_node-n.ensures c.requires c.in-7.is
 
-pub returns-then-tag-eq-APPLICATION : goal.returns-then-tag-eq-APPLICATION
-returns-then-tag-eq-APPLICATION c = search (laws, rules)
+pub sum-requires-in-8 : goal.sum-requires-in-8
+sum-requires-in-8 c = search (laws, rules)
 
-pub measure_list-requires-then-tag-eq-LIST_VALUE :
-    goal.measure_list-requires-then-tag-eq-LIST_VALUE
-measure_list-requires-then-tag-eq-LIST_VALUE c = search (laws, rules)
+pub overflow_add-result-in-8 : goal.overflow_add-result-in-8
+overflow_add-result-in-8 c = search (laws, rules)
 
-pub returns-then-tag-eq-LIST_VALUE : goal.returns-then-tag-eq-LIST_VALUE
-returns-then-tag-eq-LIST_VALUE c = search (laws, rules)
+pub returns-in-5 : goal.returns-in-5
+returns-in-5 c = search (laws, rules)
 
-pub sum-requires-then-tag-eq-FUNCTION : goal.sum-requires-then-tag-eq-FUNCTION
-sum-requires-then-tag-eq-FUNCTION c = search (laws, rules)
+pub returns-in-7 : goal.returns-in-7
+returns-in-7 c = either_measured c.get_node-n.ensures c.in-7.is c.measure_list.ensures
 
-pub overflow_add-result-then-tag-eq-FUNCTION : goal.overflow_add-result-then-tag-eq-FUNCTION
-overflow_add-result-then-tag-eq-FUNCTION c = search (laws, rules)
+pub returns-in-8 : goal.returns-in-8
+returns-in-8 c = search (laws, rules)
 
-pub returns-then-tag-eq-FUNCTION : goal.returns-then-tag-eq-FUNCTION
-returns-then-tag-eq-FUNCTION c = search (laws, rules)
+pub returns-in-0-to-4 : goal.returns-in-0-to-4
+returns-in-0-to-4 c = atom_measured c.get_node-n.ensures (omega arith)
 
-pub returns : goal.returns
-returns c = search (laws, rules)
+pub returns-in_default : goal.returns-in_default
+returns-in_default c = flat_measured c.get_node-n.ensures (omega arith) (λ e. grind arith) (λ e. grind arith) (λ e. grind arith) (λ e. grind arith)

@@ -1,4 +1,4 @@
-use Rattle.std.proofs.Common.{rules, ◌-◌}
+use Rattle.std.proofs.Common.{rules}
 use Rattle.things.proofs.measure_parts.Goals as goal
 use Rattle.things.proofs.Measuring.{laws}
 

@@ -1,4 +1,3 @@
-use Rattle.std.proofs.Common.{◌-◌}
 use Rattle.things.proofs.turn.Given as goal
 use Rattle.things.proofs.Turning.{Turning}
 
