@@ -6,7 +6,7 @@ use native.Mathlib.Nat.{one-mul, div-eq_of_lt, mod-lt}
 use native.Mathlib.Omega.{arith}
 use borrow.Author.Tests.{ltb-true, ltb-false}
 use lib.Bits.{bit_or, or_shr, or_mod, or_zero_r, shifted_even}
-use lib.Dec.{eqb, ltb, lit<}
+use lib.Dec.{ltb, lit<}
 use lib.Pow.{pow-add, pow-lt, shl-shr, shl_exact}
 
 -- ---- the number with digit q alone

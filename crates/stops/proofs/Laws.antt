@@ -1,23 +1,23 @@
 -- Stops: one law for each way out.
 use mathlib.Core.Path.{◌≡◌, refl, sym, ap, ◌∙◌}
-use mathlib.Core.Bool.{Bool, true, false, ◌||◌, or-true, or-false}
+use mathlib.Core.Bool.{Bool, true, false, not, ◌||◌, or-true, or-false}
+use mathlib.Core.Logic.{◌⊎◌, inl, inr}
 use mathlib.Core.List.{List, [], ◌∷◌, ◌++◌}
-use Prim.Native.Nat.{ℕ, ◌+◌, ◌*◌, ◌/◌, ◌%◌, ◌^◌, ◌≤◌, ◌<◌}
+use Prim.Native.Nat.{ℕ, ◌+◌, ◌-◌, ◌*◌, ◌/◌, ◌%◌, ◌^◌, ◌≤◌, ◌<◌}
 use native.Mathlib.Nat.{zero-div, mod-lt}
 use native.Mathlib.Omega.{arith}
-use borrow.Author.Count.{below_more}
-use borrow.Author.Tests.{eq-eqb, ne_eqb, eqb-true, eqb-false}
+use borrow.Author.Tests.{le-ltb, eq-eqb, eqb-true, eqb-false}
 use lib.Bits.{bit_or}
-use lib.Dec.{eqb, lit<}
-use lib.ListN.{length, get_or, set, length-set}
+use lib.Dec.{eqb, ltb, lit<}
+use lib.ListN.{length, get_or, set, take, drop, replicate}
+use borrow.Rule.Slice.PartMut.{put_mid, post_of}
+use Rattle.std.proofs.lemmas.List.{length-take-le, length-drop, length-replicate, get_or_append_left, get_or-take, get_or-append-add, get_or-replicate}
 use lib.Seq.{get_or-set_same, get_or-set_other}
 use Rattle.model.specs.Limits.{most_names}
 use Rattle.model.specs.Meanings.{is_among}
 use Rattle.table.specs.Sizes.{table_size}
 use Rattle.table.specs.Words.{Same}
-use Rattle.table.proofs.Laws.{same_refl}
 use Rattle.things.specs.Making.{Roomy}
-use Rattle.things.proofs.Making.{room-add}
 use Rattle.stops.specs.Stops.{stop_digits, stops_size, stop_names, bit_of, Bits, RepZ, no-stops, some-stops, KnownZ, IsStopped, Inside, NoneYet, Stopped}
 use Rattle.stops.proofs.Bits.{set_there, set_elsewhere, one-is}
 use Rattle.laws.proofs.Tests.{among-more}
@@ -65,68 +65,53 @@ module _ {l : List ℕ} {z n : ℕ} where
   pub stopped-bit : {t : Bool} → ¬ (z ≡ 0) → n < stop_names → t ≡ bit_of l z n → IsStopped l z n t
   stopped-bit h g e = record { means = λ top zs r. e ∙ bit-among n r h g }
 
+-- the test that the code makes before it looks at a bit is false
+module _ {l : List ℕ} {z n : ℕ} {t : Bool} where
+  pub stopped-past : ¬ (z ≡ 0) → t ≡ ltb n stop_names → (¬ (z ≡ 0) × (stop_names ≤ n)) ⊎ (z ≡ 0) → IsStopped l z n t
+  stopped-past d e (inl (_, h)) = let f : t ≡ false = e ∙ le-ltb n stop_names h in rw f (stopped-over h)
+  stopped-past d e (inr q) = absurd (d q)
+
+  pub stopped-nowhere : z ≡ 0 → t ≡ not (eqb z 0) → IsStopped l z n t
+  stopped-nowhere q e = let f : t ≡ false = e ∙ ap not (eq-eqb z 0 q) in rw f (stopped_none q)
+
 -- ---- bits that are all 0
 
--- the words from top up to k are 0
-pub record Zeros (l₀ : List ℕ) (top from end : ℕ) (l : List ℕ) (k : ℕ) : Type 0 where
-  pub first : from ≡ top
-  pub last : end ≡ top + stops_size
-  pub low : from ≤ k
-  pub high : k ≤ end
-  pub long : length l ≡ length l₀
-  pub room : Roomy l₀ top stops_size
-  pub kept : Same top l₀ l
-  pub zero : (j : ℕ) → top ≤ j → j < k → get_or l j 0 ≡ 0
+-- the k words from top on are 0
+module _ {l : List ℕ} {top : ℕ} (k : ℕ) (ys : List ℕ) (r : Roomy l top stops_size) (e : k ≡ stops_size) (z : ys ≡ replicate (length (take k (drop top l))) 0) where
+  long-front : length (take top l) ≡ top
+  long-front = length-take-le top l (omega (arith, r.fits))
 
-pub zeros_none : {l : List ℕ} {top from end : ℕ} → Roomy l top stops_size → from ≡ top → end ≡ from + stops_size → Zeros l top from end l from
-zeros_none {l} {top} r e h = record {
-  first = e;
-  last = omega arith;
-  low = omega arith;
-  high = omega arith;
-  long = refl;
-  room = r;
-  kept = same_refl top l;
-  zero = λ j a b. absurd (omega arith);
-}
+  long : length (take k (drop top l)) ≡ stops_size
+  long = length-take-le k (drop top l) (omega (arith, r.fits, length-drop top l)) ∙ e
 
-module _ {l₀ l : List ℕ} {top from end k : ℕ} (v : Zeros l₀ top from end l k) where
-  pub zeros_inside : k < end → k < length l
-  zeros_inside h = omega (arith, v.long, v.last, v.room.fits)
+  zeros : ys ≡ replicate stops_size 0
+  zeros = z ∙ ap (λ (n : ℕ). replicate n 0) long
 
-  pub zeros_add : top + stops_size < 2 ^ 32
-  zeros_add = room-add stops_size v.room
+  abbrev filled : List ℕ
+  filled = put_mid top k l ys
 
-  pub zeros_long : length l ≡ length l₀
-  zeros_long = v.long
+  front : (j : ℕ) → j < top → get_or filled j 0 ≡ get_or l j 0
+  front j h = get_or_append_left (take top l) (ys ++ post_of top k l) 0 j (omega (arith, long-front)) ∙ get_or-take top l j 0 h
 
-  pub zeros_more : k < end → Zeros l₀ top from end (set l k 0) (k + 1)
-  unfolding Same
-  zeros_more h = record {
-    first = v.first;
-    last = v.last;
-    low = omega (arith, v.low);
-    high = omega arith;
-    long = length-set l k 0 ∙ v.long;
-    room = v.room;
-    kept = λ j a. get_or-set_other l k j 0 0 (λ e. omega (arith, v.first, v.low)) ∙ v.kept j a;
-    zero = λ j a b. go j a b (eqb j k) refl;
-  }
-    where
-      go : (j : ℕ) → top ≤ j → j < k + 1 → (t : Bool) → eqb j k ≡ t → get_or (set l k 0) j 0 ≡ 0
-      go j a b true e = ap (λ (i : ℕ). get_or (set l k 0) i 0) (eqb-true j k e) ∙ get_or-set_same l k 0 0 (zeros_inside h)
-      go j a b false e = let d : j ≡ k → ⊥ = eqb-false j k e in get_or-set_other l k j 0 0 d ∙ v.zero j a (omega arith)
+  inside : (j : ℕ) → top ≤ j → j < top + stops_size → get_or filled j 0 ≡ 0
+  inside j a b =
+      let at : j ≡ length (take top l) + (j - top) = omega (arith, long-front) in
+      ap (λ (n : ℕ). get_or filled n 0) at
+      ∙ get_or-append-add (take top l) (ys ++ post_of top k l) (j - top) 0
+      ∙ ap (λ (x : List ℕ). get_or (x ++ post_of top k l) (j - top) 0) zeros
+      ∙ get_or_append_left (replicate stops_size 0) (post_of top k l) 0 (j - top) (omega (arith, length-replicate {A = ℕ} stops_size 0))
+      ∙ get_or-replicate stops_size (j - top) 0 0 (omega arith)
 
-  pub none_made : end ≤ k → NoneYet l₀ l top top (top + stops_size)
-  unfolding bit_of is_among
-  none_made h = record {
-    kept = v.kept;
+  pub none_made : NoneYet l (put_mid top k l ys) top top (top + stops_size)
+  unfolding bit_of is_among Same
+  none_made = record {
+    kept = front;
     place = refl;
     grows = refl;
     bits = record {
       small = λ n e. absurd (let z : ◌≡◌ {A = Bool} false true = e in let y : ◌≡◌ {A = ℕ} 0 1 = cc in omega arith);
       told = λ n g.
-          ap (λ (w : ℕ). eqb (w / 2 ^ (n % stop_digits) % 2) 1) (v.zero (top + n / stop_digits) (omega arith) (omega (arith, v.last)))
+          ap (λ (w : ℕ). eqb (w / 2 ^ (n % stop_digits) % 2) 1) (inside (top + n / stop_digits) (omega arith) (omega arith))
           ∙ ap (λ (w : ℕ). eqb (w % 2) 1) (zero-div (2 ^ (n % stop_digits)));
     };
   }
@@ -193,7 +178,7 @@ module _ {l : List ℕ} {z n : ℕ} (r : Inside l z n) where
     told = told_more;
   }
 
-pub ruleset laws = (stopped_none, stopped-over, bit-ready, stopped-bit, zeros_none, zeros_inside, zeros_add, zeros_long, zeros_more, none_made, stop_inside, stop_add, stop_set)
+pub ruleset laws = (stopped_none, stopped-over, bit-ready, stopped-bit, stop_inside, stop_add, stop_set)
 
 -- ---- what a caller knows
 

@@ -19,21 +19,14 @@ fn bit(table: &[u32], z: u32, n: u32) -> bool
     requires { Inside table.now z n }
     ensures { result ≡ bit_of table.now z n }
 {
-    let i = (z + n / DIGITS) as usize;
-    (table[i] >> (n % DIGITS)) % 2 == 1
+    (table[(z + n / DIGITS) as usize] >> (n % DIGITS)) % 2 == 1
 }
 
 pub fn is_stopped(table: &[u32], z: u32, name: Name) -> bool
     requires { KnownZ table.now z }
     ensures { IsStopped table.now z name.0 result }
 {
-    if z == 0 {
-        return false;
-    }
-    if Name::MOST <= name.0 {
-        return false;
-    }
-    bit(table, z, name.0)
+    z != 0 && name.0 < Name::MOST && bit(table, z, name.0)
 }
 
 // Bits for all names, and none of them set.
@@ -42,12 +35,7 @@ pub fn none_yet(table: &mut [u32], top: u32) -> Made
     ensures { NoneYet table.old table.new top result.at result.top }
 {
     let from = top as usize;
-    let end = from + WORDS as usize;
-    let mut k = from;
-    while k < end {
-        table[k] = 0;
-        k += 1;
-    }
+    table[from..from + WORDS as usize].fill(0);
     Made {
         at: top,
         top: top + WORDS,
@@ -60,7 +48,5 @@ pub fn stop(table: &mut [u32], z: u32, name: Name)
     ensures { Stopped table.old table.new z name.0 }
 {
     let n = name.0;
-    let i = (z + n / DIGITS) as usize;
-    let one = 1u32 << (n % DIGITS);
-    table[i] = table[i] | one;
+    table[(z + n / DIGITS) as usize] |= 1 << (n % DIGITS);
 }

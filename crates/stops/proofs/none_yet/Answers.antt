@@ -1,12 +1,6 @@
-use Rattle.std.proofs.Common.{rules, ◌-◌}
 use Rattle.stops.proofs.none_yet.Goals as goal
-use Rattle.stops.proofs.Laws.{laws}
-
-pub loop-k-init : goal.loop-k-init
-loop-k-init c = search (laws, rules)
-
-pub loop-k-preserved : goal.loop-k-preserved
-loop-k-preserved c = search (laws, rules)
+use Rattle.stops.proofs.Laws.{none_made}
+use native.Mathlib.Omega.{arith}
 
 pub returns : goal.returns
-returns c = search (laws, rules)
+returns c = none_made _ c.fill.new.self c.requires (omega arith) (c.fill.ensures.after (λ y e. e))
