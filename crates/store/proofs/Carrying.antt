@@ -1,19 +1,15 @@
 -- The prunable set and the use scopes, which lie behind the bindings.
-use mathlib.Core.Path.{◌≡◌, sym, ◌∙◌, subst}
+use mathlib.Core.Path.{◌≡◌, ◌∙◌}
 use mathlib.Core.List.{List}
-use Prim.Native.Nat.{ℕ, ◌+◌, ◌*◌, ◌≤◌, ◌<◌}
+use Prim.Native.Nat.{ℕ, ◌+◌, ◌*◌, ◌<◌}
 use native.Mathlib.Omega.{arith}
-use lib.ListN.{length, get_or}
-use lib.Seq.{sets}
 use Rattle.model.specs.Scopes.{Scopes}
 use Rattle.model.specs.Resolving.{Bind}
-use Rattle.scopes.specs.Sets.{scopes_of, words_from, set_words}
-use Rattle.scopes.specs.declared.ScopeSet.{ScopeSet}
-use Rattle.scopes.proofs.Stores.{stores_before, stores_after, stores_at}
+use Rattle.scopes.specs.Sets.{words_from, set_words}
 use Rattle.scopes.proofs.Words.{words_same}
 use Rattle.store.specs.Sizes.{binding_size, most_bindings, store_size}
 use Rattle.store.specs.Words.{binds_of, prunable_of, uses_of, Inserts, SetPut, Carries}
-use Rattle.store.proofs.Runs.{set_list, listed, same-bind, same-run}
+use Rattle.store.proofs.Runs.{same-bind, same-run}
 
 -- a binding more leaves both
 pub prunable-kept : {b : Bind} {n : ℕ} {was now : List ℕ} → Inserts b n was now → n < most_bindings → prunable_of now ≡ prunable_of was
@@ -23,14 +19,6 @@ prunable-kept {n = n} {was} {now} w h = words_same 64 set_words now was store_si
 pub uses-kept : {b : Bind} {n : ℕ} {was now : List ℕ} → Inserts b n was now → n < most_bindings → uses_of now ≡ uses_of was
 unfolding uses_of
 uses-kept {n = n} {was} {now} w h = words_same 64 set_words now was (store_size + set_words) (store_size + set_words) (λ k p. w.kept (store_size + set_words + k) (omega arith))
-
-pub set_put : (l : List ℕ) (a : ℕ) (s : ScopeSet) {l' : List ℕ} → a + set_words ≤ length l → l' ≡ sets l a (set_list s) → SetPut (scopes_of s) l l' a
-set_put l a s h e =
-    subst (λ (z : List ℕ). SetPut (scopes_of s) l z a) (sym e) (record {
-      before = λ k g. stores_before (set_list s) l a k g;
-      after = λ k g. stores_after (set_list s) l a k g;
-      there = words_same 64 set_words (sets l a (set_list s)) s.words a 0 (λ k g. stores_at (set_list s) l a k h g ∙ listed s k g);
-    })
 
 pub both-got : {p u : Scopes} (l : List ℕ) → p ≡ words_from 64 set_words l store_size → u ≡ words_from 64 set_words l (store_size + set_words) → (p ≡ prunable_of l) × (u ≡ uses_of l)
 unfolding prunable_of uses_of

@@ -1,11 +1,9 @@
 -- Who competes, test by test and place by place; and what resolving decides.
 use mathlib.Core.Path.{◌≡◌, refl, sym, ap, ◌∙◌, subst}
 use mathlib.Core.Bool.{Bool, true, false, not, ◌&&◌}
-use mathlib.Core.List.{List, [], ◌∷◌}
+use mathlib.Core.List.{List, ◌∷◌}
 use Prim.Native.Nat.{ℕ, suc, ◌+◌, ◌-◌, ◌≤◌, ◌<◌}
 use native.Mathlib.Omega.{arith}
-use lib.Dec.{eqb}
-use borrow.Author.Tests.{eq-eqb, ne_eqb}
 use Rattle.model.specs.Choice.{when◌then◌else◌}
 use Rattle.model.specs.Scopes.{Scopes, within}
 use Rattle.model.specs.Resolving as model
@@ -20,6 +18,7 @@ use Rattle.store.specs.declared.resolving.Standing.TheVariants.{Free, Clear, Unc
 use Rattle.store.specs.declared.resolving.Resolving.{Resolving}
 use Rattle.store.specs.Words.{bind_at, binds_from, binds_of}
 use Rattle.store.specs.Pass.{order_of, seen_of, meaning_by, meaning}
+use Rattle.std.specs.Prelude.{Option, Some, None}
 use Rattle.store.specs.Rivalry.{Decision, means, several, decision, decided, competing_from, NextRival}
 use Rattle.store.proofs.Runs.{run_step, run_end}
 
@@ -32,17 +31,6 @@ and_no false = refl
 and_yes : (a : Bool) → (a && true) ≡ a
 and_yes true = refl
 and_yes false = refl
-
-module _ (x : ℕ) (s : Scopes) (b : Bind) where
-  pub other-symbol : (b.symb ≡ x → ⊥) → false ≡ candidate x s b
-  unfolding candidate
-  other-symbol n = rw (ne_eqb b.symb x n)
-
-  pub own_symbol : {t : Bool} → b.symb ≡ x → t ≡ within b.set s → t ≡ candidate x s b
-  unfolding candidate
-  own_symbol e h = rw (eq-eqb b.symb x e) h
-
-pub ruleset candidate_laws = (other-symbol, own_symbol)
 
 module _ (b c : Bind) {t : Bool} (k : t ≡ within c.set b.set) where
   pub not-contained : t ≡ true → false ≡ contained b c
@@ -136,11 +124,11 @@ pub seeking_begun : (x : ℕ) (s : Scopes) (l : List ℕ) {n past : ℕ} → pas
 seeking_begun x s l h = record { inside = h; same = refl }
 
 module _ {x : ℕ} {s : Scopes} {l : List ℕ} {n past i : ℕ} (w : Seeking x s l n past i) where
-  pub seeking_ended : n ≤ i → NextRival x s l n past 0
+  pub seeking_ended : n ≤ i → NextRival x s l n past None
   unfolding competing
   seeking_ended h = record {
     none = λ e. sym w.same ∙ ap (competing x s (binds_of l n) (suc i)) (run_end l n i h);
-    some = λ q. absurd (q refl);
+    some = λ k q. absurd (cc);
   }
 
   module _ (h : i < n) {c : Bind} (e : c ≡ bind_at l i) {t : Bool} (k : t ≡ competes x s (binds_of l n) c) where
@@ -158,10 +146,10 @@ module _ {x : ℕ} {s : Scopes} {l : List ℕ} {n past i : ℕ} (w : Seeking x s
         after : ℕ → List ℕ
         after z = competing x s (binds_of l n) (suc z) (binds_from l (i + 1) (n - (i + 1)))
 
-    pub seeking_found : t ≡ true → NextRival x s l n past (i + 1)
+    pub seeking_found : t ≡ true → NextRival x s l n past (Some (i + 1))
     seeking_found q = record {
-      none = λ z. absurd (omega arith);
-      some = λ z. (
+      none = λ z. absurd (cc);
+      some = λ k z. subst (λ (k : ℕ). (k ≤ n) × (competing_from x s l n past ≡ k ∷ competing_from x s l n k)) (let e : i + 1 ≡ k = cc in e) (
         omega arith,
         there
             ∙ ap (λ (b : Bool). when b then suc i ∷ competing_from x s l n (i + 1) else competing_from x s l n (i + 1)) q
@@ -179,26 +167,27 @@ pub ruleset seeking_laws = (seeking_begun, seeking_ended, seeking_found, seeking
 
 -- ---- the first two
 
-module _ {x : ℕ} {s : Scopes} {l : List ℕ} {n f : ℕ} (w : NextRival x s l n 0 f) where
+module _ {x : ℕ} {s : Scopes} {l : List ℕ} {n : ℕ} {f : Option ℕ} (w : NextRival x s l n 0 f) where
   all : rivals x s (binds_of l n) ≡ first_two (competing_from x s l n 0)
   unfolding rivals
   all = ap (λ (r : List Bind). first_two (competing x s (binds_of l n) 1 r)) (sym (from_front l n))
 
-  pub first-none : {q : Rivals} → f ≡ 0 → q ≡ no_rivals → q ≡ rivals x s (binds_of l n)
+  pub first-none : {q : Rivals} → f ≡ None → q ≡ no_rivals → q ≡ rivals x s (binds_of l n)
   unfolding first_two
   first-none z e = e ∙ sym (all ∙ ap first_two (w.none z))
 
-  pub first-within : (f ≡ 0 → ⊥) → f ≤ n
-  first-within z = (w.some z).0
+  module _ {k : ℕ} (z : f ≡ Some k) where
+    pub first-within : k ≤ n
+    first-within = (w.some k z).0
 
-  module _ (z : f ≡ 0 → ⊥) {g : ℕ} (v : NextRival x s l n f g) where
-    pub second_none : {q : Rivals} → g ≡ 0 → q ≡ no_rivals → q ≡ rivals x s (binds_of l n)
-    unfolding first_two
-    second_none y e = e ∙ sym (all ∙ ap first_two ((w.some z).1 ∙ ap (λ (r : List ℕ). f ∷ r) (v.none y)))
+    module _ {g : Option ℕ} (v : NextRival x s l n k g) where
+      pub second_none : {q : Rivals} → g ≡ None → q ≡ no_rivals → q ≡ rivals x s (binds_of l n)
+      unfolding first_two
+      second_none y e = e ∙ sym (all ∙ ap first_two ((w.some k z).1 ∙ ap (λ (r : List ℕ). k ∷ r) (v.none y)))
 
-    pub both_found : (g ≡ 0 → ⊥) → record { first = f; second = g } ≡ rivals x s (binds_of l n)
-    unfolding first_two
-    both_found y = sym (all ∙ ap first_two ((w.some z).1 ∙ ap (λ (r : List ℕ). f ∷ r) (v.some y).1))
+      pub both_found : {m : ℕ} → g ≡ Some m → record { first = k; second = m } ≡ rivals x s (binds_of l n)
+      unfolding first_two
+      both_found {m} y = sym (all ∙ ap first_two ((w.some k z).1 ∙ ap (λ (r : List ℕ). k ∷ r) (v.some m y).1))
 
 pub ruleset two_laws = (first-none, first-within, second_none, both_found)
 

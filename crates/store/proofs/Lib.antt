@@ -4,3 +4,4 @@ pub mod Carrying
 pub mod Pass
 pub mod Taking
 pub mod Competing
+pub mod Lying

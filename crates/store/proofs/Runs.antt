@@ -7,17 +7,15 @@ use Prim.Native.Nat.{ℕ, zero, suc, ◌+◌, ◌-◌, ◌*◌, ◌%◌, ◌≤�
 use native.Mathlib.Nat.{mod-eq_of_lt, eq-or-lt_of_le}
 use native.Mathlib.Omega.{arith}
 use lib.ListN.{length, get_or, set, length-set}
-use lib.Seq.{sets, length-sets, get_or-set_same, get_or-set_other}
+use lib.Seq.{get_or-set_same, get_or-set_other}
 use Rattle.model.specs.Limits as m
 use Rattle.model.specs.Choice.{when◌then◌else◌}
 use Rattle.model.specs.Scopes.{Scopes}
 use Rattle.model.specs.Resolving.{Bind, bind_before, insert}
-use Rattle.scopes.specs.Sets.{words_from, set_words}
-use Rattle.scopes.specs.declared.ScopeSet.{ScopeSet}
-use Rattle.scopes.proofs.Stores.{stores_before, stores_after, stores_at}
+use Rattle.scopes.specs.Sets.{set_words, scopes_of}
 use Rattle.scopes.proofs.Words.{words_same}
 use Rattle.store.specs.declared.bindings.Binding.{Binding}
-use Rattle.store.specs.Words.{bind_at, binds_from, binds_of, bind_of, Put, Placed, Shifted, Inserts}
+use Rattle.store.specs.Words.{bind_at, binds_from, binds_of, bind_of, Put, Placed, Shifted, Inserts, SetPut}
 use Rattle.store.specs.Sizes.{binding_size, most_bindings}
 
 -- the store has room for as many bindings as the model allows
@@ -26,33 +24,6 @@ unfolding m.most_bindings
 bindings-are = refl
 
 -- ---- one binding
-
--- the words of a set, stored one by one
-abbrev pub set_list : ScopeSet → List ℕ
-set_list s = get_or s.words 0 0 ∷ get_or s.words 1 0 ∷ get_or s.words 2 0 ∷ get_or s.words 3 0 ∷ []
-
-pub listed : (s : ScopeSet) (k : ℕ) → k < set_words → get_or (set_list s) k 0 ≡ get_or s.words (0 + k) 0
-listed s zero g = refl
-listed s (suc zero) g = refl
-listed s (suc (suc zero)) g = refl
-listed s (suc (suc (suc zero))) g = refl
-listed s (suc (suc (suc (suc k)))) g = absurd (omega arith)
-
--- a set whose words are those of the store, from place a on
-pub set_there : (l : List ℕ) (a b c d : ℕ) → b ≡ a + 1 → c ≡ a + 2 → d ≡ a + 3
-    → words_from 64 set_words (get_or l a 0 ∷ get_or l b 0 ∷ get_or l c 0 ∷ get_or l d 0 ∷ []) 0 ≡ words_from 64 set_words l a
-set_there l a b c d p q r = words_same 64 set_words _ l 0 a go
-  where
-    go : (k : ℕ) → k < set_words → get_or (get_or l a 0 ∷ get_or l b 0 ∷ get_or l c 0 ∷ get_or l d 0 ∷ []) (0 + k) 0 ≡ get_or l (a + k) 0
-    go zero g = ap (λ (n : ℕ). get_or l n 0) (let e : a ≡ a + 0 = omega arith in e)
-    go (suc zero) g = ap (λ (n : ℕ). get_or l n 0) p
-    go (suc (suc zero)) g = ap (λ (n : ℕ). get_or l n 0) q
-    go (suc (suc (suc zero))) g = ap (λ (n : ℕ). get_or l n 0) r
-    go (suc (suc (suc (suc k)))) g = absurd (omega arith)
-
--- from the third of a binding on
-pub words-there : (l : List ℕ) (a : ℕ) → words_from 64 set_words (get_or l (a + 2) 0 ∷ get_or l (a + 3) 0 ∷ get_or l (a + 4) 0 ∷ get_or l (a + 5) 0 ∷ []) 0 ≡ words_from 64 set_words l (a + 2)
-words-there l a = set_there l (a + 2) (a + 3) (a + 4) (a + 5) (omega arith) (omega arith) (omega arith)
 
 pub bind_eq : {x y t u : ℕ} {s r : Scopes} → x ≡ y → t ≡ u → s ≡ r
     → ◌≡◌ {A = Bind} (record { symb = x; target = t; set = s }) (record { symb = y; target = u; set = r })
@@ -136,6 +107,9 @@ module _ {b : Bind} {l : List ℕ} {n i : ℕ} (w : Passed b l n i) where
         ∙ ap (λ (r : List Bind). binds_from l 0 i ++ b ∷ r) (sym (run_end l n i h));
   }
 
+  pub passed_all : n ≤ i → Placed b l n n
+  passed_all h = let all : i ≡ n = omega (arith, w.inside) in subst (Placed b l n) all (passed_end h)
+
   pub passed_here : i < n → bind_before b (bind_at l i) ≡ true → Placed b l n i
   unfolding insert
   passed_here h e = record {
@@ -168,31 +142,34 @@ module _ {b : Bind} {l : List ℕ} {n i : ℕ} (w : Passed b l n i) where
 
 -- ---- a binding put between others that were moved
 
-abbrev pub bind_words : Binding → List ℕ
-bind_words b = b.symbol.0 ∷ b.target.0 ∷ set_list b.set
+-- two words and then a set are put
+module _ (l l' : List ℕ) (i : ℕ) (b : Binding) {x y : ℕ} (h : i * binding_size + binding_size ≤ length l) (p : x ≡ b.symbol.0) (q : y ≡ b.target.0)
+    (small : b.symbol.0 < 4294967296) (low : b.target.0 < 4294967296)
+    (w : SetPut (scopes_of b.set) (set (set l (i * binding_size) x) (i * binding_size + 1) y) l' (i * binding_size + 2)) (e : length l' ≡ length l) where
+  at-symbol : get_or l' (i * binding_size) 0 ≡ b.symbol.0
+  at-symbol =
+      w.before (i * binding_size) (omega arith)
+      ∙ get_or-set_other (set l (i * binding_size) x) (i * binding_size + 1) (i * binding_size) y 0 (λ k. omega arith)
+      ∙ get_or-set_same l (i * binding_size) x 0 (omega arith)
+      ∙ p
 
-pub put_words : (l : List ℕ) (i : ℕ) (b : Binding) → i * binding_size + binding_size ≤ length l → b.symbol.0 < 4294967296 → b.target.0 < 4294967296
-    → Put (bind_of b) l (sets l (i * binding_size) (bind_words b)) i
-unfolding bind_at
-put_words l i b h p q = record {
-  long = length-sets l (i * binding_size) (bind_words b);
-  before = λ k g. stores_before (bind_words b) l (i * binding_size) k g;
-  after = λ k g. stores_after (bind_words b) l (i * binding_size) k g;
-  there =
-      bind_eq
-      (ap (λ (w : ℕ). w % 4294967296) (ap (λ (k : ℕ). get_or now k 0) (let e : i * binding_size ≡ i * binding_size + 0 = omega arith in e) ∙ at 0 (omega arith)) ∙ mod-eq_of_lt p)
-      (ap (λ (w : ℕ). w % 4294967296) (at 1 (omega arith)) ∙ mod-eq_of_lt q)
-      (words_same 64 set_words now b.set.words (i * binding_size + 2) 0 word);
-}
-  where
-    now : List ℕ
-    now = sets l (i * binding_size) (bind_words b)
+  at-target : get_or l' (i * binding_size + 1) 0 ≡ b.target.0
+  at-target =
+      w.before (i * binding_size + 1) (omega arith)
+      ∙ get_or-set_same (set l (i * binding_size) x) (i * binding_size + 1) y 0 (omega (arith, length-set l (i * binding_size) x))
+      ∙ q
 
-    at : (k : ℕ) → k < binding_size → get_or now (i * binding_size + k) 0 ≡ get_or (bind_words b) k 0
-    at k g = stores_at (bind_words b) l (i * binding_size) k h g
+  stays : (k : ℕ) → (k ≡ i * binding_size → ⊥) → (k ≡ i * binding_size + 1 → ⊥) → get_or (set (set l (i * binding_size) x) (i * binding_size + 1) y) k 0 ≡ get_or l k 0
+  stays k c d = get_or-set_other (set l (i * binding_size) x) (i * binding_size + 1) k y 0 d ∙ get_or-set_other l (i * binding_size) k x 0 c
 
-    word : (k : ℕ) → k < set_words → get_or now (i * binding_size + 2 + k) 0 ≡ get_or b.set.words (0 + k) 0
-    word k g = ap (λ (n : ℕ). get_or now n 0) (let e : i * binding_size + 2 + k ≡ i * binding_size + suc (suc k) = omega arith in e) ∙ at (suc (suc k)) (omega arith) ∙ listed b.set k g
+  pub put_is : Put (bind_of b) l l' i
+  unfolding bind_at
+  put_is = record {
+    long = e;
+    before = λ k g. w.before k (omega arith) ∙ stays k (λ z. omega arith) (λ z. omega arith);
+    after = λ k g. w.after k (omega arith) ∙ stays k (λ z. omega arith) (λ z. omega arith);
+    there = bind_eq (ap (λ (z : ℕ). z % 4294967296) at-symbol ∙ mod-eq_of_lt small) (ap (λ (z : ℕ). z % 4294967296) at-target ∙ mod-eq_of_lt low) w.there;
+  }
 
 pub inserted : (b : Bind) (was moved now : List ℕ) (n i : ℕ) → n * binding_size + binding_size ≤ length moved
     → Placed b was n i → Shifted (i * binding_size) (n * binding_size) was moved → Put b moved now i → Inserts b n was now
@@ -226,10 +203,6 @@ inserted b was moved now n i h w s e = record {
         ap₂ (λ (c : Bind) (r : List Bind). c ∷ r)
         (ap (bind_at now) (let x : 0 + i ≡ i = omega arith in x) ∙ e.there)
         (ap (λ (k : ℕ). binds_from now k (n - i)) (let x : suc (0 + i) ≡ suc i = omega arith in x) ∙ same-run now was (suc i) i (n - i) after)
-
-pub put_is : (l : List ℕ) (i : ℕ) (b : Binding) {l' : List ℕ} → i * binding_size + binding_size ≤ length l → b.symbol.0 < 4294967296 → b.target.0 < 4294967296
-    → l' ≡ sets l (i * binding_size) (bind_words b) → Put (bind_of b) l l' i
-put_is l i b h p q e = subst (λ (z : List ℕ). Put (bind_of b) l z i) (sym e) (put_words l i b h p q)
 
 -- ---- moving words up, the last first: those from k on have been moved
 

@@ -1,15 +1,10 @@
 -- A candidate seen, by how the ones before it stand; and one place of the pass.
-use mathlib.Core.Path.{◌≡◌, refl, sym, ap, ap₂, ◌∙◌}
-use mathlib.Core.Logic.{◌⊎◌}
-use mathlib.Core.Bool.{Bool, true, false, ◌&&◌}
-use mathlib.Core.List.{List, [], ◌∷◌}
+use mathlib.Core.Path.{◌≡◌, sym, ap, ap₂, ◌∙◌}
+use mathlib.Core.Bool.{true, false}
+use mathlib.Core.List.{List}
 use Prim.Native.Nat.{ℕ, ◌+◌, ◌-◌, ◌≤◌, ◌<◌}
 use native.Mathlib.Omega.{arith}
-use lib.Dec.{eqb}
-use borrow.Author.Tests.{eq-eqb, ne_eqb}
-use Rattle.model.specs.Choice.{when◌then◌else◌}
 use Rattle.model.specs.Scopes.{Scopes, within}
-use Rattle.model.specs.Resolving as model
 use Rattle.model.specs.Resolving.{Bind, candidate, resolve}
 use Rattle.scopes.specs.declared.Name.{Name}
 use Rattle.scopes.specs.Sets.{scopes_of}
@@ -88,14 +83,10 @@ module _ {x : ℕ} {s : Scopes} {l : List ℕ} {n : ℕ} {seen : Seen} {i : ℕ}
 -- ---- one binding
 
 module _ (x : ℕ) (s : Scopes) (seen : Seen) (b : Bind) where
-  pub see_candidate : b.symb ≡ x → within b.set s ≡ true → taking seen b ≡ seeing x s seen b
-  unfolding seeing candidate
-  see_candidate e h = rw (eq-eqb b.symb x e, h)
+  pub see_candidate : candidate x s b ≡ true → taking seen b ≡ seeing x s seen b
+  unfolding seeing
+  see_candidate h = rw h
 
-  pub see_outside : b.symb ≡ x → within b.set s ≡ false → seen ≡ seeing x s seen b
-  unfolding seeing candidate
-  see_outside e h = rw (eq-eqb b.symb x e, h)
-
-  pub see_other : (b.symb ≡ x → ⊥) → seen ≡ seeing x s seen b
-  unfolding seeing candidate
-  see_other h = rw (ne_eqb b.symb x h)
+  pub see_other : candidate x s b ≡ false → seen ≡ seeing x s seen b
+  unfolding seeing
+  see_other h = rw h

@@ -1,5 +1,5 @@
 -- Resolving in one pass: what is kept of the candidates seen, and what the next one makes of it.
-use Rattle.std.specs.Prelude.{Bool, true, false, List, [], ◌∷◌, ℕ, zero, suc}
+use Rattle.std.specs.Prelude.{List, [], ◌∷◌, ℕ}
 use Rattle.std.specs.Int.Bits.{bit_or}
 use Rattle.model.specs.Choice.{when◌then◌else◌}
 use Rattle.model.specs.Scopes.{Scopes, within}

@@ -1,9 +1,11 @@
 // A binding is some words of the store: symbol, target, and the words of the set. How many there are is the caller's to keep.
 ghost use Rattle.std.specs.Prelude.{◌≡◌, ◌+◌, ◌*◌, ◌%◌, ◌≤◌, length};
 ghost use Rattle.model.specs.Resolving as model;
+ghost use Rattle.scopes.specs.Sets.{scopes_of};
 ghost use Rattle.store.specs.Words.{bind_of, bind_at, Put, Placed, Shifted, Inserts};
 ghost use Rattle.store.specs.Sizes.{binding_size};
 
+use crate::sets;
 use scopes::{Name, ScopeSet, Symbol};
 
 #[derive(Clone, Copy)]
@@ -21,13 +23,17 @@ impl Binding {
     pub fn before(self, other: Binding) -> bool
         ensures { result ≡ model.bind_before (bind_of self) (bind_of other) }
     {
-        let mine = self.symbol.0;
-        let its = other.symbol.0;
-        if mine != its {
-            return mine < its;
+        if self.symbol != other.symbol {
+            return self.symbol.0 < other.symbol.0;
         }
-        let set = self.set;
-        set.before(other.set)
+        self.set.before(other.set)
+    }
+
+    // It counts for symbol x with set s.
+    pub fn is_candidate(self, x: Symbol, s: ScopeSet) -> bool
+        ensures { result ≡ model.candidate x.0 (scopes_of s) (bind_of self) }
+    {
+        self.symbol == x && self.set.within(s)
     }
 }
 
@@ -43,15 +49,10 @@ pub fn get(store: &[u64], i: usize) -> Binding
     ensures { bind_of result ≡ bind_at store.now i }
 {
     let at = i * Binding::WORDS;
-    let symbol = Symbol(half(store[at]));
-    let target = Name(half(store[at + 1]));
-    let set = ScopeSet {
-        words: [store[at + 2], store[at + 3], store[at + 4], store[at + 5]],
-    };
     Binding {
-        symbol,
-        target,
-        set,
+        symbol: Symbol(half(store[at])),
+        target: Name(half(store[at + 1])),
+        set: sets::get_set(store, at + 2),
     }
 }
 
@@ -60,14 +61,10 @@ pub fn put(store: &mut [u64], i: usize, b: Binding)
     requires { i * binding_size + binding_size ≤ length store.old }
     ensures { Put (bind_of b) store.old store.new i }
 {
-    let set = b.set;
     let at = i * Binding::WORDS;
-    store[at] = b.symbol.0 as u64;
-    store[at + 1] = b.target.0 as u64;
-    store[at + 2] = set.words[0];
-    store[at + 3] = set.words[1];
-    store[at + 4] = set.words[2];
-    store[at + 5] = set.words[3];
+    store[at] = u64::from(b.symbol.0);
+    store[at + 1] = u64::from(b.target.0);
+    sets::put_set(store, at + 2, b.set);
 }
 
 // The place of b among the first count: that of the first binding that it comes before.
@@ -75,14 +72,12 @@ fn place(store: &[u64], count: usize, b: Binding) -> usize
     requires { count * binding_size ≤ length store.now }
     ensures { Placed (bind_of b) store.now count result }
 {
-    let mut i = 0;
-    while i < count {
+    for i in 0..count {
         if b.before(get(store, i)) {
             return i;
         }
-        i += 1;
     }
-    i
+    count
 }
 
 // The words from lo to hi moved up by one binding's words, the last first.
@@ -90,9 +85,7 @@ fn shift(store: &mut [u64], lo: usize, hi: usize)
     requires { (lo ≤ hi) × (hi + binding_size ≤ length store.old) }
     ensures { Shifted lo hi store.old store.new }
 {
-    let mut k = hi;
-    while lo < k {
-        k -= 1;
+    for k in (lo..hi).rev() {
         store[k + Binding::WORDS] = store[k];
     }
 }

@@ -7,17 +7,10 @@ ghost use Rattle.store.specs.Pass.{seen_of, none_seen, alone, joined, beyond_all
 ghost use Rattle.store.specs.Rivalry.{decision, decided, found_of};
 ghost use Rattle.store.specs.Sizes.{binding_size};
 
-use crate::bindings;
 use crate::bindings::Binding;
 use crate::rivals::Rivals;
+use crate::{bindings, rivals};
 use scopes::{Name, ScopeSet, Symbol};
-
-// A name, or several candidates none of which contains every other: the two that compete.
-#[derive(Clone, Copy)]
-pub enum Found {
-    Means(Name),
-    Several(Rivals),
-}
 
 // How the candidates seen so far stand to each other.
 #[derive(Clone, Copy)]
@@ -58,20 +51,19 @@ impl Resolving {
     fn clear(b: Binding) -> Self
         ensures { seen_of result ≡ alone (bind_of b) }
     {
-        let target = b.target;
-        let union = b.set;
-        let standing = Standing::Clear(target);
-        Resolving { standing, union }
+        Resolving {
+            standing: Standing::Clear(b.target),
+            union: b.set,
+        }
     }
 
     // With a candidate that neither contains the others nor is contained in one that does.
     fn unclear(union: ScopeSet, b: Binding) -> Self
         ensures { seen_of result ≡ joined (scopes_of union) (bind_of b) }
     {
-        let set = b.set;
         Resolving {
             standing: Standing::Unclear,
-            union: union.union(set),
+            union: union.union(b.set),
         }
     }
 
@@ -79,29 +71,21 @@ impl Resolving {
     fn beyond(union: ScopeSet, b: Binding) -> Self
         ensures { seen_of result ≡ beyond_all (scopes_of union) (bind_of b) }
     {
-        let set = b.set;
-        if union.within(set) {
-            return Resolving::clear(b);
+        if union.within(b.set) {
+            Resolving::clear(b)
+        } else {
+            Resolving::unclear(union, b)
         }
-        Resolving::unclear(union, b)
     }
 
     // One more candidate is seen.
     fn take(self, b: Binding) -> Self
         ensures { seen_of result ≡ taking (seen_of self) (bind_of b) }
     {
-        let standing = self.standing;
-        let union = self.union;
-        let set = b.set;
-        match standing {
+        match self.standing {
             Standing::Free => Resolving::clear(b),
-            Standing::Clear(_) => {
-                if set.within(union) {
-                    return self;
-                }
-                Resolving::beyond(union, b)
-            }
-            Standing::Unclear => Resolving::beyond(union, b),
+            Standing::Clear(_) if b.set.within(self.union) => self,
+            Standing::Clear(_) | Standing::Unclear => Resolving::beyond(self.union, b),
         }
     }
 
@@ -109,42 +93,34 @@ impl Resolving {
     fn see(self, b: Binding, x: Symbol, s: ScopeSet) -> Self
         ensures { seen_of result ≡ seeing x.0 (scopes_of s) (seen_of self) (bind_of b) }
     {
-        let set = b.set;
-        if b.symbol.0 != x.0 {
-            return self;
+        if b.is_candidate(x, s) {
+            self.take(b)
+        } else {
+            self
         }
-        if set.within(s) {
-            return self.take(b);
-        }
-        self
     }
 
-    // No candidate: the name is the symbol itself.
-    fn found(self, store: &[u64], count: u32, x: Symbol, s: ScopeSet) -> Found
+    // A name, or several candidates none of which contains every other: the two that compete. No candidate: the name is the symbol itself.
+    fn found(self, store: &[u64], count: u32, x: Symbol, s: ScopeSet) -> Result<Name, Rivals>
         requires { count * binding_size ≤ length store.now }
         ensures { found_of result ≡ decision (rivals x.0 (scopes_of s) (binds_of store.now count)) (meaning x.0 (seen_of self)) }
     {
-        let standing = self.standing;
-        match standing {
-            Standing::Free => Found::Means(Name(x.0)),
-            Standing::Clear(target) => Found::Means(target),
-            Standing::Unclear => Found::Several(crate::rivals::first_two(store, count, x, s)),
+        match self.standing {
+            Standing::Free => Ok(Name(x.0)),
+            Standing::Clear(target) => Ok(target),
+            Standing::Unclear => Err(rivals::first_two(store, count, x, s)),
         }
     }
 }
 
-// The name of the identifier with symbol x and set s, by the first count bindings of the store.
-pub fn resolve(store: &[u64], count: u32, x: Symbol, s: ScopeSet) -> Found
+// The name of the identifier with symbol x and set s, by the first count bindings of the store; or the two candidates that compete.
+pub fn resolve(store: &[u64], count: u32, x: Symbol, s: ScopeSet) -> Result<Name, Rivals>
     requires { count * binding_size ≤ length store.now }
     ensures { found_of result ≡ decided x.0 (scopes_of s) (binds_of store.now count) }
 {
-    let n = count as usize;
     let mut seen = Resolving::start();
-    let mut i = 0;
-    while i < n {
-        let b = bindings::get(store, i);
-        seen = seen.see(b, x, s);
-        i += 1;
+    for i in 0..count as usize {
+        seen = seen.see(bindings::get(store, i), x, s);
     }
     seen.found(store, count, x, s)
 }

@@ -30,36 +30,18 @@ impl Rivals {
     }
 }
 
-fn is_candidate(b: Binding, x: Symbol, s: ScopeSet) -> bool
-    ensures { result ≡ candidate x.0 (scopes_of s) (bind_of b) }
-{
-    let set = b.set;
-    if b.symbol.0 != x.0 {
-        return false;
-    }
-    set.within(s)
-}
-
 // Whether c contains b, and is another.
 fn contains(c: Binding, b: Binding) -> bool
     ensures { result ≡ model.contained (bind_of b) (bind_of c) }
 {
-    let inner = b.set;
-    let outer = c.set;
-    if outer.within(inner) {
-        return false;
-    }
-    inner.within(outer)
+    b.set.within(c.set) && !c.set.within(b.set)
 }
 
 // Whether c is a candidate for symbol x with set s that contains b, and another.
 fn outdoes(c: Binding, b: Binding, x: Symbol, s: ScopeSet) -> bool
     ensures { result ≡ (candidate x.0 (scopes_of s) (bind_of c) && model.contained (bind_of b) (bind_of c)) }
 {
-    if is_candidate(c, x, s) {
-        return contains(c, b);
-    }
-    false
+    c.is_candidate(x, s) && contains(c, b)
 }
 
 // Whether no other candidate among the first count bindings contains b.
@@ -67,13 +49,10 @@ fn is_uncontained(store: &[u64], count: u32, b: Binding, x: Symbol, s: ScopeSet)
     requires { count * binding_size ≤ length store.now }
     ensures { result ≡ model.uncontained (bind_of b) (candidates x.0 (scopes_of s) (binds_of store.now count)) }
 {
-    let n = count as usize;
-    let mut i = 0;
-    while i < n {
+    for i in 0..count as usize {
         if outdoes(bindings::get(store, i), b, x, s) {
             return false;
         }
-        i += 1;
     }
     true
 }
@@ -82,25 +61,20 @@ fn competes(store: &[u64], count: u32, b: Binding, x: Symbol, s: ScopeSet) -> bo
     requires { count * binding_size ≤ length store.now }
     ensures { result ≡ model.competes x.0 (scopes_of s) (binds_of store.now count) (bind_of b) }
 {
-    if is_candidate(b, x, s) {
-        return is_uncontained(store, count, b, x, s);
-    }
-    false
+    b.is_candidate(x, s) && is_uncontained(store, count, b, x, s)
 }
 
-// The place of the first binding that competes behind the first `past` bindings, or 0.
-fn next_rival(store: &[u64], count: u32, past: u32, x: Symbol, s: ScopeSet) -> u32
+// The place of the first binding that competes behind the first `past` bindings.
+fn next_rival(store: &[u64], count: u32, past: u32, x: Symbol, s: ScopeSet) -> Option<u32>
     requires { (count * binding_size ≤ length store.now) × (past ≤ count) }
     ensures { NextRival x.0 (scopes_of s) store.now count past result }
 {
-    let mut i = past;
-    while i < count {
+    for i in past..count {
         if competes(store, count, bindings::get(store, i as usize), x, s) {
-            return i + 1;
+            return Some(i + 1);
         }
-        i += 1;
     }
-    0
+    None
 }
 
 // The first two that compete for symbol x with set s, by the first count bindings of the store.
@@ -108,13 +82,11 @@ pub fn first_two(store: &[u64], count: u32, x: Symbol, s: ScopeSet) -> Rivals
     requires { count * binding_size ≤ length store.now }
     ensures { rivals_of result ≡ model.rivals x.0 (scopes_of s) (binds_of store.now count) }
 {
-    let first = next_rival(store, count, 0, x, s);
-    if first == 0 {
+    let Some(first) = next_rival(store, count, 0, x, s) else {
         return Rivals::none();
-    }
-    let second = next_rival(store, count, first, x, s);
-    if second == 0 {
+    };
+    let Some(second) = next_rival(store, count, first, x, s) else {
         return Rivals::none();
-    }
+    };
     Rivals { first, second }
 }

@@ -1,8 +1,7 @@
-use Rattle.std.proofs.Common.{rules, ◌-◌}
 use Rattle.store.specs.Words.{bind_at}
 use Rattle.store.proofs.bindings.get.Goals as goal
-use Rattle.store.proofs.Runs.{bind_eq, words-there}
+use Rattle.store.proofs.Runs.{bind_eq}
 
 pub returns : goal.returns
 unfolding bind_at
-returns c = search (bind_eq, words-there, rules)
+returns c = bind_eq c.half.ensures c.half-2.ensures c.get_set.ensures

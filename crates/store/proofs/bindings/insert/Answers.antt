@@ -1,4 +1,3 @@
-use Rattle.std.proofs.Common.{◌-◌}
 use Rattle.store.proofs.bindings.insert.Goals as goal
 use native.Mathlib.Omega.{arith}
 use Rattle.store.proofs.Runs.{inserted}

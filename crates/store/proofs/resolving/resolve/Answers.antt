@@ -1,4 +1,4 @@
-use Rattle.std.proofs.Common.{rules, ◌-◌}
+use Rattle.std.proofs.Common.{rules}
 use Rattle.store.proofs.resolving.resolve.Goals as goal
 use Rattle.store.proofs.Taking.{pass_start, pass_next, pass_end}
 use Rattle.store.proofs.Competing.{decided-is}

@@ -1,4 +1,4 @@
-use Rattle.std.proofs.Common.{rules, ◌-◌}
+use Rattle.std.proofs.Common.{rules}
 use Rattle.store.proofs.rivals.next_rival.Goals as goal
 use Rattle.store.proofs.Competing.{seeking_laws}
 

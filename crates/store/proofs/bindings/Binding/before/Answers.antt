@@ -1,10 +1,9 @@
-use Rattle.std.proofs.Common.{◌-◌}
 use Rattle.store.proofs.bindings.Binding.before.Goals as goal
 use mathlib.Core.Path.{◌∙◌}
-use Rattle.store.proofs.Keys.{before_differs, before_alike}
+use Rattle.store.proofs.Keys.{before_differs, before_alike, unlike, alike}
 
-pub returns-then-mine-its : goal.returns-then-mine-its
-returns-then-mine-its c = before_differs _ _ c.if-mine-its.true
+pub returns-then-ne : goal.returns-then-ne
+returns-then-ne c = before_differs _ _ (unlike c.if-ne.ensures)
 
 pub returns : goal.returns
-returns c = c.before-2.ensures ∙ before_alike _ _ c.if-mine-its.false
+returns c = c.before-2.ensures ∙ before_alike _ _ (alike c.if-ne.ensures)

@@ -1,14 +1,9 @@
-use Rattle.std.proofs.Common.{◌-◌}
 use Rattle.store.proofs.resolving.Resolving.see.Goals as goal
 use mathlib.Core.Path.{sym, ◌∙◌}
-use Rattle.store.proofs.Taking.{see_candidate, see_outside, see_other}
+use Rattle.store.proofs.Taking.{see_candidate, see_other}
 
-pub returns-then-b-x : goal.returns-then-b-x
-returns-then-b-x c = see_other _ _ _ _ c.if-b-x.true
+pub returns-then-is_candidate : goal.returns-then-is_candidate
+returns-then-is_candidate c = c.take.ensures ∙ see_candidate _ _ _ _ (sym c.is_candidate.ensures ∙ c.if-is_candidate.true)
 
-pub returns-then-within : goal.returns-then-within
-returns-then-within c = c.take.ensures ∙ see_candidate _ _ _ _ c.if-b-x.false (sym c.within.ensures
-    ∙ c.if-within.true)
-
-pub returns : goal.returns
-returns c = see_outside _ _ _ _ c.if-b-x.false (sym c.within.ensures ∙ c.if-within.false)
+pub returns-else-is_candidate : goal.returns-else-is_candidate
+returns-else-is_candidate c = see_other _ _ _ _ (sym c.is_candidate.ensures ∙ c.if-is_candidate.false)

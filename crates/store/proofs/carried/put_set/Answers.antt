@@ -1,7 +1,0 @@
-use Rattle.store.proofs.carried.put_set.Goals as goal
-use native.Mathlib.Omega.{arith}
-use native.Mathlib.Numerals.{towards_suc}
-use Rattle.store.proofs.Carrying.{set_put}
-
-pub returns : goal.returns
-returns c = set_put _ _ _ (omega arith) (simp towards_suc)
