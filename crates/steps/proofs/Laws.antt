@@ -7,6 +7,7 @@ use native.Mathlib.Omega.{arith}
 use borrow.Author.Tests.{ltb-true, ltb-false, ne_eqb, le-leb, lt-leb}
 use lib.ListN.{length}
 use lib.Dec.{ltb}
+use Rattle.std.specs.Prelude.{Result, Ok, Err}
 use Rattle.model.specs.Choice.{when◌then◌else◌}
 use Rattle.model.specs.Refusals as r
 use Rattle.model.specs.Steps as m
@@ -18,10 +19,8 @@ use Rattle.model.specs.Competing.{Rivals, no_rivals}
 use Rattle.store.specs.Rivalry.{rivals_of}
 use Rattle.steps.specs.declared.State.{State}
 use Rattle.steps.specs.declared.Stop.{Stop}
-use Rattle.steps.specs.declared.Charged.{Charged}
-use Rattle.steps.specs.declared.Charged.TheVariants.{Paid, Refused}
 use Rattle.steps.specs.States.{Store, state_of, stop_of, paid, charge_of, enter_of, Room}
-use Rattle.steps.specs.Agreement.{Later, Ready, Shape, Ended, done, refused, Gave, Agrees, gives, stops}
+use Rattle.steps.specs.Agreement.{Later, Ready, Shape, Gave, Agrees, gives, stops}
 use Rattle.table.specs.Sizes.{unit_size}
 
 -- ---- the code's charge
@@ -38,23 +37,23 @@ pub record Failed (n : ℕ) (s : State) (f : Stop) : Type 0 where
   pub short : s.left < n
   pub is : f ≡ stop_of OverBudget s
 
-pub charge_went : (n : ℕ) (s : State) {x : Charged} {u : State} → x ≡ charge_of n s → x ≡ Paid u → Went n s u
+pub charge_went : (n : ℕ) (s : State) {x : Result State Stop} {u : State} → x ≡ charge_of n s → x ≡ Ok u → Went n s u
 unfolding charge_of
 charge_went n s {x} {u} h e =
-    on_test (ltb s.left n) (Refused (stop_of OverBudget s)) (Paid (paid n s)) (λ (y : Charged). y ≡ Paid u → Went n s u)
+    on_test (ltb s.left n) (Err (stop_of OverBudget s)) (Ok (paid n s)) (λ (y : Result State Stop). y ≡ Ok u → Went n s u)
     (λ t h'. let z : ◌≡◌ {A = ℕ} 0 1 = cc in absurd (omega arith))
     (λ t h'. let z : u ≡ paid n s = cc in record { enough = ltb-false s.left n t; is = z })
     (sym h ∙ e)
 
-pub charge_failed : (n : ℕ) (s : State) {x : Charged} {f : Stop} → x ≡ charge_of n s → x ≡ Refused f → Failed n s f
+pub charge_failed : (n : ℕ) (s : State) {x : Result State Stop} {f : Stop} → x ≡ charge_of n s → x ≡ Err f → Failed n s f
 unfolding charge_of
 charge_failed n s {x} {f} h e =
-    on_test (ltb s.left n) (Refused (stop_of OverBudget s)) (Paid (paid n s)) (λ (y : Charged). y ≡ Refused f → Failed n s f)
+    on_test (ltb s.left n) (Err (stop_of OverBudget s)) (Ok (paid n s)) (λ (y : Result State Stop). y ≡ Err f → Failed n s f)
     (λ t h'. let z : f ≡ stop_of OverBudget s = cc in record { short = ltb-true s.left n t; is = z })
     (λ t h'. let z : ◌≡◌ {A = ℕ} 0 1 = cc in absurd (omega arith))
     (sym h ∙ e)
 
-pub enter_none : (s : State) → enter_of 0 s ≡ Refused (stop_of TooManyEntries s)
+pub enter_none : (s : State) → enter_of 0 s ≡ Err (stop_of TooManyEntries s)
 unfolding enter_of
 enter_none s = refl
 
@@ -63,12 +62,12 @@ unfolding enter_of
 enter_some d s = let z : suc d ≡ 0 → ⊥ = λ h. omega arith in rw (ne_eqb (suc d) 0 z) refl
 
 -- an entry that starts had one to spare
-pub enter_spare : (entries : ℕ) (s : State) {x : Charged} {u : State} → x ≡ enter_of entries s → x ≡ Paid u → 1 ≤ entries
+pub enter_spare : (entries : ℕ) (s : State) {x : Result State Stop} {u : State} → x ≡ enter_of entries s → x ≡ Ok u → 1 ≤ entries
 unfolding enter_of
 enter_spare zero s h e = let z : ◌≡◌ {A = ℕ} 0 1 = cc in absurd (omega arith)
 enter_spare (suc d) s h e = omega arith
 
-pub enter_went : (entries : ℕ) (s : State) {x : Charged} {u : State} → x ≡ enter_of entries s → x ≡ Paid u → Went 1 s u
+pub enter_went : (entries : ℕ) (s : State) {x : Result State Stop} {u : State} → x ≡ enter_of entries s → x ≡ Ok u → Went 1 s u
 unfolding enter_of
 enter_went zero s h e = let z : ◌≡◌ {A = ℕ} 0 1 = cc in absurd (omega arith)
 enter_went (suc d) s h e = charge_went 1 s (h ∙ enter_some d s) e
@@ -113,7 +112,7 @@ pub record Entry {A : Type 0} (whole rest : ℕ → Step A) : Type 0 where
   pub some : (d : ℕ) (y : m.State) → whole (suc d) y ≡ after (charge 1 y) (λ z. rest d)
 
 module _ {A : Type 0} {whole rest : ℕ → Step A} (w : Entry whole rest) (entries : ℕ) (s : State) (b : Store) where
-  pub entry_refused : {x : Charged} {f : Stop} → x ≡ enter_of entries s → x ≡ Refused f → whole entries (state_of s b) ≡ no (refusal_of f.refusal) (rivals_of f.rivals) f.left
+  pub entry_refused : {x : Result State Stop} {f : Stop} → x ≡ enter_of entries s → x ≡ Err f → whole entries (state_of s b) ≡ no (refusal_of f.refusal) (rivals_of f.rivals) f.left
   entry_refused {x} {f} h e = refused-at entries h
     where
       refused-at : (n : ℕ) → x ≡ enter_of n s → whole n (state_of s b) ≡ no (refusal_of f.refusal) (rivals_of f.rivals) f.left
@@ -122,7 +121,7 @@ module _ {A : Type 0} {whole rest : ℕ → Step A} (w : Entry whole rest) (entr
           let q = charge_failed 1 s (k ∙ enter_some d s) e in
           rw q.is (w.some d (state_of s b) ∙ then_no (λ z. rest d) (charge-no 1 s b q.short))
 
-  pub entry_goes : {x : Charged} {u : State} → x ≡ enter_of entries s → x ≡ Paid u → whole entries (state_of s b) ≡ rest (entries - 1) (state_of u b)
+  pub entry_goes : {x : Result State Stop} {u : State} → x ≡ enter_of entries s → x ≡ Ok u → whole entries (state_of s b) ≡ rest (entries - 1) (state_of u b)
   entry_goes {x} {u} h e = goes_at entries h
     where
       goes_at : (n : ℕ) → x ≡ enter_of n s → whole n (state_of s b) ≡ rest (n - 1) (state_of u b)
@@ -163,16 +162,16 @@ ready-paid r w = rw w.is (record { thing = r.thing; shown = r.shown; room = rw w
 -- ---- agreement
 
 module _ {A O : Type 0} {S : Shape A O} {n v : ℕ} {l l1 : List ℕ} {s : State} {b : Store} {q : m.Out A} where
-  pub on_done : {x : Ended O} {o : O} → Agrees S n v l l1 s b q x → x ≡ done o → Gave S n v l l1 s b q o
+  pub on_done : {x : Result O Stop} {o : O} → Agrees S n v l l1 s b q x → x ≡ Ok o → Gave S n v l l1 s b q o
   on_done {o = o} (gives p g) e = let z : p ≡ o = cc in rw z at g
   on_done (stops p g) e = let z : ◌≡◌ {A = ℕ} 0 1 = cc in absurd (omega arith)
 
-  pub on_refused : {x : Ended O} {f : Stop} → Agrees S n v l l1 s b q x → x ≡ refused f → q ≡ no (refusal_of f.refusal) (rivals_of f.rivals) f.left
+  pub on_refused : {x : Result O Stop} {f : Stop} → Agrees S n v l l1 s b q x → x ≡ Err f → q ≡ no (refusal_of f.refusal) (rivals_of f.rivals) f.left
   on_refused (gives p g) e = let z : ◌≡◌ {A = ℕ} 0 1 = cc in absurd (omega arith)
   on_refused {f = f} (stops p g) e = let z : p ≡ f = cc in rw z at g
 
 -- what agrees from s1 on agrees from s on
-pub since : {A O : Type 0} {S : Shape A O} {n k v w : ℕ} {l l1 l2 : List ℕ} {s s1 : State} {b : Store} {q q' : m.Out A} {x : Ended O} (j u : ℕ)
+pub since : {A O : Type 0} {S : Shape A O} {n k v w : ℕ} {l l1 l2 : List ℕ} {s s1 : State} {b : Store} {q q' : m.Out A} {x : Result O Stop} (j u : ℕ)
     → Later n v l l1 s s1 → j ≤ n + k → u ≤ v + w → q ≡ q' → Agrees S k w l1 l2 s1 b q' x → Agrees S j u l l2 s b q x
 since j u p h z e (gives o a) = gives o (record { value = a.value; is = e ∙ a.is; shown = a.shown; later = later_trans j u p a.later h z })
 since j u p h z e (stops f a) = stops f (e ∙ a)

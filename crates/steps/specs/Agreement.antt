@@ -1,5 +1,5 @@
 -- What a call of expand, parse or evaluate gives, against what the rules compute: over what is computed, and over how it is handed back.
-use Rattle.std.specs.Prelude.{◌≡◌, List, ℕ, ◌+◌, ◌≤◌}
+use Rattle.std.specs.Prelude.{◌≡◌, List, ℕ, ◌+◌, ◌≤◌, Result, Ok, Err}
 use Rattle.model.specs.Steps as m
 use Rattle.model.specs.Steps.{ok, no}
 use Rattle.refusals.specs.Refusing.{refusal_of}
@@ -8,8 +8,6 @@ use Rattle.table.specs.Words.{Same}
 use Rattle.steps.specs.declared.State.{State}
 use Rattle.steps.specs.declared.Stop.{Stop}
 use Rattle.steps.specs.declared.Out.{Out}
-use Rattle.steps.specs.declared.Answer.{Answer}
-use Rattle.steps.specs.declared.Answer.TheVariants.{Done, Refused}
 use Rattle.steps.specs.States.{Store, state_of, end, Room}
 
 -- From table l and state s to l' and s', with at least n units charged. At least `spare` words of those that the units charged pay for are
@@ -35,15 +33,6 @@ pub record Shape (A O : Type 0) : Type 1 where
 abbrev pub placed : {A : Type 0} → (List ℕ → ℕ → ℕ → A → Type 0) → Shape A Out
 placed Shows = record { shows = λ l o x. Shows l o.state.top o.at x; state = λ o. o.state }
 
--- an answer of the code, whatever its type calls the two cases
-pub data Ended (O : Type 0) : Type 0 where
-  done : O → Ended O
-  refused : Stop → Ended O
-
-abbrev pub ended : Answer → Ended Out
-ended (Done o) = done o
-ended (Refused f) = refused f
-
 -- q is what the rules compute, b what the store stands for afterwards
 pub record Gave {A O : Type 0} (S : Shape A O) (n spare : ℕ) (l l' : List ℕ) (s : State) (b : Store) (q : m.Out A) (o : O) : Type 0 where
   pub value : A
@@ -51,6 +40,6 @@ pub record Gave {A O : Type 0} (S : Shape A O) (n spare : ℕ) (l l' : List ℕ)
   pub shown : S.shows l' o value
   pub later : Later n spare l l' s (S.state o)
 
-pub data Agrees {A O : Type 0} (S : Shape A O) (n spare : ℕ) (l l' : List ℕ) (s : State) (b : Store) (q : m.Out A) : Ended O → Type 0 where
-  gives : (o : O) → Gave S n spare l l' s b q o → Agrees S n spare l l' s b q (done o)
-  stops : (f : Stop) → q ≡ no (refusal_of f.refusal) (rivals_of f.rivals) f.left → Agrees S n spare l l' s b q (refused f)
+pub data Agrees {A O : Type 0} (S : Shape A O) (n spare : ℕ) (l l' : List ℕ) (s : State) (b : Store) (q : m.Out A) : Result O Stop → Type 0 where
+  gives : (o : O) → Gave S n spare l l' s b q o → Agrees S n spare l l' s b q (Ok o)
+  stops : (f : Stop) → q ≡ no (refusal_of f.refusal) (rivals_of f.rivals) f.left → Agrees S n spare l l' s b q (Err f)

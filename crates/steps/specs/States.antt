@@ -1,5 +1,5 @@
 -- The code's state as the rules' state, and what the code's charges do to it.
-use Rattle.std.specs.Prelude.{List, [], ℕ, ◌+◌, ◌-◌, ◌*◌, ◌≤◌, length, eqb, ltb}
+use Rattle.std.specs.Prelude.{List, [], ℕ, ◌+◌, ◌-◌, ◌*◌, ◌≤◌, length, eqb, ltb, Result, Ok, Err}
 use Rattle.model.specs.Choice.{when◌then◌else◌}
 use Rattle.model.specs.Scopes.{Scopes, no_scopes}
 use Rattle.model.specs.Resolving.{Bind}
@@ -8,8 +8,6 @@ use Rattle.refusals.specs.declared.Refusal.{Refusal}
 use Rattle.refusals.specs.declared.Refusal.TheVariants.{Ambiguous, TooManyEntries, OverBudget}
 use Rattle.steps.specs.declared.State.{State}
 use Rattle.steps.specs.declared.Stop.{Stop}
-use Rattle.steps.specs.declared.Charged.{Charged}
-use Rattle.steps.specs.declared.Charged.TheVariants.{Paid, Refused}
 use Rattle.store.specs.declared.rivals.Rivals.{Rivals}
 use Rattle.store.specs.Sizes.{most_bindings, held_size}
 use Rattle.store.specs.Words.{binds_of, prunable_of, uses_of}
@@ -58,13 +56,13 @@ paid n s = record { top = s.top; left = s.left - n; names = s.names; scopes = s.
 abbrev pub raised_to : ℕ → State → State
 raised_to n s = record { top = n; left = s.left; names = s.names; scopes = s.scopes; bindings = s.bindings }
 
-unfoldable pub charge_of : ℕ → State → Charged
-charge_of n s = when ltb s.left n then Refused (stop_of OverBudget s) else Paid (paid n s)
+unfoldable pub charge_of : ℕ → State → Result State Stop
+charge_of n s = when ltb s.left n then Err (stop_of OverBudget s) else Ok (paid n s)
 
 -- with so many entries to spare
-unfoldable pub enter_of : ℕ → State → Charged
+unfoldable pub enter_of : ℕ → State → Result State Stop
 unfolding charge_of
-enter_of entries s = when eqb entries 0 then Refused (stop_of TooManyEntries s) else charge_of 1 s
+enter_of entries s = when eqb entries 0 then Err (stop_of TooManyEntries s) else charge_of 1 s
 
 -- the words that the state may still come to use end here: what is left of the budget pays for them
 abbrev pub end : State → ℕ

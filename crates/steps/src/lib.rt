@@ -2,7 +2,7 @@
 // starts.
 #![tactic(auto)]
 
-ghost use Rattle.std.specs.Prelude.{◌≡◌};
+ghost use Rattle.std.specs.Prelude.{◌≡◌, Err};
 ghost use Rattle.steps.specs.States.{stop_of, ambiguous_of, raised_to, charge_of, enter_of};
 
 use numbers::Cursor;
@@ -38,18 +38,6 @@ pub struct Out {
     pub state: State,
 }
 
-#[derive(Clone, Copy)]
-pub enum Answer {
-    Done(Out),
-    Refused(Stop),
-}
-
-#[derive(Clone, Copy)]
-pub enum Charged {
-    Paid(State),
-    Refused(Stop),
-}
-
 impl State {
     // Entries in progress.
     pub const MOST_ENTRIES: u32 = 128;
@@ -61,9 +49,7 @@ impl State {
     pub fn raised(self, top: u32) -> State
         ensures { result ≡ raised_to top self }
     {
-        let mut s = self;
-        s.top = top;
-        s
+        State { top, ..self }
     }
 
     // Refused here: what is left is not charged.
@@ -81,41 +67,43 @@ impl State {
         }
     }
 
-    pub fn refuse(self, refusal: Refusal) -> Answer
-        ensures { result ≡ Answer.Refused (stop_of refusal self) }
+    pub fn refuse(self, refusal: Refusal) -> Result<Out, Stop>
+        ensures { result ≡ Err (stop_of refusal self) }
     {
-        Answer::Refused(self.stop(refusal))
+        Err(self.stop(refusal))
     }
 
     // Code 6, with those that compete.
-    pub fn ambiguous(self, rivals: Rivals) -> Answer
-        ensures { result ≡ Answer.Refused (ambiguous_of rivals self) }
+    pub fn ambiguous(self, rivals: Rivals) -> Result<Out, Stop>
+        ensures { result ≡ Err (ambiguous_of rivals self) }
     {
-        Answer::Refused(Stop {
+        Err(Stop {
             refusal: Refusal::Ambiguous,
             rivals,
             left: self.left,
         })
     }
 
-    pub fn charge(self, n: u32) -> Charged
+    #[tactic(auto, unfolding(crate::specs::States::charge_of))]
+    pub fn charge(self, n: u32) -> Result<State, Stop>
         ensures { result ≡ charge_of n self }
     {
-        let left = self.left;
-        if left < n {
-            return Charged::Refused(self.stop(Refusal::OverBudget));
+        if self.left < n {
+            return Err(self.stop(Refusal::OverBudget));
         }
-        let mut s = self;
-        s.left = left - n;
-        Charged::Paid(s)
+        Ok(State {
+            left: self.left - n,
+            ..self
+        })
     }
 
     // Starts an entry with so many entries to spare.
-    pub fn enter(self, entries: u32) -> Charged
+    #[tactic(auto, unfolding(crate::specs::States::enter_of))]
+    pub fn enter(self, entries: u32) -> Result<State, Stop>
         ensures { result ≡ enter_of entries self }
     {
         if entries == 0 {
-            return Charged::Refused(self.stop(Refusal::TooManyEntries));
+            return Err(self.stop(Refusal::TooManyEntries));
         }
         self.charge(1)
     }
