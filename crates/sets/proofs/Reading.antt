@@ -6,26 +6,22 @@ use mathlib.Core.Bool.{Bool, true, false, ◌&&◌, true≢false}
 use native.Mathlib.Omega.{arith}
 use lib.ListN.{length, get_or, drop, length-drop}
 use lib.Seq.{drop-drop}
+use Rattle.std.specs.Prelude.{Result, Ok, Err}
 use lib.Dec.{eqb, ltb, leb}
 use borrow.Author.Tests.{eqb-true, lt-ltb, le-ltb, le-leb, lt-leb}
 use Rattle.model.specs.Refusals.{layout}
 use Rattle.model.specs.Scopes.{Scopes, add}
 use Rattle.model.specs.Objects.{Sets, no_sets}
-use Rattle.model.specs.Reading as m
-use Rattle.model.specs.Reading.{got, fault, next, need, byte, num, read_members, read_set, read_sets}
+use Rattle.model.specs.Reading.{Read, got, fault, next, need, byte, num, read_members, read_set, read_sets}
 use Rattle.scopes.specs.declared.Scope.{Scope}
 use Rattle.scopes.specs.Sets.{Declared, set_scopes}
 use Rattle.refusals.specs.declared.Refusal.{Refusal}
 use Rattle.refusals.specs.declared.Refusal.TheVariants.{Layout}
 use Rattle.numbers.specs.declared.Cursor.{Cursor}
-use Rattle.numbers.specs.declared.Number.{Number}
-use Rattle.numbers.specs.declared.Number.TheVariants.{Read, Fault}
-use Rattle.numbers.specs.declared.Place.{Place}
-use Rattle.numbers.specs.declared.Place.TheVariants as place
-use Rattle.numbers.specs.Answers.{number_at, place_at, Seen, seen, unseen, seen_at}
-use Rattle.sets.specs.Seeing.{read_later_sets, StartsEmpty}
+use Rattle.numbers.specs.Answers.{beside, read_at, place_at}
+use Rattle.sets.specs.Seeing.{StartsEmpty}
 use Rattle.numbers.proofs.Tails.{Tail, tail_give, tail_next, tail_need, num_tail}
-use Rattle.numbers.proofs.Answering.{Took, took, number_shape, goes, refuses, stops, seen-goes, seen-gives, seen-stops}
+use Rattle.numbers.proofs.Answering.{Took, took, read_shape, goes, gives, refuses, stops, err_same, ok_same, ok-err, row-rest}
 
 -- ---- what is left is a tail
 
@@ -37,15 +33,6 @@ members_tail (suc c) n p m s = tail_next _ (num_tail s) (λ k t. tail_next _ (ta
 pub set_tail : (n : ℕ) (s : List ℕ) → Tail s (read_set n s)
 unfolding read_set
 set_tail n s = tail_next _ (num_tail s) (λ c t. members_tail c n 0 0 t)
-
--- ---- a fault, beside no set
-
-pub no-set : {v : Scopes} {f : Refusal} → v ≡ 0 → record { value = v; end = place.Fault f } ≡ unseen 0 f
-no-set {f = f} e = ap (λ (v : Scopes). record { value = v; end = place.Fault f }) e
-
-pub no-sets : {v : Scopes} {f : Refusal} → v ≡ 0 → record { value = record { at0 = v; at1 = v; at2 = v }; end = place.Fault f } ≡ unseen no_sets f
-unfolding no_sets
-no-sets {f = f} e = ap (λ (v : Scopes). record { value = record { at0 = v; at1 = v; at2 = v }; end = place.Fault f }) e
 
 -- ---- members
 
@@ -64,17 +51,17 @@ pub record Members (at n : ℕ) (s : List ℕ) (count place left last : ℕ) (m 
   pub within : place ≤ at + length s
   pub is : read_members count n 0 0 s ≡ read_members left n last m (drop (place - at) s)
 
-pub members-start : {at n : ℕ} {s : List ℕ} {count : ℕ} {m : Scopes} → m ≡ 0 → Members at n s count at count 0 m
-members-start {at} e = let d : at - at ≡ 0 = omega arith in record { moved = omega arith; within = omega arith; is = rw (d, e) }
+pub members-start : {at n : ℕ} {s : List ℕ} {count left : ℕ} {m : Scopes} → left ≡ count → m ≡ 0 → Members at n s count at left 0 m
+members-start {at} l e = let d : at - at ≡ 0 = omega arith in record { moved = omega arith; within = omega arith; is = rw (d, e, l) }
 
 module _ {at n : ℕ} {s : List ℕ} {count place left last : ℕ} {m : Scopes} (w : Members at n s count place left last m) where
-  pub members-read : {c : Cursor} → place ≡ c.at → left ≤ 0 → seen m c ≡ seen_at 0 (at + length s) (read_members count n 0 0 s)
+  pub members-read : {c : Cursor} → place ≡ c.at → left ≤ 0 → Ok (m, c) ≡ read_at (at + length s) (read_members count n 0 0 s)
   unfolding read_members
   members-read {c} p h =
       let e : left ≡ 0 = omega arith in
       let l = length-drop (place - at) s in
       let q : at + length s - length (drop (place - at) s) ≡ c.at = omega (arith, w.moved, w.within) in
-      sym (ap (seen_at 0 (at + length s)) w.is ∙ rw (e, q))
+      sym (ap (read_at (at + length s)) w.is ∙ rw (e, q))
 
   module _ {u : List ℕ} (i : u ≡ drop (place - at) s) where
     ends : place + length u ≡ at + length s
@@ -83,45 +70,45 @@ module _ {at n : ℕ} {s : List ℕ} {count place left last : ℕ} {m : Scopes} 
     pub members-fit : {k : ℕ} → at + length s ≤ k → place + length u ≤ k
     members-fit h = let e = ends in omega arith
 
-    whole : {x : Seen Scopes} → x ≡ seen_at 0 (place + length u) (read_members left n last m u) → x ≡ seen_at 0 (at + length s) (read_members count n 0 0 s)
+    whole : {x : Result (Scopes × Cursor) Refusal} → x ≡ read_at (place + length u) (read_members left n last m u) → x ≡ read_at (at + length s) (read_members count n 0 0 s)
     whole a = rw (w.is, ← ends, ← i) a
 
-    module _ (some : 0 < left) {r : Number} (h : r ≡ number_at (place + length u) (num u)) where
+    module _ (some : 0 < left) {r : Result (ℕ × Cursor) Refusal} (h : r ≡ read_at (place + length u) (num u)) where
       more : read_members left n last m u ≡ next (num u) (λ k t. next (need layout (ltb last k && leb k n) t) (λ x. read_members (left - 1) n k (add k m)))
       more = members-more left n last m u (λ e. omega arith)
 
-      pub members_stop : {f : Refusal} {x : Seen Scopes} → r ≡ Fault f → x ≡ unseen 0 f → x ≡ seen_at 0 (at + length s) (read_members count n 0 0 s)
-      members_stop e j = whole (rw more (j ∙ stops number_shape seen (unseen 0) (place + length u) (num u) _ h e))
+      pub members_stop : {f : Refusal} → r ≡ Err f → Err f ≡ read_at (at + length s) (read_members count n 0 0 s)
+      members_stop e = whole (rw more (stops read_shape beside (place + length u) (num u) _ h e))
 
-      module _ {k : ℕ} {past : Cursor} (e : r ≡ Read k past) where
-        pub member_low : {x : Seen Scopes} → k ≤ last → x ≡ unseen 0 Layout → x ≡ seen_at 0 (at + length s) (read_members count n 0 0 s)
-        member_low l j = whole (rw more (j ∙ refuses number_shape seen (unseen 0) place (num u) _ h e (num_tail u) (λ v. rw (le-ltb last k l))))
+      module _ {k : ℕ} {past : Cursor} (e : r ≡ Ok (k, past)) where
+        pub member_low : k ≤ last → Err Layout ≡ read_at (at + length s) (read_members count n 0 0 s)
+        member_low l = whole (rw more (refuses read_shape beside place (num u) _ h e (num_tail u) (λ v. rw (le-ltb last k l))))
 
         module _ (low : last < k) where
-          pub member_over : {x : Seen Scopes} → n < k → x ≡ unseen 0 Layout → x ≡ seen_at 0 (at + length s) (read_members count n 0 0 s)
-          member_over l j = whole (rw more (j ∙ refuses number_shape seen (unseen 0) place (num u) _ h e (num_tail u) (λ v. rw (lt-ltb last k low, lt-leb k n l))))
+          pub member_over : n < k → Err Layout ≡ read_at (at + length s) (read_members count n 0 0 s)
+          member_over l = whole (rw more (refuses read_shape beside place (num u) _ h e (num_tail u) (λ v. rw (lt-ltb last k low, lt-leb k n l))))
 
-          pub member_more : {j : Scopes} → k ≤ n → j ≡ add k m → Members at n s count past.at (left - 1) k j
-          member_more {j} l d =
-              let T : Took place u (num u) k past.at = took number_shape h e (num_tail u) in
+          pub member_more : {j : Scopes} {fewer : ℕ} → fewer ≡ left - 1 → k ≤ n → j ≡ add k m → Members at n s count past.at fewer k j
+          member_more {j} o l d =
+              let T : Took place u (num u) k past.at = took read_shape h e (num_tail u) in
               let q : place - at + (past.at - place) ≡ past.at - at = omega (arith, T.moved, w.moved) in
               let v : drop (past.at - place) u ≡ drop (past.at - at) s = ap (drop (past.at - place)) i ∙ drop-drop (past.at - place) (place - at) s ∙ ap (λ (y : ℕ). drop y s) q in
               record {
                 moved = omega (arith, T.moved, w.moved);
                 within = let y = ends in omega (arith, T.within);
-                is = w.is ∙ rw (← i, more, T.is, lt-ltb last k low, le-leb k n l, d, v);
+                is = w.is ∙ rw (o, ← i, more, T.is, lt-ltb last k low, le-leb k n l, d, v);
               }
 
 -- ---- the set
 
-module _ (at n : ℕ) (s : List ℕ) {r : Number} (h : r ≡ number_at (at + length s) (num s)) where
-  pub set-stops : {f : Refusal} {x : Seen Scopes} → r ≡ Fault f → x ≡ unseen 0 f → x ≡ seen_at 0 (at + length s) (read_set n s)
+module _ (at n : ℕ) (s : List ℕ) {r : Result (ℕ × Cursor) Refusal} (h : r ≡ read_at (at + length s) (num s)) where
+  pub set-stops : {f : Refusal} → r ≡ Err f → Err f ≡ read_at (at + length s) (read_set n s)
   unfolding read_set
-  set-stops e i = i ∙ stops number_shape seen (unseen 0) (at + length s) (num s) _ h e
+  set-stops e = stops read_shape beside (at + length s) (num s) _ h e
 
-  pub set-goes : {k : ℕ} {past : Cursor} {u : List ℕ} {x : Seen Scopes} → r ≡ Read k past → u ≡ drop (past.at - at) s → x ≡ seen_at 0 (past.at + length u) (read_members k n 0 0 u) → x ≡ seen_at 0 (at + length s) (read_set n s)
+  pub set-goes : {k : ℕ} {past : Cursor} {u : List ℕ} {x : Result (Scopes × Cursor) Refusal} → r ≡ Ok (k, past) → u ≡ drop (past.at - at) s → x ≡ read_at (past.at + length u) (read_members k n 0 0 u) → x ≡ read_at (at + length s) (read_set n s)
   unfolding read_set
-  set-goes e i a = goes number_shape seen (unseen 0) at (num s) _ h e (num_tail s) i a
+  set-goes e i a = goes read_shape beside at (num s) _ h e (num_tail s) i a
 
 -- ---- three sets
 
@@ -129,33 +116,37 @@ pub sets_tail : (n : ℕ) (s : List ℕ) → Tail s (read_sets n s)
 unfolding read_sets
 sets_tail n s = tail_next _ (set_tail n s) (λ a t. tail_next _ (set_tail n t) (λ b u. tail_next _ (set_tail n u) (λ c v. tail_give (record { at0 = a; at1 = b; at2 = c }) v)))
 
-module _ (at n : ℕ) (s : List ℕ) {x : Seen Scopes} (h : x ≡ seen_at 0 (at + length s) (read_set n s)) where
-  pub first_stops : {f : Refusal} {y : Seen Sets} → x.end ≡ place.Fault f → y ≡ unseen no_sets f → y ≡ seen_at no_sets (at + length s) (read_sets n s)
+module _ (at n : ℕ) (s : List ℕ) {x : Result (Scopes × Cursor) Refusal} (h : x ≡ read_at (at + length s) (read_set n s)) where
+  pub first_stops : {f : Refusal} → x ≡ Err f → Err f ≡ read_at (at + length s) (read_sets n s)
   unfolding read_sets
-  first_stops e i = i ∙ seen-stops 0 seen (unseen no_sets) (at + length s) (read_set n s) _ h e
+  first_stops e = stops read_shape beside (at + length s) (read_set n s) _ h e
 
-  pub first_goes : {c : Cursor} {u : List ℕ} {y : Seen Sets} → x.end ≡ place.At c → u ≡ drop (c.at - at) s → y ≡ seen_at no_sets (c.at + length u) (read_later_sets n x.value u) → y ≡ seen_at no_sets (at + length s) (read_sets n s)
-  unfolding read_sets read_later_sets
-  first_goes e i a = seen-goes 0 at s (read_set n s) h e (set_tail n s) seen (unseen no_sets) _ i a
+  module _ {a : Scopes} {c : Cursor} (e : x ≡ Ok (a, c)) {u : List ℕ} (i : u ≡ drop (c.at - at) s) {y : Result (Scopes × Cursor) Refusal} (j : y ≡ read_at (c.at + length u) (read_set n u)) where
+    pub second-stops : {f : Refusal} → y ≡ Err f → Err f ≡ read_at (at + length s) (read_sets n s)
+    unfolding read_sets
+    second-stops k = goes read_shape beside at (read_set n s) _ h e (set_tail n s) i (stops read_shape beside (c.at + length u) (read_set n u) _ j k)
 
-  module _ (a : Scopes) where
-    pub second-stops : {f : Refusal} {y : Seen Sets} → x.end ≡ place.Fault f → y ≡ unseen no_sets f → y ≡ seen_at no_sets (at + length s) (read_later_sets n a s)
-    unfolding read_later_sets
-    second-stops e i = i ∙ seen-stops 0 seen (unseen no_sets) (at + length s) (read_set n s) _ h e
+    module _ {b : Scopes} {d : Cursor} (k : y ≡ Ok (b, d)) where
+      pub first : Took at s (read_set n s) a c.at
+      first = took read_shape h e (set_tail n s)
 
-    module _ {c : Cursor} {u : List ℕ} (e : x.end ≡ place.At c) (i : u ≡ drop (c.at - at) s) {x' : Seen Scopes} (h' : x' ≡ seen_at 0 (c.at + length u) (read_set n u)) where
-      pub third-stops : {f : Refusal} {y : Seen Sets} → x'.end ≡ place.Fault f → y ≡ unseen no_sets f → y ≡ seen_at no_sets (at + length s) (read_later_sets n a s)
-      unfolding read_later_sets
-      third-stops e' k = seen-goes 0 at s (read_set n s) h e (set_tail n s) seen (unseen no_sets) _ i (k ∙ seen-stops 0 seen (unseen no_sets) (c.at + length u) (read_set n u) _ h' e')
+      pub second : Took c.at u (read_set n u) b d.at
+      second = took read_shape j k (set_tail n u)
 
-pub sets-read : (at n : ℕ) (a : Scopes) (s : List ℕ) {b d : Scopes} {p q : Place} {c c' : Cursor} {u : List ℕ}
-    → record { value = b; end = p } ≡ seen_at 0 (at + length s) (read_set n s) → p ≡ place.At c → u ≡ drop (c.at - at) s
-    → record { value = d; end = q } ≡ seen_at 0 (c.at + length u) (read_set n u) → q ≡ place.At c'
-    → seen (record { at0 = a; at1 = b; at2 = d }) c' ≡ seen_at no_sets (at + length s) (read_later_sets n a s)
-unfolding read_later_sets
-sets-read at n a s {c = c} {u = u} h e i h' e' =
-    seen-goes 0 at s (read_set n s) h e (set_tail n s) seen (unseen no_sets) _ i
-    (seen-gives 0 c.at u (read_set n u) h' e' (set_tail n u) seen (unseen no_sets) _ (λ v. refl))
+      module _ {v : List ℕ} (l : v ≡ drop (d.at - at) s) {z : Result (Scopes × Cursor) Refusal} (m : z ≡ read_at (d.at + length v) (read_set n v)) where
+        behind : v ≡ drop (d.at - c.at) u
+        behind = row-rest first i second l
+
+        pub third-stops : {f : Refusal} → z ≡ Err f → Err f ≡ read_at (at + length s) (read_sets n s)
+        unfolding read_sets
+        third-stops o = goes read_shape beside at (read_set n s) _ h e (set_tail n s) i
+            (goes read_shape beside c.at (read_set n u) _ j k (set_tail n u) behind (stops read_shape beside (d.at + length v) (read_set n v) _ m o))
+
+        pub sets-read : {t : Scopes} {q : Cursor} → z ≡ Ok (t, q) → Ok (record { at0 = a; at1 = b; at2 = t }, q) ≡ read_at (at + length s) (read_sets n s)
+        unfolding read_sets
+        sets-read o = goes read_shape beside at (read_set n s) _ h e (set_tail n s) i
+            (goes read_shape beside c.at (read_set n u) _ j k (set_tail n u) behind
+            (gives read_shape beside d.at (read_set n v) _ m o (set_tail n v) (λ w. refl)))
 
 -- ---- three empty sets
 
@@ -169,7 +160,7 @@ empty-set : (n b : ℕ) (s : List ℕ) → b ≡ 0 → read_set n (b ∷ s) ≡ 
 unfolding read_set read_members num byte
 empty-set n b s e = rw (lt-ltb b 128 (omega arith), e)
 
-pub empty-sets : (at n : ℕ) (s : List ℕ) {v : Scopes} → StartsEmpty s → v ≡ 0 → seen (record { at0 = v; at1 = v; at2 = v }) (record { at = at + 3 }) ≡ seen_at no_sets (at + length s) (read_sets n s)
+pub empty-sets : (at n : ℕ) (s : List ℕ) {v : Scopes} → StartsEmpty s → v ≡ 0 → Ok (record { at0 = v; at1 = v; at2 = v }, record { at = at + 3 }) ≡ read_at (at + length s) (read_sets n s)
 unfolding read_sets no_sets
 empty-sets at n [] h e = absurd (omega (arith, h.long))
 empty-sets at n (a ∷ []) h e = absurd (omega (arith, h.long))
@@ -181,14 +172,22 @@ empty-sets at n (a ∷ b ∷ c ∷ s) h e =
 -- ---- the place past three sets
 
 module _ (at n : ℕ) (s : List ℕ) where
-  pub sets_skipped : {v : Sets} {p : Place} → record { value = v; end = p } ≡ seen_at no_sets (at + length s) (read_sets n s) → p ≡ place_at (at + length s) (read_sets n s)
-  sets_skipped h = ap (λ (x : Seen Sets). x.end) h ∙ go (read_sets n s)
-    where
-      go : (g : m.Read Sets) → (seen_at no_sets (at + length s) g).end ≡ place_at (at + length s) g
-      go (got v rest) = refl
-      go (fault r) = refl
+  module _ {x : Result (Sets × Cursor) Refusal} (h : x ≡ read_at (at + length s) (read_sets n s)) where
+    pub sets_skipped : {v : Sets} {p : Cursor} → x ≡ Ok (v, p) → Ok p ≡ place_at (at + length s) (read_sets n s)
+    sets_skipped {v} {p} e = go (read_sets n s) (sym e ∙ h)
+      where
+        go : (g : Read Sets) → Ok (v, p) ≡ read_at (at + length s) g → Ok p ≡ place_at (at + length s) g
+        go (got w rest) i = ap (λ (y : Cursor). Ok y) (ap (λ (y : Sets × Cursor). y.1) (ok_same i))
+        go (fault r) i = absurd (ok-err i)
 
-  pub empty_skipped : StartsEmpty s → place.At (record { at = at + 3 }) ≡ place_at (at + length s) (read_sets n s)
-  empty_skipped h = sets_skipped (empty-sets at n s h refl)
+    pub skipping-stops : {f : Refusal} → x ≡ Err f → Err f ≡ place_at (at + length s) (read_sets n s)
+    skipping-stops {f} e = go (read_sets n s) (sym e ∙ h)
+      where
+        go : (g : Read Sets) → Err f ≡ read_at (at + length s) g → Err f ≡ place_at (at + length s) g
+        go (got w rest) i = absurd (ok-err (sym i))
+        go (fault r) i = ap (λ (z : Refusal). Err z) (err_same i)
 
-pub ruleset set_laws = (sets_skipped, empty_skipped, not-empty, starts, empty-sets, no-set, no-sets, declared, set_tail, members-start, members-read, members-fit, members_stop, member_low, member_over, member_more, set-stops, set-goes, sets_tail, first_stops, first_goes, second-stops, third-stops, sets-read)
+  pub empty_skipped : StartsEmpty s → Ok (record { at = at + 3 }) ≡ place_at (at + length s) (read_sets n s)
+  empty_skipped h = sets_skipped (empty-sets at n s h refl) refl
+
+pub ruleset set_laws = (empty_skipped, not-empty, starts, empty-sets, declared, set_tail, members-start, members-read, members-fit, members_stop, member_low, member_over, member_more, set-stops, set-goes, sets_tail)

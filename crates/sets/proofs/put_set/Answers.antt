@@ -1,4 +1,4 @@
-use Rattle.std.proofs.Common.{rules, ◌-◌}
+use Rattle.std.proofs.Common.{rules}
 use Rattle.sets.proofs.put_set.Goals as goal
 use Rattle.sets.proofs.Writing.{set_writing}
 

@@ -1,12 +1,12 @@
-use Rattle.std.proofs.Common.{rules, ◌-◌}
+use Rattle.std.proofs.Common.{rules}
 use Rattle.sets.proofs.put_sets.Goals as goal
 use Rattle.sets.proofs.Writing.{set_writing}
 
-pub put_set-here0-requires : goal.put_set-here0-requires
-put_set-here0-requires c = search (set_writing, rules)
+pub put_set-second-requires : goal.put_set-second-requires
+put_set-second-requires c = search (set_writing, rules)
 
-pub put_set-here1-requires : goal.put_set-here1-requires
-put_set-here1-requires c = search (set_writing, rules)
+pub put_set-third-requires : goal.put_set-third-requires
+put_set-third-requires c = search (set_writing, rules)
 
 pub put_set-requires : goal.put_set-requires
 put_set-requires c = search (set_writing, rules)

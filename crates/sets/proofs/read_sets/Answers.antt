@@ -1,7 +1,5 @@
-use Rattle.std.proofs.Common.{rules, ◌-◌}
 use Rattle.sets.proofs.read_sets.Goals as goal
-use Rattle.numbers.proofs.Answering.{answering}
-use Rattle.sets.proofs.Reading.{set_laws}
+use Rattle.sets.proofs.Reading.{empty-sets}
 
 pub returns-then-starts_empty : goal.returns-then-starts_empty
-returns-then-starts_empty c = search (set_laws, answering, rules, c.starts_empty.ensures)
+returns-then-starts_empty c = empty-sets _ _ _ (c.starts_empty.ensures c.if-starts_empty.true) c.empty-none.ensures

@@ -1,4 +1,4 @@
-use Rattle.std.proofs.Common.{rules, ◌-◌}
+use Rattle.std.proofs.Common.{rules}
 use Rattle.sets.proofs.set_len.Goals as goal
 use native.Mathlib.Omega.{arith}
 use Rattle.numbers.proofs.Writing.{num-short}
