@@ -2,16 +2,17 @@
 use Prim.Native.Nat.{ℕ, zero, suc, ◌+◌, ◌-◌, ◌≤◌, ◌<◌}
 use mathlib.Core.Path.{◌≡◌, refl, sym, ap, ◌∙◌, subst}
 use mathlib.Core.List.{List, [], ◌∷◌, ◌++◌}
-use mathlib.Core.Bool.{Bool, true, false, not, ◌&&◌, ◌||◌}
+use mathlib.Core.Bool.{Bool, true, false, not, ◌||◌, or-false}
 use native.Mathlib.Omega.{arith}
 use native.Mathlib.Nat.{not-suc-le-zero}
 use native.Mathlib.Numerals.{add-one}
+use Rattle.std.specs.Prelude.{Result, Ok, Err}
 use lib.ListN.{length, take, drop, length-drop}
 use lib.Seq.{drop-drop}
 use lib.Dec.{eqb, leb}
 use mir.Syntax.{w64}
 use mir.Val.{Fits}
-use borrow.Author.Tests.{le-leb, lt-leb, leb-true, eq-eqb, ne_eqb}
+use borrow.Author.Tests.{le-leb, lt-leb, leb-true, eq-eqb, ne_eqb, not-true, not-false}
 use Rattle.model.specs.Limits.{most_names, core_names, most_word_length}
 use Rattle.model.specs.Refusals as m
 use Rattle.model.specs.Refusals.{layout, over_limit}
@@ -22,15 +23,11 @@ use Rattle.refusals.specs.declared.Refusal.TheVariants.{Layout, OverLimit}
 use Rattle.refusals.specs.Refusing.{refusal_of}
 use Rattle.refusals.proofs.Cases.{case_back}
 use Rattle.numbers.specs.declared.Cursor.{Cursor}
-use Rattle.numbers.specs.declared.Number.{Number}
-use Rattle.numbers.specs.declared.Number.TheVariants as number
-use Rattle.numbers.specs.declared.Place.{Place}
-use Rattle.numbers.specs.declared.Place.TheVariants as place
-use Rattle.numbers.specs.Answers.{answer_at, number_at, placed, place_at, kept}
+use Rattle.numbers.specs.Answers.{answer_at, beside, read_at, placed, place_at, kept}
 use Rattle.numbers.specs.Limits.{most_image}
 use Rattle.numbers.proofs.Tails.{Tail, tail_give, tail_next, tail_need, num_tail}
 use Rattle.numbers.proofs.Reading.{part-from}
-use Rattle.numbers.proofs.Answering.{number_shape, Took, took, refused, stops, gives, refuses}
+use Rattle.numbers.proofs.Answering.{read_shape, Took, took, refused, stops, gives, refuses}
 use Rattle.words.specs.Section.{most_words, word_length, may_stand, Passed, no_word, one_word, seen_after, Old, Stands, Midway, WordsRead}
 
 -- there are as many words as the model allows
@@ -46,24 +43,24 @@ length_tail s =
     tail_next _ (num_tail s) (λ k t. tail_next _ (tail_need layout (not (eqb k 0)) t) (λ x u.
     tail_next _ (tail_need over_limit (leb k most_word_length) u) (λ y v. tail_give k v)))
 
-module _ (at : ℕ) (s : List ℕ) {r : Number} (h : r ≡ number_at (at + length s) (num s)) where
-  pub length-stops : {f : Refusal} → r ≡ number.Fault f → number.Fault f ≡ number_at (at + length s) (word_length s)
+module _ (at : ℕ) (s : List ℕ) {r : Result (ℕ × Cursor) Refusal} (h : r ≡ read_at (at + length s) (num s)) where
+  pub length-stops : {f : Refusal} → r ≡ Err f → Err f ≡ read_at (at + length s) (word_length s)
   unfolding word_length
-  length-stops e = stops number_shape number.Read number.Fault (at + length s) (num s) _ h e
+  length-stops e = stops read_shape beside (at + length s) (num s) _ h e
 
-  module _ {n : ℕ} {past : Cursor} (e : r ≡ number.Read n past) where
-    pub length_none : n ≡ 0 → number.Fault Layout ≡ number_at (at + length s) (word_length s)
+  module _ {n : ℕ} {past : Cursor} (e : r ≡ Ok (n, past)) where
+    pub length_none : n ≡ 0 → Err Layout ≡ read_at (at + length s) (word_length s)
     unfolding word_length
-    length_none z = refuses number_shape number.Read number.Fault at (num s) _ h e (num_tail s) (λ u. rw (eq-eqb n 0 z))
+    length_none z = refuses read_shape beside at (num s) _ h e (num_tail s) (λ u. rw (eq-eqb n 0 z))
 
     module _ (some : n ≡ 0 → ⊥) where
-      pub length_over : 32 < n → number.Fault OverLimit ≡ number_at (at + length s) (word_length s)
+      pub length_over : 32 < n → Err OverLimit ≡ read_at (at + length s) (word_length s)
       unfolding word_length most_word_length
-      length_over l = refuses number_shape number.Read number.Fault at (num s) _ h e (num_tail s) (λ u. rw (ne_eqb n 0 some, lt-leb n 32 l))
+      length_over l = refuses read_shape beside at (num s) _ h e (num_tail s) (λ u. rw (ne_eqb n 0 some, lt-leb n 32 l))
 
-      pub length-is : n ≤ 32 → number.Read n past ≡ number_at (at + length s) (word_length s)
+      pub length-is : n ≤ 32 → Ok (n, past) ≡ read_at (at + length s) (word_length s)
       unfolding word_length most_word_length
-      length-is l = gives number_shape number.Read number.Fault at (num s) _ h e (num_tail s) (λ u. rw (ne_eqb n 0 some, le-leb n 32 l))
+      length-is l = gives read_shape beside at (num s) _ h e (num_tail s) (λ u. rw (ne_eqb n 0 some, le-leb n 32 l))
 
 -- it is at most 32, so that the end of the word can be computed
 most-kept : (g : Read ℕ) {n : ℕ} {u : List ℕ}
@@ -79,8 +76,6 @@ most-kept (got k v) {n} {u} e = go (eqb k 0) (leb k 32) refl e
 length_most : (s : List ℕ) {u : List ℕ} {n : ℕ} → word_length s ≡ got n u → n ≤ 32
 unfolding word_length most_word_length
 length_most s e = most-kept (num s) e
-
-pub ruleset length_laws = (length-stops, length_none, length_over, length-is)
 
 -- ---- the words passed
 
@@ -105,17 +100,17 @@ part : (from to : ℕ) (s : List ℕ) (n : ℕ) → to ≡ from + n → take (to
 part from to s n e = let d : to - from ≡ n = omega arith in ap (λ (k : ℕ). take k (drop from s)) d
 
 -- a word's length, read at a place
-module _ (s : List ℕ) (at : ℕ) (inside : at ≤ length s) {r : Number}
-    (h : r ≡ number_at (at + length (take (length s - at) (drop at s))) (word_length (take (length s - at) (drop at s)))) where
-  answered : r ≡ number_at (at + length (drop at s)) (word_length (drop at s))
-  answered = subst (λ (l : List ℕ). r ≡ number_at (at + length l) (word_length l)) (part-from at s) h
+module _ (s : List ℕ) (at : ℕ) (inside : at ≤ length s) {r : Result (ℕ × Cursor) Refusal}
+    (h : r ≡ read_at (at + length (take (length s - at) (drop at s))) (word_length (take (length s - at) (drop at s)))) where
+  answered : r ≡ read_at (at + length (drop at s)) (word_length (drop at s))
+  answered = subst (λ (l : List ℕ). r ≡ read_at (at + length l) (word_length l)) (part-from at s) h
 
-  not_there : {f : Refusal} → r ≡ number.Fault f → word_length (drop at s) ≡ fault (refusal_of f)
-  not_there e = refused number_shape (at + length (drop at s)) (word_length (drop at s)) answered e
+  not_there : {f : Refusal} → r ≡ Err f → word_length (drop at s) ≡ fault (refusal_of f)
+  not_there e = refused read_shape (at + length (drop at s)) (word_length (drop at s)) answered e
 
-  module _ {n : ℕ} {past : Cursor} (e : r ≡ number.Read n past) where
+  module _ {n : ℕ} {past : Cursor} (e : r ≡ Ok (n, past)) where
     T : Took at (drop at s) (word_length (drop at s)) n past.at
-    T = took number_shape answered e (length_tail (drop at s))
+    T = took read_shape answered e (length_tail (drop at s))
 
     there : word_length (drop at s) ≡ got n (drop past.at s)
     there =
@@ -144,19 +139,19 @@ pub record Seeking (s : List ℕ) (k : ℕ) (w : List ℕ) (at left : ℕ) : Typ
   pub within : at ≤ length s
   pub rest : (b : Bool) → Old (drop at s) left w b → Old s k w b
 
-pub seeking_start : {s : List ℕ} {k : ℕ} {w : List ℕ} → Seeking s k w 0 k
-seeking_start = record { within = omega arith; rest = λ b o. o }
+pub seeking_start : {s : List ℕ} {k left : ℕ} {w : List ℕ} → left ≡ k → Seeking s k w 0 left
+seeking_start {s} {k} {left} {w} e = record { within = omega arith; rest = λ b o. subst (λ (n : ℕ). Old s n w b) e o }
 
 module _ {s : List ℕ} {k : ℕ} {w : List ℕ} {at left : ℕ} (g : Seeking s k w at left) where
   pub old-none : left ≤ 0 → Old s k w false
   old-none e = g.rest false (record { means = λ ws rest p. none_passed w e p })
 
-  module _ (some : 0 < left) {r : Number}
-      (h : r ≡ number_at (at + length (take (length s - at) (drop at s))) (word_length (take (length s - at) (drop at s)))) where
-    pub old-fault : {f : Refusal} → r ≡ number.Fault f → Old s k w false
+  module _ (some : 0 < left) {r : Result (ℕ × Cursor) Refusal}
+      (h : r ≡ read_at (at + length (take (length s - at) (drop at s))) (word_length (take (length s - at) (drop at s)))) where
+    pub old-fault : {f : Refusal} → r ≡ Err f → Old s k w false
     old-fault e = g.rest false (record { means = λ ws rest p. absurd (never_passed some (not_there s at g.within h e) p) })
 
-    module _ {n : ℕ} {past : Cursor} (e : r ≡ number.Read n past) {to : ℕ} (ends : to ≡ past.at + n) where
+    module _ {n : ℕ} {past : Cursor} (e : r ≡ Ok (n, past)) {to : ℕ} (ends : to ≡ past.at + n) where
       first : {ws : List (List ℕ)} {rest : List ℕ} → Passed left ws (drop at s) rest → First left n ws (drop past.at s) rest
       first p = first_passed some (there s at g.within h e) p
 
@@ -173,19 +168,18 @@ module _ {s : List ℕ} {k : ℕ} {w : List ℕ} {at left : ℕ} (g : Seeking s 
         unfolding among
         old-here y = g.rest true (record { means = λ ws rest p. rw ((first p).is, same y) refl })
 
-        pub old-further : t ≡ false → to ≤ length s → Seeking s k w to (left - 1)
+        pub old-further : {next : ℕ} → next + 1 ≡ left → t ≡ false → to ≤ length s → Seeking s k w to next
         unfolding among
-        old-further y l = record {
+        old-further {next} c y l = record {
           within = l;
           rest = λ b o. g.rest b (record {
             means = λ ws rest p.
                 let F = first p in
                 let d : drop n (drop past.at s) ≡ drop to s = rw (drop-drop, ← ends) in
-                rw (F.is, same y) (o.means F.others rest (rw d at F.behind));
+                let n : left - 1 ≡ next = omega arith in
+                rw (F.is, same y) (o.means F.others rest (rw (n, d) at F.behind));
           });
         }
-
-pub ruleset old = (seeking_start, old-none, old-fault, old-short, old-here, old-further, end_fits)
 
 -- ---- whether a word may stand
 
@@ -206,20 +200,13 @@ module _ (w : List ℕ) where
       or_yes true = refl
       or_yes false = refl
 
-      pub stand_core : c ≡ true → Stands s k w false
+      pub stand_core : not c ≡ false → Stands s k w false
       unfolding may_stand
-      stand_core e = record { means = λ ws rest p. rw (sym hg ∙ good, among-seen ws core_words, sym hc ∙ e, or_yes (among w ws)) refl }
+      stand_core e = record { means = λ ws rest p. rw (sym hg ∙ good, among-seen ws core_words, sym hc ∙ not-false c e, or_yes (among w ws)) refl }
 
-      module _ (other : c ≡ false) {o : Bool} (ho : Old s k w o) where
-        pub stand_old : o ≡ true → Stands s k w false
-        unfolding may_stand
-        stand_old e = record { means = λ ws rest p. rw (sym hg ∙ good, among-seen ws core_words, sym (ho.means ws rest p) ∙ e) refl }
-
-        pub stand_new : o ≡ false → Stands s k w true
-        unfolding may_stand
-        stand_new e = record { means = λ ws rest p. rw (sym hg ∙ good, among-seen ws core_words, sym (ho.means ws rest p) ∙ e, sym hc ∙ other) refl }
-
-pub ruleset stand_laws = (stand_bad, stand_core, stand_old, stand_new)
+      pub stand-other : not c ≡ true → {o : Bool} → Old s k w o → Stands s k w (not o)
+      unfolding may_stand
+      stand-other e {o} ho = record { means = λ ws rest p. rw (sym hg ∙ good, among-seen ws core_words, sym (ho.means ws rest p), sym hc ∙ not-true c e, or-false o) refl }
 
 -- ---- the definition, a word at a time
 
@@ -301,31 +288,34 @@ seen_more (v ∷ ws) seen w = seen_more ws (v ∷ seen) w
 -- `passed` words lie before `here` and `ahead` are to come: with those read, all are
 pub record Reading (s : List ℕ) (start at done left here passed ahead : ℕ) : Type 0 where
   pub midway : Midway s start here passed ahead
-  pub rest : (r : Place) → WordsRead s start here passed ahead r → WordsRead s start at done left r
+  pub rest : (r : Result Cursor Refusal) → WordsRead s start here passed ahead r → WordsRead s start at done left r
 
-pub reading_start : {s : List ℕ} {start at done left : ℕ} → Midway s start at done left → Reading s start at done left at done left
-reading_start m = record { midway = m; rest = λ r w. w }
+pub reading_start : {s : List ℕ} {start at done left ahead : ℕ} → Midway s start at done left → ahead ≡ left → Reading s start at done left at done ahead
+reading_start {s} {start} {at} {done} {left} m e = record {
+  midway = subst (λ (n : ℕ). Midway s start at done n) (sym e) m;
+  rest = λ r w. subst (λ (n : ℕ). WordsRead s start at done n r) e w;
+}
 
 module _ {s : List ℕ} {start at done left here passed ahead : ℕ} (g : Reading s start at done left here passed ahead) where
-  pub words-none : ahead ≤ 0 → WordsRead s start at done left (place.At (record { at = here }))
+  pub words-none : ahead ≤ 0 → WordsRead s start at done left (Ok (record { at = here }))
   unfolding read_words
   words-none e =
       let z : ahead ≡ 0 = omega arith in
       let d : length s - length (drop here s) ≡ here = rw length-drop (omega (arith, g.midway.within)) in
       g.rest _ (record { means = λ ws p. rw (z, d) refl })
 
-  module _ (some : 0 < ahead) {r : Number}
-      (h : r ≡ number_at (here + length (take (length s - here) (drop here s))) (word_length (take (length s - here) (drop here s)))) where
-    pub section-fault : {f : Refusal} → r ≡ number.Fault f → WordsRead s start at done left (place.Fault f)
-    section-fault {f} e =
+  module _ (some : 0 < ahead) {r : Result (ℕ × Cursor) Refusal}
+      (h : r ≡ read_at (here + length (take (length s - here) (drop here s))) (word_length (take (length s - here) (drop here s)))) where
+    pub section-fault : {f : Refusal} {x : Result Cursor Refusal} → r ≡ Err f → x ≡ Err f → WordsRead s start at done left x
+    section-fault {f} {x} e y =
         let d : word_length (drop here s) ≡ fault (refusal_of f) = not_there s here g.midway.within h e in
-        g.rest _ (record { means = λ ws p. rw (words-fault ahead (seen_after ws core_words) (drop here s) some d) (ap place.Fault (sym (case_back f))) })
+        rw y (g.rest _ (record { means = λ ws p. rw (words-fault ahead (seen_after ws core_words) (drop here s) some d) (ap (λ (k : Refusal). Err k) (sym (case_back f))) }))
 
-    module _ {n : ℕ} {past : Cursor} (e : r ≡ number.Read n past) {to : ℕ} (ends : to ≡ past.at + n) where
+    module _ {n : ℕ} {past : Cursor} (e : r ≡ Ok (n, past)) {to : ℕ} (ends : to ≡ past.at + n) where
       length-here : word_length (drop here s) ≡ got n (drop past.at s)
       length-here = there s here g.midway.within h e
 
-      pub section-short : length s < to → WordsRead s start at done left (place.Fault Layout)
+      pub section-short : length s < to → WordsRead s start at done left (Err Layout)
       section-short l =
           let k : length (drop past.at s) < n = omega (arith, length-drop past.at s, within s here g.midway.within h e) in
           g.rest _ (record { means = λ ws p. rw (words-short ahead (seen_after ws core_words) (drop here s) some length-here k) refl })
@@ -340,10 +330,10 @@ module _ {s : List ℕ} {start at done left here passed ahead : ℕ} (g : Readin
             hb.means ws (drop here s) (subst (λ (l : List ℕ). Passed passed ws l (drop here s)) (sym (part-from start s)) p)
             ∙ ap (λ (w : List ℕ). may_stand w (seen_after ws core_words)) (part past.at to s n ends)
 
-        pub section-bad : b ≡ false → WordsRead s start at done left (place.Fault Layout)
+        pub section-bad : b ≡ false → WordsRead s start at done left (Err Layout)
         section-bad e' = g.rest _ (record { means = λ ws p. rw (words-bad ahead (seen_after ws core_words) (drop here s) some length-here long (sym (judged ws p) ∙ e')) refl })
 
-        goes_on : {x : Place} → b ≡ true → WordsRead s start to (passed + 1) (ahead - 1) x → WordsRead s start here passed ahead x
+        goes_on : {x : Result Cursor Refusal} → b ≡ true → WordsRead s start to (passed + 1) (ahead - 1) x → WordsRead s start here passed ahead x
         goes_on {x} e' w = record {
           means = λ ws p.
               let rest : drop n (drop past.at s) ≡ drop to s = rw (drop-drop, ← ends) in
@@ -353,15 +343,14 @@ module _ {s : List ℕ} {start at done left here passed ahead : ℕ} (g : Readin
               a
               ∙ ap (λ (seen : List (List ℕ)). place_at (length s) (read_words (ahead - 1) seen (drop to s))) (seen_more ws core_words (take n (drop past.at s)))
               ∙ ap (λ (l : List ℕ). place_at (length s) (read_words (ahead - 1) (take n (drop past.at s) ∷ seen_after ws core_words) l)) (sym rest)
-              ∙ sym (ap (λ (q : Read (Unit {0})). answer_at placed place.Fault (length s) q) d);
+              ∙ sym (ap (λ (q : Read (Unit {0})). answer_at placed (length s) q) d);
         }
 
-        pub section-good : b ≡ true → Reading s start at done left to (passed + 1) (ahead - 1)
-        section-good e' =
+        pub section-good : {next : ℕ} → next + 1 ≡ ahead → b ≡ true → Reading s start at done left to (passed + 1) next
+        section-good {next} c e' =
             let m = g.midway in
+            let n : next ≡ ahead - 1 = omega arith in
             record {
               midway = record { small = m.small; begins = m.begins; within = fits; most = omega arith };
-              rest = λ r w. g.rest r (goes_on e' w);
+              rest = λ r w. g.rest r (goes_on e' (subst (λ (k : ℕ). WordsRead s start to (passed + 1) k r) n w));
             }
-
-pub ruleset section = (reading_start, words-none, section-fault, section-short, section-bad, section-good, end_fits)

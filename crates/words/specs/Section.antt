@@ -1,9 +1,10 @@
 -- The word section of an image, of which the words already passed are looked up in its bytes.
-use Rattle.std.specs.Prelude.{ℕ, zero, suc, ◌+◌, ◌≤◌, ◌≡◌, List, [], ◌∷◌, Bool, not, ◌&&◌, length, take, drop, eqb, leb}
+use Rattle.std.specs.Prelude.{ℕ, suc, ◌+◌, ◌≤◌, ◌≡◌, List, [], ◌∷◌, Bool, not, ◌&&◌, length, take, drop, eqb, leb, Result}
 use Rattle.model.specs.Limits.{most_word_length}
 use Rattle.model.specs.Refusals.{layout, over_limit}
 use Rattle.model.specs.Reading.{Reader, ◌>>=◌, ◌>>◌, give, need, got, num, good_word, among, core_words, read_words}
-use Rattle.numbers.specs.declared.Place.{Place}
+use Rattle.refusals.specs.declared.Refusal.{Refusal}
+use Rattle.numbers.specs.declared.Cursor.{Cursor}
 use Rattle.numbers.specs.Answers.{place_at}
 use Rattle.numbers.specs.Limits.{most_image}
 
@@ -51,5 +52,5 @@ pub record Midway (s : List ℕ) (start at done left : ℕ) : Type 0 where
   pub within : at ≤ length s
   pub most : done + left ≤ most_words
 
-pub record WordsRead (s : List ℕ) (start at done left : ℕ) (r : Place) : Type 0 where
+pub record WordsRead (s : List ℕ) (start at done left : ℕ) (r : Result Cursor Refusal) : Type 0 where
   pub means : (ws : List (List ℕ)) → Passed done ws (drop start s) (drop at s) → r ≡ place_at (length s) (read_words left (seen_after ws core_words) (drop at s))

@@ -1,27 +1,12 @@
-use Rattle.std.proofs.Common.{rules, ◌-◌}
+use Rattle.std.proofs.Common.{arith}
+use Rattle.std.proofs.lemmas.Bool.Decides.{nat_tests}
+use Rattle.model.specs.Reading.{word_byte}
 use Rattle.words.proofs.word_byte.Goals as goal
-use Rattle.words.proofs.Bytes.{byte_laws}
 
-pub returns-then-b-lt33 : goal.returns-then-b-lt33
-returns-then-b-lt33 c = search (byte_laws, rules)
+pub returns-after-matches : goal.returns-after-matches
+unfolding word_byte
+returns-after-matches c = grind (arith, nat_tests)
 
-pub returns-then-b-gt126 : goal.returns-then-b-gt126
-returns-then-b-gt126 c = search (byte_laws, rules)
-
-pub returns-then-b-eq40 : goal.returns-then-b-eq40
-returns-then-b-eq40 c = search (byte_laws, rules)
-
-pub returns-then-b-eq41 : goal.returns-then-b-eq41
-returns-then-b-eq41 c = search (byte_laws, rules)
-
-pub returns-then-b-eq59 : goal.returns-then-b-eq59
-returns-then-b-eq59 c = search (byte_laws, rules)
-
-pub returns-then-b-eq39 : goal.returns-then-b-eq39
-returns-then-b-eq39 c = search (byte_laws, rules)
-
-pub returns-then-b-eq35 : goal.returns-then-b-eq35
-returns-then-b-eq35 c = search (byte_laws, rules)
-
-pub returns : goal.returns
-returns c = search (byte_laws, rules)
+pub returns-else-matches : goal.returns-else-matches
+unfolding word_byte
+returns-else-matches c = grind (arith, nat_tests)
