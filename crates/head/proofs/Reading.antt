@@ -1,6 +1,8 @@
 -- Reading a head, by the tests that the code makes.
+use Rattle.std.specs.Prelude.{Result, Ok, Err}
 use Prim.Native.Nat.{ℕ, zero, suc, ◌+◌, ◌-◌, ◌≤◌, ◌<◌}
 use mathlib.Core.Path.{◌≡◌, refl, sym, ap, ◌∙◌, subst}
+use mathlib.Core.Logic.{◌⊎◌, inl, inr}
 use mathlib.Core.List.{List, [], ◌∷◌}
 use mathlib.Core.Bool.{Bool, true, false, not, ◌||◌, ◌&&◌}
 use native.Mathlib.Omega.{arith}
@@ -14,27 +16,20 @@ use borrow.Author.Tests.{eq-eqb, ne_eqb, leb-true}
 use Rattle.model.specs.Limits.{most_names, core_names, most_scopes, most_word_length}
 use Rattle.model.specs.Refusals as r
 use Rattle.model.specs.Refusals.{layout, over_limit, wrong_kind}
-use Rattle.model.specs.Reading as m
 use Rattle.model.specs.Reading.{Read, Reader, got, fault, next, need, byte, bytes, num, num_up_to, read_words, core_words, good_word, among, read_head}
 use Rattle.refusals.specs.declared.Refusal.{Refusal}
-use Rattle.refusals.specs.declared.Refusal.TheVariants.{Layout, OverLimit, WrongKind}
+use Rattle.refusals.specs.declared.Refusal.TheVariants.{Layout, WrongKind}
 use Rattle.refusals.specs.Refusing.{refusal_of, case_of}
 use Rattle.refusals.proofs.Cases.{case_back, refusal_back}
 use Rattle.numbers.specs.declared.Cursor.{Cursor}
-use Rattle.numbers.specs.declared.Number.{Number}
-use Rattle.numbers.specs.declared.Number.TheVariants as number
-use Rattle.numbers.specs.declared.Place.{Place}
-use Rattle.numbers.specs.declared.Place.TheVariants as place
-use Rattle.numbers.specs.Answers.{answer_at, number_at, placed, place_at, kept}
-use Rattle.numbers.proofs.Tails.{Behind, behind-one, behind_trans, Tail, tail_got, tail_fault, tail_give, tail_next, tail_need, num_tail, up_to_tail}
-use Rattle.numbers.proofs.Answering.{number_shape, place_shape, Took, took, refused, stops, gives, refuses}
+use Rattle.numbers.specs.Answers.{answer_at, read_at, placed, place_at, kept}
+use Rattle.numbers.proofs.Tails.{behind-one, behind_trans, Tail, tail_got, tail_fault, tail_give, tail_next, tail_need, num_tail, up_to_tail}
+use Rattle.numbers.proofs.Answering.{read_shape, place_shape, Took, took, refused, stops, gives, refuses}
 use Rattle.codec_laws.proofs.Sequence.{next-got}
 use Rattle.codec_laws.proofs.NumberTrip.{got-value}
 use Rattle.words.specs.Section.{no_word, seen_after, Midway, WordsRead}
 use Rattle.head.specs.declared.Head.{Head}
-use Rattle.head.specs.declared.HeadRead.{HeadRead}
-use Rattle.head.specs.declared.HeadRead.TheVariants as hd
-use Rattle.head.specs.Heads.{read_kind, read_counts, read_after_kind, head_of, head_at, CountsRead}
+use Rattle.head.specs.Heads.{read_kind, read_counts, read_after_kind, head_at, CountsRead}
 
 -- ---- the kind
 
@@ -48,27 +43,31 @@ pub kept_unit : (g : Read (Unit {0})) → kept (λ a. tt {0}) g ≡ g
 kept_unit (got tt s) = refl
 kept_unit (fault r) = refl
 
-module _ (s : List ℕ) (kind : ℕ) {q : Number} (h : q ≡ number_at (0 + length s) (num s)) where
+module _ (s : List ℕ) (kind : ℕ) {q : Result (ℕ × Cursor) Refusal} (h : q ≡ read_at (0 + length s) (num s)) where
   zero-end : 0 + length s ≡ length s
   zero-end = omega arith
 
-  placed_at : {x : Place} → x ≡ answer_at placed place.Fault (0 + length s) (read_kind kind s) → x ≡ place_at (length s) (read_kind kind s)
-  placed_at e = e ∙ ap (λ (n : ℕ). answer_at placed place.Fault n (read_kind kind s)) zero-end ∙ ap (answer_at placed place.Fault (length s)) (sym (kept_unit (read_kind kind s)))
+  placed_at : {x : Result Cursor Refusal} → x ≡ answer_at placed (0 + length s) (read_kind kind s) → x ≡ place_at (length s) (read_kind kind s)
+  placed_at e = e ∙ ap (λ (n : ℕ). answer_at placed n (read_kind kind s)) zero-end ∙ ap (answer_at placed (length s)) (sym (kept_unit (read_kind kind s)))
 
-  pub kind-stops : {f : Refusal} → q ≡ number.Fault f → place.Fault f ≡ place_at (length s) (read_kind kind s)
+  pub kind-stops : {f : Refusal} → q ≡ Err f → Err f ≡ place_at (length s) (read_kind kind s)
   unfolding read_kind
-  kind-stops e = placed_at (stops number_shape placed place.Fault (0 + length s) (num s) _ h e)
+  kind-stops e = placed_at (stops read_shape placed (0 + length s) (num s) _ h e)
 
-  module _ {k : ℕ} {past : Cursor} (e : q ≡ number.Read k past) where
-    unknown : eqb k 1 ≡ false → eqb k 2 ≡ false → place.Fault Layout ≡ place_at (length s) (read_kind kind s)
+  module _ {k : ℕ} {past : Cursor} (e : q ≡ Ok (k, past)) where
+    unknown : eqb k 1 ≡ false → eqb k 2 ≡ false → Err Layout ≡ place_at (length s) (read_kind kind s)
     unfolding read_kind
-    unknown a b = placed_at (refuses number_shape placed place.Fault 0 (num s) _ h e (num_tail s) (λ u. rw (a, b)))
+    unknown a b = placed_at (refuses read_shape placed 0 (num s) _ h e (num_tail s) (λ u. rw (a, b)))
 
-    pub kind-zero : k ≡ 0 → place.Fault Layout ≡ place_at (length s) (read_kind kind s)
+    kind-zero : k ≡ 0 → Err Layout ≡ place_at (length s) (read_kind kind s)
     kind-zero z = unknown (ne_eqb k 1 (λ i. omega arith)) (ne_eqb k 2 (λ i. omega arith))
 
-    pub kind-over : 2 < k → place.Fault Layout ≡ place_at (length s) (read_kind kind s)
+    kind-over : 2 < k → Err Layout ≡ place_at (length s) (read_kind kind s)
     kind-over z = unknown (ne_eqb k 1 (λ i. omega arith)) (ne_eqb k 2 (λ i. omega arith))
+
+    pub kind-unknown : (k ≡ 0) ⊎ ((k ≡ 0 → ⊥) × (2 < k)) → Err Layout ≡ place_at (length s) (read_kind kind s)
+    kind-unknown (inl z) = kind-zero z
+    kind-unknown (inr z) = kind-over z.1
 
     module _ (some : k ≡ 0 → ⊥) (known : k ≤ 2) where
       one_or_two : (eqb k 1 || eqb k 2) ≡ true
@@ -81,15 +80,13 @@ module _ (s : List ℕ) (kind : ℕ) {q : Number} (h : q ≡ number_at (0 + leng
               eqb_no : (a b : ℕ) → eqb a b ≡ false → a ≡ b → ⊥
               eqb_no a b i j = let z : true ≡ false = sym (eq-eqb a b j) ∙ i in let y : ◌≡◌ {A = ℕ} 0 1 = cc in omega arith
 
-      pub kind-wrong : (k ≡ kind → ⊥) → place.Fault WrongKind ≡ place_at (length s) (read_kind kind s)
+      pub kind-wrong : (k ≡ kind → ⊥) → Err WrongKind ≡ place_at (length s) (read_kind kind s)
       unfolding read_kind
-      kind-wrong n = placed_at (refuses number_shape placed place.Fault 0 (num s) _ h e (num_tail s) (λ u. rw (one_or_two, ne_eqb k kind n)))
+      kind-wrong n = placed_at (refuses read_shape placed 0 (num s) _ h e (num_tail s) (λ u. rw (one_or_two, ne_eqb k kind n)))
 
-      pub kind_right : k ≡ kind → place.At past ≡ place_at (length s) (read_kind kind s)
+      pub kind_right : k ≡ kind → Ok past ≡ place_at (length s) (read_kind kind s)
       unfolding read_kind
-      kind_right n = placed_at (gives number_shape placed place.Fault 0 (num s) _ h e (num_tail s) {l = tt} (λ u. rw (one_or_two, eq-eqb k kind n)))
-
-pub ruleset kind_laws = (kind-stops, kind-zero, kind-over, kind-wrong, kind_right)
+      kind_right n = placed_at (gives read_shape placed 0 (num s) _ h e (num_tail s) {l = tt} (λ u. rw (one_or_two, eq-eqb k kind n)))
 
 -- ---- something read at the place `at` of the image s, through the image from there on
 
@@ -100,17 +97,17 @@ pub record Here {K : Type 0} (s : List ℕ) (at : ℕ) (g : Reader K) (k : K) (p
   pub reads : g (drop at s) ≡ got k (drop past s)
   pub within : past ≤ length s
 
-module _ (s : List ℕ) (at : ℕ) (inside : at ≤ length s) (g : Reader ℕ) {q : Number}
-    (h : q ≡ number_at (at + length (take (length s - at) (drop at s))) (g (take (length s - at) (drop at s)))) where
-  h' : q ≡ number_at (at + length (drop at s)) (g (drop at s))
-  h' = subst (λ (l : List ℕ). q ≡ number_at (at + length l) (g l)) (whole s at) h
+module _ (s : List ℕ) (at : ℕ) (inside : at ≤ length s) (g : Reader ℕ) {q : Result (ℕ × Cursor) Refusal}
+    (h : q ≡ read_at (at + length (take (length s - at) (drop at s))) (g (take (length s - at) (drop at s)))) where
+  h' : q ≡ read_at (at + length (drop at s)) (g (drop at s))
+  h' = subst (λ (l : List ℕ). q ≡ read_at (at + length l) (g l)) (whole s at) h
 
-  pub here-fault : {f : Refusal} → q ≡ number.Fault f → g (drop at s) ≡ fault (refusal_of f)
-  here-fault e = refused number_shape (at + length (drop at s)) (g (drop at s)) h' e
+  pub here-fault : {f : Refusal} → q ≡ Err f → g (drop at s) ≡ fault (refusal_of f)
+  here-fault e = refused read_shape (at + length (drop at s)) (g (drop at s)) h' e
 
-  pub here : {k : ℕ} {past : Cursor} → q ≡ number.Read k past → Tail (drop at s) (g (drop at s)) → Here s at g k past.at
+  pub here : {k : ℕ} {past : Cursor} → q ≡ Ok (k, past) → Tail (drop at s) (g (drop at s)) → Here s at g k past.at
   here {k} {past} e t =
-      let T : Took at (drop at s) (g (drop at s)) k past.at = took number_shape h' e t in
+      let T : Took at (drop at s) (g (drop at s)) k past.at = took read_shape h' e t in
       let d : at + (past.at - at) ≡ past.at = omega (arith, T.moved) in
       let l = length-drop at s in
       record { reads = T.is ∙ ap (got k) (drop-drop (past.at - at) at s ∙ ap (λ (j : ℕ). drop j s) d); within = omega (arith, T.within) }
@@ -133,15 +130,15 @@ at_most c m k u v e = go (num u) e
 
 -- ---- the counts
 
-module _ (s : List ℕ) (at words : ℕ) (inside : at ≤ length s) {q : Number}
-    (h : q ≡ number_at (at + length (take (length s - at) (drop at s))) (num_up_to over_limit (1020 - words) (take (length s - at) (drop at s)))) where
-  pub made-stops : {f : Refusal} → q ≡ number.Fault f → CountsRead s at words (hd.Fault f)
+module _ (s : List ℕ) (at words : ℕ) (inside : at ≤ length s) {q : Result (ℕ × Cursor) Refusal}
+    (h : q ≡ read_at (at + length (take (length s - at) (drop at s))) (num_up_to over_limit (1020 - words) (take (length s - at) (drop at s)))) where
+  pub made-stops : {f : Refusal} {x : Result (Head × Cursor) Refusal} → q ≡ Err f → x ≡ Err f → CountsRead s at words x
   unfolding read_counts most_names core_names
-  made-stops {f} e =
+  made-stops {f} {x} e y =
       let g = here-fault s at inside (num_up_to over_limit (1020 - words)) h e in
-      record { means = λ ws n. rw g (ap hd.Fault (sym (case_back f))) }
+      record { means = λ ws n. y ∙ rw g (ap (λ (k : Refusal). Err k) (sym (case_back f))) }
 
-  module _ {made : ℕ} {past : Cursor} (e : q ≡ number.Read made past) where
+  module _ {made : ℕ} {past : Cursor} (e : q ≡ Ok (made, past)) where
     H : Here s at (num_up_to over_limit (1020 - words)) made past.at
     H = here s at inside (num_up_to over_limit (1020 - words)) h e (up_to_tail over_limit (1020 - words) (drop at s))
 
@@ -154,14 +151,14 @@ module _ (s : List ℕ) (at words : ℕ) (inside : at ≤ length s) {q : Number}
     pub made-few : words ≤ 1020 → Fits w32 (4 + words + made)
     made-few l = omega (arith, at_most over_limit (1020 - words) made (drop at s) (drop past.at s) H.reads)
 
-    module _ {p : Number} (h₂ : p ≡ number_at (past.at + length (take (length s - past.at) (drop past.at s))) (num_up_to over_limit 256 (take (length s - past.at) (drop past.at s)))) where
-      pub scopes_stop : {f : Refusal} → p ≡ number.Fault f → CountsRead s at words (hd.Fault f)
+    module _ {p : Result (ℕ × Cursor) Refusal} (h₂ : p ≡ read_at (past.at + length (take (length s - past.at) (drop past.at s))) (num_up_to over_limit 256 (take (length s - past.at) (drop past.at s)))) where
+      pub scopes_stop : {f : Refusal} {x : Result (Head × Cursor) Refusal} → p ≡ Err f → x ≡ Err f → CountsRead s at words x
       unfolding read_counts most_names core_names most_scopes
-      scopes_stop {f} e₂ =
+      scopes_stop {f} {x} e₂ y =
           let g = here-fault s past.at made-within (num_up_to over_limit 256) h₂ e₂ in
-          record { means = λ ws n. rw (H.reads, g) (ap hd.Fault (sym (case_back f))) }
+          record { means = λ ws n. y ∙ rw (H.reads, g) (ap (λ (k : Refusal). Err k) (sym (case_back f))) }
 
-      pub counts-read : {scopes : ℕ} {end : Cursor} → p ≡ number.Read scopes end → CountsRead s at words (hd.Read (record { words = words; names = 4 + words + made; scopes = scopes }) end)
+      pub counts-read : {scopes : ℕ} {end : Cursor} → p ≡ Ok (scopes, end) → CountsRead s at words (Ok ((record { words = words; names = 4 + words + made; scopes = scopes }), end))
       unfolding read_counts most_names core_names most_scopes
       counts-read {scopes} {end} e₂ =
           let G = here s past.at made-within (num_up_to over_limit 256) h₂ e₂ (up_to_tail over_limit 256 (drop past.at s)) in
@@ -169,8 +166,6 @@ module _ (s : List ℕ) (at words : ℕ) (inside : at ≤ length s) {q : Number}
             means = λ ws n.
                 rw (H.reads, G.reads, n, end-here s end G.within) refl;
           }
-
-pub ruleset counts_laws = (made-stops, made-within, made-fits, made-few, scopes_stop, counts-read)
 
 -- ---- the words
 
@@ -207,15 +202,15 @@ words_count (suc n) seen ws s rest e =
     let g = next-got (read_words n (d.0 ∷ seen) f.1) _ ws rest f.3 in
     sym (ap length (got-value (d.0 ∷ g.0) ws g.1 rest g.3)) ∙ ap suc (words_count n (d.0 ∷ seen) g.0 f.1 g.1 g.2)
 
-module _ (s : List ℕ) (start n : ℕ) (inside : start ≤ length s) {p : Place} (w : WordsRead s start start 0 n p) where
+module _ (s : List ℕ) (start n : ℕ) (inside : start ≤ length s) {p : Result Cursor Refusal} (w : WordsRead s start start 0 n p) where
   first-words : p ≡ place_at (length s) (read_words n core_words (drop start s))
   unfolding seen_after
   first-words = w.means [] no_word
 
-  words-fault : {f : Refusal} → p ≡ place.Fault f → read_words n core_words (drop start s) ≡ fault (refusal_of f)
+  words-fault : {f : Refusal} → p ≡ Err f → read_words n core_words (drop start s) ≡ fault (refusal_of f)
   words-fault {f} e = go (read_words n core_words (drop start s)) (sym e ∙ first-words)
     where
-      go : (g : Read (List (List ℕ))) → place.Fault f ≡ place_at (length s) g → g ≡ fault (refusal_of f)
+      go : (g : Read (List (List ℕ))) → Err f ≡ place_at (length s) g → g ≡ fault (refusal_of f)
       go (got a rest) q = let z : ◌≡◌ {A = ℕ} 0 1 = cc in absurd (omega arith)
       go (fault x) q = let i : f ≡ case_of x = cc in ap fault (sym (refusal_back x) ∙ ap refusal_of (sym i))
 
@@ -225,10 +220,10 @@ module _ (s : List ℕ) (start n : ℕ) (inside : start ≤ length s) {p : Place
     pub count : length ws ≡ n
     pub within : past ≤ length s
 
-  words-here : {c : Cursor} → p ≡ place.At c → Words c.at
+  words-here : {c : Cursor} → p ≡ Ok c → Words c.at
   words-here {c} e = go (read_words n core_words (drop start s)) refl (words_tail n core_words (drop start s)) (sym e ∙ first-words)
     where
-      go : (g : Read (List (List ℕ))) → read_words n core_words (drop start s) ≡ g → Tail (drop start s) g → place.At c ≡ place_at (length s) g → Words c.at
+      go : (g : Read (List (List ℕ))) → read_words n core_words (drop start s) ≡ g → Tail (drop start s) g → Ok c ≡ place_at (length s) g → Words c.at
       go (got a rest) i (tail_got b) q =
           let at-is : c ≡ record { at = length s - length rest } = cc in
           let d : c.at ≡ length s - length rest = ap (λ (x : Cursor). x.at) at-is in
@@ -242,15 +237,15 @@ module _ (s : List ℕ) (start n : ℕ) (inside : start ≤ length s) {p : Place
 
 -- ---- behind the kind
 
-module _ (s : List ℕ) (at : ℕ) (inside : at ≤ length s) {q : Number}
-    (h : q ≡ number_at (at + length (take (length s - at) (drop at s))) (num_up_to over_limit 1020 (take (length s - at) (drop at s)))) where
-  pub count-stops : {f : Refusal} → q ≡ number.Fault f → hd.Fault f ≡ head_at (length s) (read_after_kind (drop at s))
+module _ (s : List ℕ) (at : ℕ) (inside : at ≤ length s) {q : Result (ℕ × Cursor) Refusal}
+    (h : q ≡ read_at (at + length (take (length s - at) (drop at s))) (num_up_to over_limit 1020 (take (length s - at) (drop at s)))) where
+  pub count-stops : {f : Refusal} → q ≡ Err f → Err f ≡ head_at (length s) (read_after_kind (drop at s))
   unfolding read_after_kind most_names core_names
   count-stops {f} e =
       let g = here-fault s at inside (num_up_to over_limit 1020) h e in
-      rw g (ap hd.Fault (sym (case_back f)))
+      rw g (ap (λ (k : Refusal). Err k) (sym (case_back f)))
 
-  module _ {n : ℕ} {past : Cursor} (e : q ≡ number.Read n past) where
+  module _ {n : ℕ} {past : Cursor} (e : q ≡ Ok (n, past)) where
     N : Here s at (num_up_to over_limit 1020) n past.at
     N = here s at inside (num_up_to over_limit 1020) h e (up_to_tail over_limit 1020 (drop at s))
 
@@ -260,14 +255,14 @@ module _ (s : List ℕ) (at : ℕ) (inside : at ≤ length s) {q : Number}
     pub words_begin : length s ≤ 65536 → Midway s past.at past.at 0 n
     words_begin l = record { small = l; begins = N.within; within = N.within; most = omega (arith, few) }
 
-    module _ {p : Place} (w : WordsRead s past.at past.at 0 n p) where
-      pub words_stop : {f : Refusal} → p ≡ place.Fault f → hd.Fault f ≡ head_at (length s) (read_after_kind (drop at s))
+    module _ {p : Result Cursor Refusal} (w : WordsRead s past.at past.at 0 n p) where
+      pub words_stop : {f : Refusal} → p ≡ Err f → Err f ≡ head_at (length s) (read_after_kind (drop at s))
       unfolding read_after_kind most_names core_names
       words_stop {f} e₂ =
           let g = words-fault s past.at n N.within w e₂ in
-          rw (N.reads, g) (ap hd.Fault (sym (case_back f)))
+          rw (N.reads, g) (ap (λ (k : Refusal). Err k) (sym (case_back f)))
 
-      module _ {c : Cursor} (e₂ : p ≡ place.At c) where
+      module _ {c : Cursor} (e₂ : p ≡ Ok c) where
         those : Words s past.at n N.within w c.at
         those = words-here s past.at n N.within w e₂
 
@@ -277,11 +272,9 @@ module _ (s : List ℕ) (at : ℕ) (inside : at ≤ length s) {q : Number}
         pub words-few : n ≤ 1020
         words-few = few
 
-        pub counts_go : {x : HeadRead} → CountsRead s c.at n x → x ≡ head_at (length s) (read_after_kind (drop at s))
+        pub counts_go : {x : Result (Head × Cursor) Refusal} → CountsRead s c.at n x → x ≡ head_at (length s) (read_after_kind (drop at s))
         unfolding read_after_kind most_names core_names
         counts_go {x} r = (r).means those.ws those.count ∙ sym (rw (N.reads, those.reads) refl)
-
-pub ruleset after_kind_laws = (count-stops, words_begin, words_stop, words-within, words-few, counts_go)
 
 -- ---- the whole
 
@@ -300,26 +293,24 @@ head-is : (kind : ℕ) (s : List ℕ) → read_head kind s ≡ next (read_kind k
 unfolding read_head read_kind read_after_kind read_counts
 head-is kind s = kind_then (num s) kind read_after_kind
 
-module _ (s : List ℕ) (kind : ℕ) {p : Place} (h : p ≡ place_at (length s) (read_kind kind s)) where
-  k : p ≡ answer_at placed place.Fault (length s) (read_kind kind s)
-  k = h ∙ ap (answer_at placed place.Fault (length s)) (kept_unit (read_kind kind s))
+module _ (s : List ℕ) (kind : ℕ) {p : Result Cursor Refusal} (h : p ≡ place_at (length s) (read_kind kind s)) where
+  k : p ≡ answer_at placed (length s) (read_kind kind s)
+  k = h ∙ ap (answer_at placed (length s)) (kept_unit (read_kind kind s))
 
-  pub head-stops : {f : Refusal} → p ≡ place.Fault f → hd.Fault f ≡ head_at (length s) (read_head kind s)
+  pub head-stops : {f : Refusal} → p ≡ Err f → Err f ≡ head_at (length s) (read_head kind s)
   head-stops {f} e =
       let g : read_kind kind s ≡ fault (refusal_of f) = refused place_shape (length s) (read_kind kind s) k e in
-      rw (head-is kind s, g) (ap hd.Fault (sym (case_back f)))
+      rw (head-is kind s, g) (ap (λ (k : Refusal). Err k) (sym (case_back f)))
 
-  module _ {c : Cursor} (e : p ≡ place.At c) where
+  module _ {c : Cursor} (e : p ≡ Ok c) where
     K : Took 0 s (read_kind kind s) tt c.at
-    K = took place_shape (subst (λ (n : ℕ). p ≡ answer_at placed place.Fault n (read_kind kind s)) (sym (let z : 0 + length s ≡ length s = omega arith in z)) k) e (kind_tail kind s)
+    K = took place_shape (subst (λ (n : ℕ). p ≡ answer_at placed n (read_kind kind s)) (sym (let z : 0 + length s ≡ length s = omega arith in z)) k) e (kind_tail kind s)
 
     pub kind-within : c.at ≤ length s
     kind-within = omega (arith, K.within)
 
-    pub head-goes : {x : HeadRead} → x ≡ head_at (length s) (read_after_kind (drop c.at s)) → x ≡ head_at (length s) (read_head kind s)
+    pub head-goes : {x : Result (Head × Cursor) Refusal} → x ≡ head_at (length s) (read_after_kind (drop c.at s)) → x ≡ head_at (length s) (read_head kind s)
     head-goes {x} a =
         let d : c.at - 0 ≡ c.at = omega arith in
         let g : read_kind kind s ≡ got tt (drop c.at s) = K.is ∙ ap (λ (n : ℕ). got tt (drop n s)) d in
         a ∙ sym (rw (head-is kind s, g) refl)
-
-pub ruleset head_laws = (head-stops, kind-within, head-goes)

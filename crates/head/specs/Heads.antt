@@ -1,14 +1,14 @@
 -- The head of an image in the steps that the code takes, and what the code keeps of it.
-use Rattle.std.specs.Prelude.{ℕ, ◌+◌, ◌-◌, ◌≡◌, List, ◌||◌, length, drop, eqb}
+use Rattle.std.specs.Prelude.{ℕ, ◌+◌, ◌-◌, ◌≡◌, List, ◌||◌, length, drop, eqb, Result}
 use Rattle.model.specs.Limits.{most_names, core_names, most_scopes}
 use Rattle.model.specs.Refusals.{layout, over_limit, wrong_kind}
 use Rattle.model.specs.Reading as m
 use Rattle.model.specs.Reading.{Reader, ◌>>=◌, ◌>>◌, give, need, num, num_up_to, read_words, core_words}
-use Rattle.numbers.specs.Answers.{answer_at, kept}
+use Rattle.refusals.specs.declared.Refusal.{Refusal}
+use Rattle.numbers.specs.declared.Cursor.{Cursor}
+use Rattle.numbers.specs.Answers.{read_at, kept}
 use Rattle.head.specs.declared.Head.{Head}
 use Rattle.head.specs.declared.Counts.{Counts}
-use Rattle.head.specs.declared.HeadRead.{HeadRead}
-use Rattle.head.specs.declared.HeadRead.TheVariants.{Read, Fault}
 
 unfoldable pub read_kind : ℕ → Reader (Unit {0})
 unfolding num
@@ -39,8 +39,8 @@ head_of h = record { words = length h.words; names = h.names; scopes = h.scopes 
 abbrev pub declares : Head → Counts
 declares h = record { symbols = h.words + 4; names = h.names; scopes = h.scopes }
 
-abbrev pub head_at : ℕ → m.Read m.Head → HeadRead
-head_at end g = answer_at Read Fault end (kept head_of g)
+abbrev pub head_at : ℕ → m.Read m.Head → Result (Head × Cursor) Refusal
+head_at end g = read_at end (kept head_of g)
 
-pub record CountsRead (s : List ℕ) (at words : ℕ) (r : HeadRead) : Type 0 where
+pub record CountsRead (s : List ℕ) (at words : ℕ) (r : Result (Head × Cursor) Refusal) : Type 0 where
   pub means : (ws : List (List ℕ)) → length ws ≡ words → r ≡ head_at (length s) (read_counts words ws (drop at s))

@@ -8,7 +8,7 @@ ghost use Rattle.model.specs.Reading.{read_head};
 ghost use Rattle.numbers.specs.Answers.{place_at};
 ghost use Rattle.head.specs.Heads.{read_kind, read_after_kind, head_at, declares, CountsRead};
 
-use numbers::{Cursor, Number, Place};
+use numbers::{Cursor, Read};
 use refusals::Refusal;
 use scopes::{Name, Scope};
 
@@ -36,13 +36,6 @@ pub struct Front {
     pub end: usize,
 }
 
-// The head with the place past it, or the fault.
-#[derive(Clone, Copy)]
-pub enum HeadRead {
-    Read(Head, Cursor),
-    Fault(Refusal),
-}
-
 impl Head {
     pub const SYNTAX: u32 = 1;
 
@@ -67,78 +60,52 @@ impl Head {
 }
 
 // The kind: 1 or 2, and the job's.
-fn read_kind(s: &[u8], kind: u32) -> Place
+fn read_kind(s: &[u8], kind: u32) -> Result<Cursor, Refusal>
     requires { length s.now ≤ most_image }
     ensures { result ≡ place_at (length s.now) (read_kind kind s.now) }
 {
     let start = Cursor { at: 0 };
-    match start.number(s) {
-        Number::Read(k, past) => {
-            if k == 0 {
-                return Place::Fault(Refusal::Layout);
-            }
-            if Head::TREE < k {
-                return Place::Fault(Refusal::Layout);
-            }
-            if k != kind {
-                return Place::Fault(Refusal::WrongKind);
-            }
-            Place::At(past)
-        }
-        Number::Fault(f) => Place::Fault(f),
+    let (k, past) = start.number(s)?;
+    if k == 0 || Head::TREE < k {
+        return Err(Refusal::Layout);
     }
+    if k != kind {
+        return Err(Refusal::WrongKind);
+    }
+    Ok(past)
 }
 
 // The counts of made names and scopes, behind so many words.
-fn read_counts(s: &[u8], c: Cursor, words: u32) -> HeadRead
+fn read_counts(s: &[u8], c: Cursor, words: u32) -> Read<Head>
     requires { (length s.now ≤ most_image) × (c.at ≤ length s.now) × (words ≤ most_words) }
     ensures { CountsRead s.now c.at words result }
 {
-    let at = c.at;
-    match c.number_up_to(&s[at..], Refusal::OverLimit, Head::MOST_NEW - words) {
-        Number::Read(made, past) => {
-            let at = past.at;
-            match past.number_up_to(&s[at..], Refusal::OverLimit, Scope::MOST) {
-                Number::Read(scopes, end) => HeadRead::Read(
-                    Head {
-                        words,
-                        names: Head::CORE_NAMES + words + made,
-                        scopes,
-                    },
-                    end,
-                ),
-                Number::Fault(f) => HeadRead::Fault(f),
-            }
-        }
-        Number::Fault(f) => HeadRead::Fault(f),
-    }
+    let (made, past) = c.number_up_to(&s[c.at..], Refusal::OverLimit, Head::MOST_NEW - words)?;
+    let (scopes, end) = past.number_up_to(&s[past.at..], Refusal::OverLimit, Scope::MOST)?;
+    let names = Head::CORE_NAMES + words + made;
+    let head = Head {
+        words,
+        names,
+        scopes,
+    };
+    Ok((head, end))
 }
 
 // The words and counts, behind the kind.
-fn read_after_kind(s: &[u8], c: Cursor) -> HeadRead
+fn read_after_kind(s: &[u8], c: Cursor) -> Read<Head>
     requires { (length s.now ≤ most_image) × (c.at ≤ length s.now) }
     ensures { result ≡ head_at (length s.now) (read_after_kind (drop c.at s.now)) }
 {
-    let at = c.at;
-    match c.number_up_to(&s[at..], Refusal::OverLimit, Head::MOST_NEW) {
-        Number::Read(words, past) => {
-            let start = past.at;
-            match words::read_words(s, start, start, 0, words) {
-                Place::At(behind) => read_counts(s, behind, words),
-                Place::Fault(f) => HeadRead::Fault(f),
-            }
-        }
-        Number::Fault(f) => HeadRead::Fault(f),
-    }
+    let (words, past) = c.number_up_to(&s[c.at..], Refusal::OverLimit, Head::MOST_NEW)?;
+    let behind = words::read_words(s, past.at, past.at, 0, words)?;
+    read_counts(s, behind, words)
 }
 
-// The head of the image s, which has to be of that kind.
-pub fn read_head(s: &[u8], kind: u32) -> HeadRead
+// The head of the image s, which has to be of that kind. Kinds stay numbers: `read_head` promises its answer for a number that is none.
+pub fn read_head(s: &[u8], kind: u32) -> Read<Head>
     requires { length s.now ≤ most_image }
     ensures { result ≡ head_at (length s.now) (read_head kind s.now) }
 {
-    match read_kind(s, kind) {
-        Place::At(c) => read_after_kind(s, c),
-        Place::Fault(f) => HeadRead::Fault(f),
-    }
+    let c = read_kind(s, kind)?;
+    read_after_kind(s, c)
 }

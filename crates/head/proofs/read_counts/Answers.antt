@@ -1,16 +1,16 @@
-use Rattle.std.proofs.Common.{rules, ◌-◌}
+use Rattle.std.proofs.Common.{refl}
 use Rattle.head.proofs.read_counts.Goals as goal
-use Rattle.numbers.proofs.Answering.{answering}
-use Rattle.head.proofs.Reading.{counts_laws}
+use Rattle.refusals.proofs.Handing.{handed_on}
+use Rattle.head.proofs.Reading.{made-stops, made-few, scopes_stop, counts-read}
 
-pub overflow_add-result-in-Read-number_up_to : goal.overflow_add-result-in-Read-number_up_to
-overflow_add-result-in-Read-number_up_to c = search (counts_laws, answering, rules)
+pub returns-in_err-made : goal.returns-in_err-made
+returns-in_err-made c = made-stops _ _ _ c.requires.1 c.number_up_to.ensures c.in_err-made.was (handed_on c.from_residual.ensures.1 refl)
 
-pub returns-in-Read-number_up_to : goal.returns-in-Read-number_up_to
-returns-in-Read-number_up_to c = search (counts_laws, answering, rules)
+pub returns-in_err-scopes : goal.returns-in_err-scopes
+returns-in_err-scopes c = scopes_stop _ _ _ c.requires.1 c.number_up_to.ensures c.in_ok-made.was c.number_up_to-2.ensures c.in_err-scopes.was (handed_on c.from_residual-in_err-scopes.ensures.1 refl)
 
-pub returns-in-Fault-number_up_to : goal.returns-in-Fault-number_up_to
-returns-in-Fault-number_up_to c = search (counts_laws, answering, rules)
+pub overflow_add-names-2 : goal.overflow_add-names-2
+overflow_add-names-2 c = made-few _ _ _ c.requires.1 c.number_up_to.ensures c.in_ok-made.was c.requires.2
 
-pub returns-in-Fault : goal.returns-in-Fault
-returns-in-Fault c = search (counts_laws, answering, rules)
+pub returns : goal.returns
+returns c = counts-read _ _ _ c.requires.1 c.number_up_to.ensures c.in_ok-made.was c.number_up_to-2.ensures c.in_ok-scopes.was
