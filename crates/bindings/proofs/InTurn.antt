@@ -3,9 +3,10 @@ use mathlib.Core.Path.{◌≡◌, refl, sym, ap, ap₂, ◌∙◌}
 use mathlib.Core.Bool.{Bool, true, false}
 use mathlib.Core.List.{List, [], ◌∷◌}
 use Prim.Native.Nat.{ℕ, zero, suc, ◌+◌, ◌-◌, ◌*◌, ◌≤◌, ◌<◌}
+use Rattle.std.specs.Prelude.{Result, Ok, Err}
 use native.Mathlib.Omega.{arith}
 use lib.Dec.{leb}
-use lib.ListN.{length, drop, get_or, length-drop}
+use lib.ListN.{length, drop, length-drop}
 use lib.Seq.{drop-drop}
 use borrow.Author.Tests.{leb-true}
 use Rattle.model.specs.Limits.{most_bindings}
@@ -14,22 +15,18 @@ use Rattle.model.specs.Refusals.{layout, over_limit}
 use Rattle.model.specs.Scopes.{Scopes}
 use Rattle.model.specs.Resolving.{Bind, bind_before}
 use Rattle.model.specs.Reading.{Read, got, fault, next, need, num, num_below, num_up_to, read_set}
-use Rattle.refusals.specs.Refusing.{refusal_of, case_of}
+use Rattle.refusals.specs.Refusing.{refusal_of}
 use Rattle.refusals.specs.declared.Refusal.{Refusal}
 use Rattle.refusals.specs.declared.Refusal.TheVariants.{Layout}
 use Rattle.refusals.proofs.Cases.{case_back}
 use Rattle.numbers.specs.declared.Cursor.{Cursor}
-use Rattle.numbers.specs.declared.Number.{Number}
-use Rattle.numbers.specs.declared.Number.TheVariants as number
-use Rattle.numbers.specs.declared.Place.{Place}
-use Rattle.numbers.specs.declared.Place.TheVariants as place
-use Rattle.numbers.specs.Answers.{number_at, place_at, Seen, seen, unseen, seen_at}
+use Rattle.numbers.specs.Answers.{beside, read_at, place_at}
 use Rattle.numbers.proofs.Tails.{Tail, tail_give, tail_next, tail_need, below_tail, up_to_tail}
-use Rattle.numbers.proofs.Answering.{Took, took, number_shape, seen_shape, goes, stops, whole, seen-gives, seen-stops, seen-refused}
+use Rattle.numbers.proofs.Answering.{Took, took, read_shape, goes, gives, stops, refused, row-rest, err_same, ok_same, ok-err}
 use Rattle.sets.proofs.Reading.{set_tail}
 use Rattle.store.specs.Words.{bind_at, binds_from, binds_of, Put}
 use Rattle.store.proofs.Runs.{run_step, same-bind}
-use Rattle.bindings.specs.Sections.{read_target, read_one, read_more, read_some, read_all, no_bind, MoreRead, SomeRead}
+use Rattle.bindings.specs.Sections.{read_target, read_one, read_more, read_some, read_all, MoreRead, SomeRead}
 use Rattle.head.specs.declared.Counts.{Counts}
 use Rattle.store.specs.Sizes.{binding_size}
 
@@ -61,44 +58,43 @@ all_tail n s = tail_next _ (up_to_tail over_limit most_bindings s) (λ k t. some
 
 -- ---- one binding
 
-pub no_binding : {v : Scopes} {f : Refusal} → v ≡ 0 → record { value = record { symb = 0; target = 0; set = v }; end = place.Fault f } ≡ unseen no_bind f
-unfolding no_bind
-no_binding {f = f} e = ap (λ (v : Scopes). record { value = record { symb = 0; target = 0; set = v }; end = place.Fault f }) e
-
-module _ (at : ℕ) (n : Counts) (x : ℕ) (s : List ℕ) {r : Number} (h : r ≡ number_at (at + length s) (num_below n.names s)) where
-  pub target-stops : {f : Refusal} {y : Seen Bind} → r ≡ number.Fault f → y ≡ unseen no_bind f → y ≡ seen_at no_bind (at + length s) (read_target n x s)
-  unfolding read_target
-  target-stops e i = i ∙ stops number_shape seen (unseen no_bind) (at + length s) (num_below n.names s) _ h e
-
-  module _ {t : ℕ} {past : Cursor} {u : List ℕ} (e : r ≡ number.Read t past) (i : u ≡ drop (past.at - at) s) {a : Scopes} {q : Place}
-      (h' : record { value = a; end = q } ≡ seen_at 0 (past.at + length u) (read_set n.scopes u)) where
-    pub set-stops : {f : Refusal} {y : Seen Bind} → q ≡ place.Fault f → y ≡ unseen no_bind f → y ≡ seen_at no_bind (at + length s) (read_target n x s)
-    unfolding read_target
-    set-stops e' k =
-        goes number_shape seen (unseen no_bind) at (num_below n.names s) _ h e (below_tail n.names s) i
-        (k ∙ seen-stops 0 seen (unseen no_bind) (past.at + length u) (read_set n.scopes u) _ h' e')
-
-    pub set_gives : {behind : Cursor} → q ≡ place.At behind
-        → seen (record { symb = x; target = t; set = a }) behind ≡ seen_at no_bind (at + length s) (read_target n x s)
-    unfolding read_target
-    set_gives e' =
-        goes number_shape seen (unseen no_bind) at (num_below n.names s) _ h e (below_tail n.names s) i
-        (seen-gives 0 past.at u (read_set n.scopes u) h' e' (set_tail n.scopes u) seen (unseen no_bind) _ (λ v. refl))
-
-module _ (at : ℕ) (n : Counts) (s : List ℕ) {r : Number} (h : r ≡ number_at (at + length s) (num_below n.symbols s)) where
-  pub one-stops : {f : Refusal} {y : Seen Bind} → r ≡ number.Fault f → y ≡ unseen no_bind f → y ≡ seen_at no_bind (at + length s) (read_one n s)
+module _ (at : ℕ) (n : Counts) (s : List ℕ) {x : Result (ℕ × Cursor) Refusal} (h : x ≡ read_at (at + length s) (num_below n.symbols s)) where
+  pub symbol-stops : {f : Refusal} → x ≡ Err f → Err f ≡ read_at (at + length s) (read_one n s)
   unfolding read_one
-  one-stops e i = i ∙ stops number_shape seen (unseen no_bind) (at + length s) (num_below n.symbols s) _ h e
+  symbol-stops e = stops read_shape beside (at + length s) (num_below n.symbols s) _ h e
 
-  pub one-goes : {x : ℕ} {past : Cursor} {u : List ℕ} {y : Seen Bind} → r ≡ number.Read x past → u ≡ drop (past.at - at) s
-      → y ≡ seen_at no_bind (past.at + length u) (read_target n x u) → y ≡ seen_at no_bind (at + length s) (read_one n s)
-  unfolding read_one
-  one-goes e i a = goes number_shape seen (unseen no_bind) at (num_below n.symbols s) _ h e (below_tail n.symbols s) i a
+  module _ {a : ℕ} {c : Cursor} (e : x ≡ Ok (a, c)) {u : List ℕ} (i : u ≡ drop (c.at - at) s) {y : Result (ℕ × Cursor) Refusal} (j : y ≡ read_at (c.at + length u) (num_below n.names u)) where
+    on-symbol : {z : Result (Bind × Cursor) Refusal} → z ≡ read_at (c.at + length u) (read_target n a u) → z ≡ read_at (at + length s) (read_one n s)
+    unfolding read_one
+    on-symbol k = goes read_shape beside at (num_below n.symbols s) _ h e (below_tail n.symbols s) i k
+
+    pub target-stops : {f : Refusal} → y ≡ Err f → Err f ≡ read_at (at + length s) (read_one n s)
+    unfolding read_target
+    target-stops k = on-symbol (stops read_shape beside (c.at + length u) (num_below n.names u) _ j k)
+
+    module _ {b : ℕ} {d : Cursor} (k : y ≡ Ok (b, d)) where
+      pub symbol-took : Took at s (num_below n.symbols s) a c.at
+      symbol-took = took read_shape h e (below_tail n.symbols s)
+
+      pub target-took : Took c.at u (num_below n.names u) b d.at
+      target-took = took read_shape j k (below_tail n.names u)
+
+      module _ {v : List ℕ} (l : v ≡ drop (d.at - at) s) {z : Result (Scopes × Cursor) Refusal} (m : z ≡ read_at (d.at + length v) (read_set n.scopes v)) where
+        behind-both : v ≡ drop (d.at - c.at) u
+        behind-both = row-rest symbol-took i target-took l
+
+        pub set-stops : {f : Refusal} → z ≡ Err f → Err f ≡ read_at (at + length s) (read_one n s)
+        unfolding read_target
+        set-stops o = on-symbol (goes read_shape beside c.at (num_below n.names u) _ j k (below_tail n.names u) behind-both (stops read_shape beside (d.at + length v) (read_set n.scopes v) _ m o))
+
+        pub binding-read : {t : Scopes} {q : Cursor} → z ≡ Ok (t, q) → Ok (record { symb = a; target = b; set = t }, q) ≡ read_at (at + length s) (read_one n s)
+        unfolding read_target
+        binding-read o = on-symbol (goes read_shape beside c.at (num_below n.names u) _ j k (below_tail n.names u) behind-both (gives read_shape beside d.at (read_set n.scopes v) _ m o (set_tail n.scopes v) (λ w. refl)))
 
 -- ---- a place, whatever was read
 
-place-fault : {A : Type 0} (end : ℕ) (g : Read A) {f : Refusal} → g ≡ fault (refusal_of f) → place.Fault f ≡ place_at end g
-place-fault end g {f} e = rw e (ap place.Fault (sym (case_back f)))
+place-fault : {A : Type 0} (end : ℕ) (g : Read A) {f : Refusal} → g ≡ fault (refusal_of f) → Err f ≡ place_at end g
+place-fault end g {f} e = rw e (ap (λ (x : Refusal). Err x) (sym (case_back f)))
 
 -- a binding put before what is read
 onto : Bind → Read (List Bind) → Read (List Bind)
@@ -138,7 +134,7 @@ pub record Midway (c : Counts) (s : List ℕ) (at : ℕ) (p : Bind) (i n : ℕ) 
   pub within : here ≤ at + length s
   pub inside : k ≤ n
   pub long : length now ≡ length was
-  pub rest : (l : List ℕ) (r : Place) → MoreRead c (drop (here - at) s) (at + length s) q k n now l r → MoreRead c s (at + length s) p i n was l r
+  pub rest : (l : List ℕ) (r : Result Cursor Refusal) → MoreRead c (drop (here - at) s) (at + length s) q k n now l r → MoreRead c s (at + length s) p i n was l r
 
 pub more-start : {c : Counts} {s : List ℕ} {at : ℕ} {p : Bind} {i n : ℕ} {l : List ℕ} → i ≤ n → Midway c s at p i n l at i p l
 more-start {at = at} h =
@@ -146,12 +142,12 @@ more-start {at = at} h =
     record { moved = omega arith; within = omega arith; inside = h; long = refl; rest = λ l r w. rw e at w }
 
 module _ {c : Counts} {s : List ℕ} {at : ℕ} {p : Bind} {i n : ℕ} {was : List ℕ} {here k : ℕ} {q : Bind} {now : List ℕ} (m : Midway c s at p i n was here k q now) where
-  pub more-none : {end : Cursor} → here ≡ end.at → n ≤ k → MoreRead c s (at + length s) p i n was now (place.At end)
+  pub more-none : {end : Cursor} → here ≡ end.at → n ≤ k → MoreRead c s (at + length s) p i n was now (Ok end)
   unfolding read_more binds_from
   more-none {end} e h =
       let z : n - k ≡ 0 = omega arith in
       let d : at + length s - length (drop (here - at) s) ≡ end.at = omega (arith, length-drop (here - at) s) in
-      m.rest now (place.At end) (record {
+      m.rest now (Ok end) (record {
         kept = λ j x. refl;
         place = rw (z, d);
         held = rw z (λ b rest f. let y : ◌≡◌ {A = List Bind} [] b = cc in y);
@@ -164,7 +160,7 @@ module _ {c : Counts} {s : List ℕ} {at : ℕ} {p : Bind} {i n : ℕ} {was : Li
     pub more-fits : {most : ℕ} → at + length s ≤ most → here + length u ≤ most
     more-fits h = rw same_end h
 
-    module _ (some : k < n) {b : Bind} {o : Place} (h : record { value = b; end = o } ≡ seen_at no_bind (here + length u) (read_one c u)) where
+    module _ (some : k < n) {o : Result (Bind × Cursor) Refusal} (h : o ≡ read_at (here + length u) (read_one c u)) where
       step-here : read_more c (n - k) q u
           ≡ next (read_one c u) (λ d t. next (need layout (bind_before q d) t) (λ x v. onto d (read_more c (n - (k + 1)) d v)))
       step-here =
@@ -172,23 +168,23 @@ module _ {c : Counts} {s : List ℕ} {at : ℕ} {p : Bind} {i n : ℕ} {was : Li
           ap (λ (y : ℕ). read_more c y q u) e ∙ more-step c (n - (k + 1)) q u
 
       -- nothing is stored where there is a fault
-      refusing : {f : Refusal} → read_more c (n - k) q u ≡ fault (refusal_of f) → MoreRead c s (at + length s) p i n was now (place.Fault f)
+      refusing : {f : Refusal} → read_more c (n - k) q u ≡ fault (refusal_of f) → MoreRead c s (at + length s) p i n was now (Err f)
       refusing {f} e =
           let g : read_more c (n - k) q (drop (here - at) s) ≡ fault (refusal_of f) = rw j at e in
-          m.rest now (place.Fault f) (record {
+          m.rest now (Err f) (record {
             kept = λ y d. refl;
             place = place-fault (at + length s) (read_more c (n - k) q (drop (here - at) s)) g;
             held = λ d rest x. let z : ◌≡◌ {A = Read (List Bind)} (fault (refusal_of f)) (got d rest) = sym g ∙ x in let y : ◌≡◌ {A = ℕ} 0 1 = cc in absurd (omega arith);
           })
 
-      pub more-stops : {f : Refusal} → o ≡ place.Fault f → MoreRead c s (at + length s) p i n was now (place.Fault f)
-      more-stops e = refusing (step-here ∙ rw (seen-refused no_bind (here + length u) (read_one c u) h e))
+      pub more-stops : {f : Refusal} → o ≡ Err f → MoreRead c s (at + length s) p i n was now (Err f)
+      more-stops e = refusing (step-here ∙ rw (refused read_shape (here + length u) (read_one c u) h e))
 
-      module _ {past : Cursor} (e : o ≡ place.At past) {t : Bool} (d : t ≡ bind_before q b) where
+      module _ {b : Bind} {past : Cursor} (e : o ≡ Ok (b, past)) {t : Bool} (d : t ≡ bind_before q b) where
         there : Took here u (read_one c u) b past.at
-        there = took (seen_shape no_bind) h (whole no_bind here u (read_one c u) h e (one_tail c u)) (one_tail c u)
+        there = took read_shape h e (one_tail c u)
 
-        pub more_disorder : t ≡ false → MoreRead c s (at + length s) p i n was now (place.Fault Layout)
+        pub more_disorder : t ≡ false → MoreRead c s (at + length s) p i n was now (Err Layout)
         more_disorder f = refusing (step-here ∙ rw (there.is, sym d ∙ f))
 
         module _ (f : t ≡ true) {now1 : List ℕ} (g : Put b now now1 k) where
@@ -201,7 +197,7 @@ module _ {c : Counts} {s : List ℕ} {at : ℕ} {p : Bind} {i n : ℕ} {was : Li
           on : read_more c (n - k) q (drop (here - at) s) ≡ onto b (read_more c (n - (k + 1)) b (drop (past.at - at) s))
           on = ap (read_more c (n - k) q) (sym j) ∙ step-here ∙ rw (there.is, sym d ∙ f, behind)
 
-          goes_on : {l : List ℕ} {r : Place} → MoreRead c (drop (past.at - at) s) (at + length s) b (k + 1) n now1 l r
+          goes_on : {l : List ℕ} {r : Result Cursor Refusal} → MoreRead c (drop (past.at - at) s) (at + length s) b (k + 1) n now1 l r
               → MoreRead c (drop (here - at) s) (at + length s) q k n now l r
           goes_on {l} {r} w = record {
             kept = λ y x. w.kept y (omega arith) ∙ g.before y x;
@@ -238,7 +234,7 @@ some-step c k s = ap (next (read_one c s)) (λ j b t. same b (read_more c k b t)
     same b (got r v) = refl
     same b (fault e) = refl
 
-pub some-none : {c : Counts} {s : List ℕ} {at : Cursor} {n : ℕ} {l : List ℕ} → n ≡ 0 → SomeRead c s (at.at + length s) n l (place.At at)
+pub some-none : {c : Counts} {s : List ℕ} {at : Cursor} {n : ℕ} {l : List ℕ} → n ≡ 0 → SomeRead c s (at.at + length s) n l (Ok at)
 unfolding read_some binds_of binds_from
 some-none {c} {s} {at} {n} {l} e =
     let q : at.at + length s - length s ≡ at.at = omega arith in
@@ -247,29 +243,28 @@ some-none {c} {s} {at} {n} {l} e =
       held = rw e (λ b rest f. let d : ◌≡◌ {A = List Bind} [] b = cc in d);
     }
 
-module _ (c : Counts) (s : List ℕ) (at n : ℕ) (l : List ℕ) (some : n ≡ 0 → ⊥) {b : Bind} {q : Place}
-    (h : record { value = b; end = q } ≡ seen_at no_bind (at + length s) (read_one c s)) where
+module _ (c : Counts) (s : List ℕ) (at n : ℕ) (l : List ℕ) (some : n ≡ 0 → ⊥) {q : Result (Bind × Cursor) Refusal} (h : q ≡ read_at (at + length s) (read_one c s)) where
   some-here : read_some c n s ≡ next (read_one c s) (λ d t. onto d (read_more c (n - 1) d t))
   some-here =
       let e : n ≡ suc (n - 1) = omega arith in
       ap (λ (k : ℕ). read_some c k s) e ∙ some-step c (n - 1) s
 
-  pub some-stops : {f : Refusal} → q ≡ place.Fault f → SomeRead c s (at + length s) n l (place.Fault f)
+  pub some-stops : {f : Refusal} → q ≡ Err f → SomeRead c s (at + length s) n l (Err f)
   some-stops {f} e =
-      let g : read_some c n s ≡ fault (refusal_of f) = some-here ∙ rw (seen-refused no_bind (at + length s) (read_one c s) h e) in
+      let g : read_some c n s ≡ fault (refusal_of f) = some-here ∙ rw (refused read_shape (at + length s) (read_one c s) h e) in
       record {
         place = place-fault (at + length s) (read_some c n s) g;
         held = λ d rest x. let z : ◌≡◌ {A = Read (List Bind)} (fault (refusal_of f)) (got d rest) = sym g ∙ x in let y : ◌≡◌ {A = ℕ} 0 1 = cc in absurd (omega arith);
       }
 
-  module _ {past : Cursor} (e : q ≡ place.At past) {u : List ℕ} (j : u ≡ drop (past.at - at) s) where
+  module _ {b : Bind} {past : Cursor} (e : q ≡ Ok (b, past)) {u : List ℕ} (j : u ≡ drop (past.at - at) s) where
     there-first : Took at s (read_one c s) b past.at
-    there-first = took (seen_shape no_bind) h (whole no_bind at s (read_one c s) h e (one_tail c s)) (one_tail c s)
+    there-first = took read_shape h e (one_tail c s)
 
     on_first : read_some c n s ≡ onto b (read_more c (n - 1) b u)
     on_first = some-here ∙ rw (there-first.is, ← j)
 
-    pub some-goes : {l1 l2 : List ℕ} {r : Place} → Put b l l1 0 → MoreRead c u (past.at + length u) b 1 n l1 l2 r
+    pub some-goes : {l1 l2 : List ℕ} {r : Result Cursor Refusal} → Put b l l1 0 → MoreRead c u (past.at + length u) b 1 n l1 l2 r
         → SomeRead c s (at + length s) n l2 r
     unfolding binds_of
     some-goes {l1} {l2} {r} g w = record {
@@ -308,30 +303,27 @@ record Given (end : ℕ) (g : Read (List Bind)) (behind : Cursor) : Type 0 where
   read : g ≡ got all rest
   is : behind.at ≡ end - length rest
 
-given : (end : ℕ) (g : Read (List Bind)) (behind : Cursor) → place.At behind ≡ place_at end g → Given end g behind
-given end (got r v) behind e =
-    let z : behind ≡ record { at = end - length v } = cc in
-    record { all = r; rest = v; read = refl; is = ap (λ (k : Cursor). k.at) z }
-given end (fault c) behind e = let z : ◌≡◌ {A = ℕ} 0 1 = cc in absurd (omega arith)
+given : (end : ℕ) (g : Read (List Bind)) (behind : Cursor) → Ok behind ≡ place_at end g → Given end g behind
+given end (got r v) behind e = record { all = r; rest = v; read = refl; is = ap (λ (k : Cursor). k.at) (ok_same e) }
+given end (fault c) behind e = absurd (ok-err e)
 
-withheld : (end : ℕ) (g : Read (List Bind)) (f : Refusal) → place.Fault f ≡ place_at end g → unseen [] f ≡ seen_at [] end g
-withheld end (got r v) f e = let z : ◌≡◌ {A = ℕ} 0 1 = cc in absurd (omega arith)
-withheld end (fault c) f e = let z : f ≡ case_of c = cc in ap (unseen []) z
+withheld : (end : ℕ) (g : Read (List Bind)) (f : Refusal) → Err f ≡ place_at end g → Err f ≡ read_at end g
+withheld end (got r v) f e = absurd (ok-err (sym e))
+withheld end (fault c) f e = ap (λ (x : Refusal). Err x) (err_same e)
 
-module _ (c : Counts) (s : List ℕ) (at : ℕ) {r : Number} (h : r ≡ number_at (at + length s) (num_up_to over_limit 512 s)) where
-  pub all-stops : (l : List ℕ) {f : Refusal} → r ≡ number.Fault f
-      → record { value = binds_of l 0; end = place.Fault f } ≡ seen_at [] (at + length s) (read_all c s)
-  unfolding read_all most_bindings binds_of binds_from
-  all-stops l e = stops number_shape seen (unseen []) (at + length s) (num_up_to over_limit 512 s) _ h e
+module _ (c : Counts) (s : List ℕ) (at : ℕ) {r : Result (ℕ × Cursor) Refusal} (h : r ≡ read_at (at + length s) (num_up_to over_limit 512 s)) where
+  pub all-stops : {f : Refusal} → r ≡ Err f → Err f ≡ read_at (at + length s) (read_all c s)
+  unfolding read_all most_bindings
+  all-stops e = stops read_shape beside (at + length s) (num_up_to over_limit 512 s) _ h e
 
-  module _ {n : ℕ} {past : Cursor} (e : r ≡ number.Read n past) where
+  module _ {n : ℕ} {past : Cursor} (e : r ≡ Ok (n, past)) where
     counted : Took at s (num_up_to over_limit 512 s) n past.at
-    counted = took number_shape h e (up_to_tail over_limit 512 s)
+    counted = took read_shape h e (up_to_tail over_limit 512 s)
 
     pub all-few : n ≤ 512
     all-few = up_to-small over_limit 512 s n (drop (past.at - at) s) counted.is
 
-    module _ {u : List ℕ} (j : u ≡ drop (past.at - at) s) {l : List ℕ} {q : Place} (w : SomeRead c u (past.at + length u) n l q) where
+    module _ {u : List ℕ} (j : u ≡ drop (past.at - at) s) {l : List ℕ} {q : Result Cursor Refusal} (w : SomeRead c u (past.at + length u) n l q) where
       from-count : read_all c s ≡ read_some c n u
       unfolding read_all most_bindings
       from-count = rw (counted.is, ← j)
@@ -339,21 +331,18 @@ module _ (c : Counts) (s : List ℕ) (at : ℕ) {r : Number} (h : r ≡ number_a
       one_end : past.at + length u ≡ at + length s
       one_end = rw j counted.ends
 
-      pub all_withheld : {f : Refusal} → q ≡ place.Fault f
-          → record { value = binds_of l 0; end = place.Fault f } ≡ seen_at [] (at + length s) (read_all c s)
-      unfolding binds_of binds_from
+      pub all_withheld : {f : Refusal} → q ≡ Err f → Err f ≡ read_at (at + length s) (read_all c s)
       all_withheld {f} g =
           withheld (past.at + length u) (read_some c n u) f (sym g ∙ w.place)
-          ∙ ap₂ (λ (z : ℕ) (k : Read (List Bind)). seen_at [] z k) one_end (sym from-count)
+          ∙ ap₂ (λ (z : ℕ) (k : Read (List Bind)). read_at z k) one_end (sym from-count)
 
-      pub all-given : {behind : Cursor} → q ≡ place.At behind
-          → record { value = binds_of l n; end = place.At behind } ≡ seen_at [] (at + length s) (read_all c s)
+      pub all-given : {behind : Cursor} → q ≡ Ok behind → Ok (binds_of l n, behind) ≡ read_at (at + length s) (read_all c s)
       all-given {behind} g =
           let y : Given (past.at + length u) (read_some c n u) behind = given (past.at + length u) (read_some c n u) behind (sym g ∙ w.place) in
           let z : behind ≡ record { at = at + length s - length y.rest } = λ k. record { at = (y.is ∙ ap (λ (d : ℕ). d - length y.rest) one_end) k } in
-          ap₂ (λ (b : List Bind) (d : Cursor). record { value = b; end = place.At d }) (w.held y.all y.rest y.read) z
-          ∙ ap (seen_at [] (at + length s)) (sym (from-count ∙ y.read))
+          ap₂ (λ (b : List Bind) (d : Cursor). Ok (b, d)) (w.held y.all y.rest y.read) z
+          ∙ ap (read_at (at + length s)) (sym (from-count ∙ y.read))
 
-pub ruleset loading_laws = (no_binding, one_tail, target-stops, set-stops, set_gives, one-stops, one-goes, some-none, some-stops, some-goes, all-stops, all-few, all_withheld, all-given)
+pub ruleset loading_laws = (one_tail, some-none, some-stops, some-goes, all-stops, all-few, all_withheld, all-given)
 
 pub ruleset more_laws = (more-start, more-none, more-fits, more-stops, more_disorder, more-goes)

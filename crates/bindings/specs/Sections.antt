@@ -1,15 +1,14 @@
 -- Document 01's reading of bindings, over the counts that the code carries of a head.
-use Rattle.std.specs.Prelude.{◌≡◌, List, [], ◌∷◌, ℕ, zero, suc, ◌-◌, ◌*◌, ◌<◌, get_or}
+use Rattle.std.specs.Prelude.{◌≡◌, List, [], ◌∷◌, ℕ, zero, suc, ◌-◌, ◌*◌, ◌<◌, get_or, Result}
 use Rattle.model.specs.Limits.{most_bindings}
 use Rattle.model.specs.Refusals.{layout, over_limit}
 use Rattle.model.specs.Resolving.{Bind, bind_before}
 use Rattle.model.specs.Reading.{Reader, ◌>>=◌, ◌>>◌, got, give, need, num_below, num_up_to, read_set}
-use Rattle.numbers.specs.Answers.{Seen, place_at}
-use Rattle.numbers.specs.declared.Place.{Place}
-use Rattle.store.specs.Words.{bind_of, binds_from, binds_of}
+use Rattle.numbers.specs.Answers.{place_at}
+use Rattle.numbers.specs.declared.Cursor.{Cursor}
+use Rattle.refusals.specs.declared.Refusal.{Refusal}
+use Rattle.store.specs.Words.{binds_from, binds_of}
 use Rattle.head.specs.declared.Counts.{Counts}
-use Rattle.bindings.specs.declared.loading.BindingRead.{BindingRead}
-use Rattle.bindings.specs.declared.loading.BindingsRead.{BindingsRead}
 use Rattle.store.specs.Sizes.{binding_size}
 
 unfoldable pub read_target : Counts → ℕ → Reader Bind
@@ -48,24 +47,14 @@ read_all n = do
   k ← num_up_to over_limit most_bindings
   read_some n k
 
--- ---- what the code's answers say
-
--- where there is none
-unfoldable pub no_bind : Bind
-no_bind = record { symb = 0; target = 0; set = 0 }
-
-abbrev pub bind_seen : BindingRead → Seen Bind
-bind_seen r = record { value = bind_of r.binding; end = r.end }
-
-abbrev pub binds_seen : List ℕ → BindingsRead → Seen (List Bind)
-binds_seen l r = record { value = binds_of l r.count; end = r.end }
+-- ---- what the code answers
 
 -- the bindings from place i to place n have been read behind p
-pub record MoreRead (c : Counts) (s : List ℕ) (end : ℕ) (p : Bind) (i n : ℕ) (was now : List ℕ) (r : Place) : Type 0 where
+pub record MoreRead (c : Counts) (s : List ℕ) (end : ℕ) (p : Bind) (i n : ℕ) (was now : List ℕ) (r : Result Cursor Refusal) : Type 0 where
   pub kept : (k : ℕ) → k < i * binding_size → get_or now k 0 ≡ get_or was k 0
   pub place : r ≡ place_at end (read_more c (n - i) p s)
   pub held : (b : List Bind) (rest : List ℕ) → read_more c (n - i) p s ≡ got b rest → binds_from now i (n - i) ≡ b
 
-pub record SomeRead (c : Counts) (s : List ℕ) (end n : ℕ) (now : List ℕ) (r : Place) : Type 0 where
+pub record SomeRead (c : Counts) (s : List ℕ) (end n : ℕ) (now : List ℕ) (r : Result Cursor Refusal) : Type 0 where
   pub place : r ≡ place_at end (read_some c n s)
   pub held : (b : List Bind) (rest : List ℕ) → read_some c n s ≡ got b rest → binds_of now n ≡ b

@@ -6,7 +6,6 @@ ghost use Rattle.model.specs.Writing.{bind_bytes, binds_bytes};
 ghost use Rattle.store.specs.Words.{bind_of, binds_of};
 ghost use Rattle.store.specs.Sizes.{binding_size, most_bindings};
 
-use scopes::{Name, ScopeSet, Symbol};
 use store::bindings;
 use store::bindings::Binding;
 
@@ -14,10 +13,7 @@ use store::bindings::Binding;
 fn binding_len(b: Binding) -> usize
     ensures { (result ≡ length (bind_bytes (bind_of b))) × (result ≤ longest_binding) }
 {
-    let symbol = b.symbol;
-    let target = b.target;
-    let set = b.set;
-    numbers::number_len(symbol.0) + numbers::number_len(target.0) + sets::set_len(set)
+    numbers::number_len(b.symbol.0) + numbers::number_len(b.target.0) + sets::set_len(b.set)
 }
 
 // Writes a binding at a place, and gives the place past it.
@@ -26,12 +22,9 @@ fn put_binding(out: &mut [u8], at: usize, b: Binding) -> usize
     ensures past { result ≡ at + length (bind_bytes (bind_of b)) }
     ensures bytes { out.new ≡ sets out.old at (bind_bytes (bind_of b)) }
 {
-    let symbol = b.symbol;
-    let target = b.target;
-    let set = b.set;
-    let second = numbers::put_number(out, at, symbol.0);
-    let third = numbers::put_number(out, second, target.0);
-    sets::put_set(out, third, set)
+    let second = numbers::put_number(out, at, b.symbol.0);
+    let third = numbers::put_number(out, second, b.target.0);
+    sets::put_set(out, third, b.set)
 }
 
 // How many bytes the first count bindings take.
@@ -40,10 +33,8 @@ pub fn bindings_len(store: &[u64], count: usize) -> usize
     ensures { (result ≡ length (binds_bytes (binds_of store.now count))) × (result ≤ longest_bindings) }
 {
     let mut n: usize = 0;
-    let mut i: usize = 0;
-    while i < count {
+    for i in 0..count {
         n += binding_len(bindings::get(store, i));
-        i += 1;
     }
     n
 }
@@ -56,10 +47,8 @@ pub fn put_bindings(out: &mut [u8], at: usize, store: &[u64], count: usize) -> u
     ensures bytes { out.new ≡ sets out.old at (binds_bytes (binds_of store.now count)) }
 {
     let mut here = at;
-    let mut i: usize = 0;
-    while i < count {
+    for i in 0..count {
         here = put_binding(out, here, bindings::get(store, i));
-        i += 1;
     }
     here
 }

@@ -1,4 +1,4 @@
-use Rattle.std.proofs.Common.{rules, ◌-◌}
+use Rattle.std.proofs.Common.{rules}
 use Rattle.bindings.proofs.storing.bindings_len.Goals as goal
 use Rattle.bindings.proofs.Lengths.{storing_laws}
 
