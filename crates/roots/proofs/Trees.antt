@@ -1,4 +1,5 @@
 -- Trees measured, by the tests that the code makes.
+use Rattle.std.specs.Prelude.{Result, Ok, Err}
 use Prim.Native.Nat.{ℕ, zero, suc, ◌+◌, ◌-◌, ◌*◌, ◌≤◌, ◌<◌}
 use mathlib.Core.Path.{◌≡◌, refl, sym, ap, ◌∙◌}
 use mathlib.Core.Bool.{Bool, true, false, not, ◌&&◌}
@@ -8,6 +9,8 @@ use lib.Dec.{eqb, ltb, leb}
 use lib.ListN.{length, get_or, set, drop, replicate, length-drop, length-set}
 use lib.Seq.{drop-drop, set-set, set-get_or}
 use borrow.Author.Tests.{le-leb, lt-leb, ltb-true}
+use mir.Syntax.{w32}
+use mir.Val.{Fits}
 use Rattle.model.specs.Refusals.{layout}
 use Rattle.model.specs.Reading as m
 use Rattle.model.specs.Reading.{Reader, got, fault, next, need, num, num_below, at_end}
@@ -15,45 +18,26 @@ use Rattle.refusals.specs.declared.Refusal.{Refusal}
 use Rattle.refusals.specs.declared.Refusal.TheVariants.{Layout, OverLimit}
 use Rattle.refusals.proofs.Cases.{case_back}
 use Rattle.numbers.specs.declared.Cursor.{Cursor}
-use Rattle.numbers.specs.declared.Number.{Number}
-use Rattle.numbers.specs.declared.Number.TheVariants as number
-use Rattle.numbers.specs.Answers.{answer_at, number_at}
+use Rattle.numbers.specs.Answers.{read_at, beside}
 use Rattle.numbers.proofs.Tails.{Tail, num_tail, below_tail}
-use Rattle.numbers.proofs.Answering.{Shape, Took, took, refused, number_shape, goes, gives, refuses, stops, moved_on, kept-within}
+use Rattle.numbers.proofs.Answering.{Took, took, refused, read_shape, goes, gives, refuses, stops}
 use Rattle.roots.specs.MeasuredObjects.{read_content_of, measure_stx}
-use Rattle.roots.proofs.ObjectSizes.{content_tail, object_tail, Inside, inside-fits}
+use Rattle.roots.proofs.ObjectSizes.{content_tail, object_tail, Inside}
 use Rattle.head.specs.declared.Counts.{Counts}
 use Rattle.roots.specs.declared.Extent.{Extent}
-use Rattle.roots.specs.declared.TreeRead.{TreeRead}
-use Rattle.roots.specs.declared.TreeRead.TheVariants.{Read, Fault}
-use Rattle.roots.specs.Measuring.{tree_at, nothing, joined, measure_variable, measure_atom, measure_object, measure_all, measure_several, function_with, body_with, measure_tree, measure_body, measure_function, then_end, whole_syntax, none_around, whole_tree}
+use Rattle.roots.specs.Measuring.{nothing, joined, measure_variable, measure_atom, measure_object, measure_all, measure_several, function_with, body_with, measure_tree, measure_body, measure_function, then_end, whole_syntax, none_around, whole_tree}
 use Rattle.roots.proofs.Spans.{tree_tail, all_trees_tail, tree-small, all_small}
-
-pub tree_shape : Shape Read Fault
-tree_shape = record {
-  value = λ v w c d e. (cc);
-  place = λ v w c d e. (cc);
-  fault = λ f h e. (cc);
-  apart = λ v c f e. (let z : ◌≡◌ {A = ℕ} 0 1 = cc in omega arith);
-}
-
-module _ (at : ℕ) (s : List ℕ) (g : m.Read Extent) {r : TreeRead} {e : Extent} {past : Cursor} (h : r ≡ tree_at (at + length s) g) (q : r ≡ Read e past) (t : Tail s g) where
-  pub tree-moved : at ≤ past.at
-  tree-moved = moved_on tree_shape at s g h q t
-
-  pub tree-within : past.at ≤ at + length s
-  tree-within = kept-within tree_shape at s g h q t
 
 -- ---- what has no parts
 
-module _ (at names : ℕ) (around s : List ℕ) {r : Number} (h : r ≡ number_at (at + length s) (num_below names s)) where
-  pub variable-stops : {f : Refusal} → r ≡ number.Fault f → Fault f ≡ tree_at (at + length s) (measure_variable names around s)
+module _ (at names : ℕ) (around s : List ℕ) {r : Result (ℕ × Cursor) Refusal} (h : r ≡ read_at (at + length s) (num_below names s)) where
+  pub variable-stops : {f : Refusal} → r ≡ Err f → Err f ≡ read_at (at + length s) (measure_variable names around s)
   unfolding measure_variable
-  variable-stops e = stops number_shape Read Fault (at + length s) (num_below names s) _ h e
+  variable-stops e = stops read_shape beside (at + length s) (num_below names s) _ h e
 
-  pub variable-read : {n : ℕ} {past : Cursor} → r ≡ number.Read n past → Read (record { size = 1; owned = not (eqb (get_or around n 0) 0) }) past ≡ tree_at (at + length s) (measure_variable names around s)
+  pub variable-read : {n : ℕ} {past : Cursor} → r ≡ Ok (n, past) → Ok ((record { size = 1; owned = not (eqb (get_or around n 0) 0) }), past) ≡ read_at (at + length s) (measure_variable names around s)
   unfolding measure_variable
-  variable-read e = gives number_shape Read Fault at (num_below names s) _ h e (below_tail names s) (λ u. refl)
+  variable-read e = gives read_shape beside at (num_below names s) _ h e (below_tail names s) (λ u. refl)
 
 below-is : (most : ℕ) (g : m.Read ℕ) (n : ℕ) (rest : List ℕ) → next g (λ k t. next (need layout (ltb k most) t) (λ x. λ u. got k u)) ≡ got n rest → n < most
 below-is most (got k t) n rest e = go (ltb k most) refl e
@@ -63,42 +47,42 @@ below-is most (got k t) n rest e = go (ltb k most) refl e
     go false q e = let z : ◌≡◌ {A = ℕ} 0 1 = cc in absurd (omega arith)
 below-is most (fault c) n rest e = let z : ◌≡◌ {A = ℕ} 0 1 = cc in absurd (omega arith)
 
-pub name-inside : (at names : ℕ) (around s : List ℕ) {r : Number} {n : ℕ} {past : Cursor} → r ≡ number_at (at + length s) (num_below names s) → r ≡ number.Read n past → names ≤ length around
+pub name-inside : (at names : ℕ) (around s : List ℕ) {r : Result (ℕ × Cursor) Refusal} {n : ℕ} {past : Cursor} → r ≡ read_at (at + length s) (num_below names s) → r ≡ Ok (n, past) → names ≤ length around
     → n < length around
 unfolding num_below
 name-inside at names around s {n = n} {past = past} h e l =
-    let T : Took at s (num_below names s) n past.at = took number_shape h e (below_tail names s) in
+    let T : Took at s (num_below names s) n past.at = took read_shape h e (below_tail names s) in
     let k = below-is names (num s) n _ T.is in
     omega arith
 
-module _ (at symbols : ℕ) (s : List ℕ) {r : Number} (h : r ≡ number_at (at + length s) (num s)) where
-  pub atom-stops : {f : Refusal} → r ≡ number.Fault f → Fault f ≡ tree_at (at + length s) (measure_atom symbols s)
+module _ (at symbols : ℕ) (s : List ℕ) {r : Result (ℕ × Cursor) Refusal} (h : r ≡ read_at (at + length s) (num s)) where
+  pub atom-stops : {f : Refusal} → r ≡ Err f → Err f ≡ read_at (at + length s) (measure_atom symbols s)
   unfolding measure_atom
-  atom-stops e = stops number_shape Read Fault (at + length s) (num s) _ h e
+  atom-stops e = stops read_shape beside (at + length s) (num s) _ h e
 
-  module _ {t : ℕ} {past : Cursor} {u : List ℕ} {x : Number} (e : r ≡ number.Read t past) (i : u ≡ drop (past.at - at) s) (k : x ≡ number_at (past.at + length u) (read_content_of symbols t u)) where
-    pub content-stops : {f : Refusal} → x ≡ number.Fault f → Fault f ≡ tree_at (at + length s) (measure_atom symbols s)
+  module _ {t : ℕ} {past : Cursor} {u : List ℕ} {x : Result (ℕ × Cursor) Refusal} (e : r ≡ Ok (t, past)) (i : u ≡ drop (past.at - at) s) (k : x ≡ read_at (past.at + length u) (read_content_of symbols t u)) where
+    pub content-stops : {f : Refusal} → x ≡ Err f → Err f ≡ read_at (at + length s) (measure_atom symbols s)
     unfolding measure_atom
-    content-stops d = goes number_shape Read Fault at (num s) _ h e (num_tail s) i (stops number_shape Read Fault (past.at + length u) (read_content_of symbols t u) _ k d)
+    content-stops d = goes read_shape beside at (num s) _ h e (num_tail s) i (stops read_shape beside (past.at + length u) (read_content_of symbols t u) _ k d)
 
-    pub atom-read : {v : ℕ} {end : Cursor} → x ≡ number.Read v end → Read (record { size = 1; owned = true }) end ≡ tree_at (at + length s) (measure_atom symbols s)
+    pub atom-read : {v : ℕ} {end : Cursor} → x ≡ Ok (v, end) → Ok ((record { size = 1; owned = true }), end) ≡ read_at (at + length s) (measure_atom symbols s)
     unfolding measure_atom
     atom-read d =
-        goes number_shape Read Fault at (num s) _ h e (num_tail s) i
-        (gives number_shape Read Fault past.at (read_content_of symbols t u) _ k d (content_tail symbols t u) (λ w. refl))
+        goes read_shape beside at (num s) _ h e (num_tail s) i
+        (gives read_shape beside past.at (read_content_of symbols t u) _ k d (content_tail symbols t u) (λ w. refl))
 
-module _ (at symbols scopes levels : ℕ) (s : List ℕ) {r : Number} (h : r ≡ number_at (at + length s) (measure_stx symbols scopes levels s)) where
-  pub object-stops : {f : Refusal} → r ≡ number.Fault f → Fault f ≡ tree_at (at + length s) (measure_object symbols scopes levels s)
+module _ (at symbols scopes levels : ℕ) (s : List ℕ) {r : Result (ℕ × Cursor) Refusal} (h : r ≡ read_at (at + length s) (measure_stx symbols scopes levels s)) where
+  pub object-stops : {f : Refusal} → r ≡ Err f → Err f ≡ read_at (at + length s) (measure_object symbols scopes levels s)
   unfolding measure_object
-  object-stops e = stops number_shape Read Fault (at + length s) (measure_stx symbols scopes levels s) _ h e
+  object-stops e = stops read_shape beside (at + length s) (measure_stx symbols scopes levels s) _ h e
 
-  pub object-read : {n : ℕ} {past : Cursor} → r ≡ number.Read n past → Read (record { size = n; owned = true }) past ≡ tree_at (at + length s) (measure_object symbols scopes levels s)
+  pub object-read : {n : ℕ} {past : Cursor} → r ≡ Ok (n, past) → Ok ((record { size = n; owned = true }), past) ≡ read_at (at + length s) (measure_object symbols scopes levels s)
   unfolding measure_object
-  object-read e = gives number_shape Read Fault at (measure_stx symbols scopes levels s) _ h e (object_tail symbols scopes levels s) (λ u. refl)
+  object-read e = gives read_shape beside at (measure_stx symbols scopes levels s) _ h e (object_tail symbols scopes levels s) (λ u. refl)
 
 -- ---- a tree
 
-pub tree_deep : (end : ℕ) (k : Counts) (levels low : ℕ) (around s : List ℕ) → levels ≡ 0 → Fault OverLimit ≡ tree_at end (measure_tree k levels low around s)
+pub tree_deep : (end : ℕ) (k : Counts) (levels low : ℕ) (around s : List ℕ) → levels ≡ 0 → Err OverLimit ≡ read_at end (measure_tree k levels low around s)
 unfolding measure_tree
 tree_deep end k levels low around s e = rw e
 
@@ -110,51 +94,51 @@ tree_is k (suc l) low around s h =
     let e : l ≡ suc l - 1 = omega arith in
     ap (λ (j : ℕ). next (num s) (λ t u. next (need layout (leb low t) u) (λ x. body_with k around (measure_tree k j 0 around) (measure_tree k j 2 around) (λ n. measure_tree k j 0 (set around n 1)) (measure_object k.symbols k.scopes (suc l)) t))) e
 
-module _ (at : ℕ) (k : Counts) (levels low : ℕ) (around s : List ℕ) (some : levels ≡ 0 → ⊥) {r : Number} (h : r ≡ number_at (at + length s) (num s)) where
-  pub tree-stops : {f : Refusal} → r ≡ number.Fault f → Fault f ≡ tree_at (at + length s) (measure_tree k levels low around s)
-  tree-stops e = rw (tree_is k levels low around s some) (stops number_shape Read Fault (at + length s) (num s) _ h e)
+module _ (at : ℕ) (k : Counts) (levels low : ℕ) (around s : List ℕ) (some : levels ≡ 0 → ⊥) {r : Result (ℕ × Cursor) Refusal} (h : r ≡ read_at (at + length s) (num s)) where
+  pub tree-stops : {f : Refusal} → r ≡ Err f → Err f ≡ read_at (at + length s) (measure_tree k levels low around s)
+  tree-stops e = rw (tree_is k levels low around s some) (stops read_shape beside (at + length s) (num s) _ h e)
 
-  module _ {t : ℕ} {past : Cursor} (e : r ≡ number.Read t past) where
-    pub tree-low : t < low → Fault Layout ≡ tree_at (at + length s) (measure_tree k levels low around s)
-    tree-low l = rw (tree_is k levels low around s some) (refuses number_shape Read Fault at (num s) _ h e (num_tail s) (λ u. rw (lt-leb low t l)))
+  module _ {t : ℕ} {past : Cursor} (e : r ≡ Ok (t, past)) where
+    pub tree-low : t < low → Err Layout ≡ read_at (at + length s) (measure_tree k levels low around s)
+    tree-low l = rw (tree_is k levels low around s some) (refuses read_shape beside at (num s) _ h e (num_tail s) (λ u. rw (lt-leb low t l)))
 
-    pub tree-goes : {u : List ℕ} {x : TreeRead} → low ≤ t → u ≡ drop (past.at - at) s → x ≡ tree_at (past.at + length u) (measure_body k levels around t u)
-        → x ≡ tree_at (at + length s) (measure_tree k levels low around s)
-    tree-goes l i a = rw (tree_is k levels low around s some) (goes number_shape Read Fault at (num s) _ h e (num_tail s) i (rw (le-leb low t l) a))
+    pub tree-goes : {u : List ℕ} {x : Result (Extent × Cursor) Refusal} → low ≤ t → u ≡ drop (past.at - at) s → x ≡ read_at (past.at + length u) (measure_body k levels around t u)
+        → x ≡ read_at (at + length s) (measure_tree k levels low around s)
+    tree-goes l i a = rw (tree_is k levels low around s some) (goes read_shape beside at (num s) _ h e (num_tail s) i (rw (le-leb low t l) a))
 
 pub positive : {levels : ℕ} → (levels ≡ 0 → ⊥) → 1 ≤ levels
 positive h = omega arith
 
 module _ (end : ℕ) (k : Counts) (levels : ℕ) (around : List ℕ) (t : ℕ) (s : List ℕ) where
-  pub body_variable : {x : TreeRead} → t ≡ 0 → x ≡ tree_at end (measure_variable k.names around s) → x ≡ tree_at end (measure_body k levels around t s)
+  pub body_variable : {x : Result (Extent × Cursor) Refusal} → t ≡ 0 → x ≡ read_at end (measure_variable k.names around s) → x ≡ read_at end (measure_body k levels around t s)
   unfolding measure_body body_with
   body_variable e a = rw e a
 
-  pub body_application : {x : TreeRead} → t ≡ 1 → x ≡ tree_at end (measure_several 1 (measure_tree k (levels - 1) 0 around) s) → x ≡ tree_at end (measure_body k levels around t s)
+  pub body_application : {x : Result (Extent × Cursor) Refusal} → t ≡ 1 → x ≡ read_at end (measure_several 1 (measure_tree k (levels - 1) 0 around) s) → x ≡ read_at end (measure_body k levels around t s)
   unfolding measure_body body_with
   body_application e a = rw e a
 
-  pub body_function : {x : TreeRead} → t ≡ 2 → x ≡ tree_at end (measure_function k (levels - 1) around s) → x ≡ tree_at end (measure_body k levels around t s)
+  pub body_function : {x : Result (Extent × Cursor) Refusal} → t ≡ 2 → x ≡ read_at end (measure_function k (levels - 1) around s) → x ≡ read_at end (measure_body k levels around t s)
   unfolding measure_body body_with measure_function
   body_function e a = rw e a
 
-  pub body_atom : {x : TreeRead} → t ≡ 3 → x ≡ tree_at end (measure_atom k.symbols s) → x ≡ tree_at end (measure_body k levels around t s)
+  pub body_atom : {x : Result (Extent × Cursor) Refusal} → t ≡ 3 → x ≡ read_at end (measure_atom k.symbols s) → x ≡ read_at end (measure_body k levels around t s)
   unfolding measure_body body_with
   body_atom e a = rw e a
 
-  pub body_list : {x : TreeRead} → t ≡ 4 → x ≡ tree_at end (measure_several 0 (measure_tree k (levels - 1) 2 around) s) → x ≡ tree_at end (measure_body k levels around t s)
+  pub body_list : {x : Result (Extent × Cursor) Refusal} → t ≡ 4 → x ≡ read_at end (measure_several 0 (measure_tree k (levels - 1) 2 around) s) → x ≡ read_at end (measure_body k levels around t s)
   unfolding measure_body body_with
   body_list e a = rw e a
 
-  pub body_object : {x : TreeRead} → t ≡ 5 → x ≡ tree_at end (measure_object k.symbols k.scopes levels s) → x ≡ tree_at end (measure_body k levels around t s)
+  pub body_object : {x : Result (Extent × Cursor) Refusal} → t ≡ 5 → x ≡ read_at end (measure_object k.symbols k.scopes levels s) → x ≡ read_at end (measure_body k levels around t s)
   unfolding measure_body body_with
   body_object e a = rw e a
 
-  pub body_none : (t ≡ 0 → ⊥) → (t ≡ 1 → ⊥) → (t ≡ 2 → ⊥) → (t ≡ 3 → ⊥) → (t ≡ 4 → ⊥) → (t ≡ 5 → ⊥) → Fault Layout ≡ tree_at end (measure_body k levels around t s)
+  pub body_none : (t ≡ 0 → ⊥) → (t ≡ 1 → ⊥) → (t ≡ 2 → ⊥) → (t ≡ 3 → ⊥) → (t ≡ 4 → ⊥) → (t ≡ 5 → ⊥) → Err Layout ≡ read_at end (measure_body k levels around t s)
   unfolding measure_body body_with
   body_none a b c d e f = go t a b c d e f
     where
-      go : (t : ℕ) → (t ≡ 0 → ⊥) → (t ≡ 1 → ⊥) → (t ≡ 2 → ⊥) → (t ≡ 3 → ⊥) → (t ≡ 4 → ⊥) → (t ≡ 5 → ⊥) → Fault Layout ≡ tree_at end (measure_body k levels around t s)
+      go : (t : ℕ) → (t ≡ 0 → ⊥) → (t ≡ 1 → ⊥) → (t ≡ 2 → ⊥) → (t ≡ 3 → ⊥) → (t ≡ 4 → ⊥) → (t ≡ 5 → ⊥) → Err Layout ≡ read_at end (measure_body k levels around t s)
       go zero a b c d e f = absurd (a refl)
       go (suc zero) a b c d e f = absurd (b refl)
       go (suc (suc zero)) a b c d e f = absurd (c refl)
@@ -165,40 +149,40 @@ module _ (end : ℕ) (k : Counts) (levels : ℕ) (around : List ℕ) (t : ℕ) (
 
 -- ---- several trees
 
-module _ (at least : ℕ) (k : Counts) (levels low : ℕ) (around s : List ℕ) {r : Number} (h : r ≡ number_at (at + length s) (num s)) where
-  pub several-stops : {f : Refusal} → r ≡ number.Fault f → Fault f ≡ tree_at (at + length s) (measure_several least (measure_tree k levels low around) s)
+module _ (at least : ℕ) (k : Counts) (levels low : ℕ) (around s : List ℕ) {r : Result (ℕ × Cursor) Refusal} (h : r ≡ read_at (at + length s) (num s)) where
+  pub several-stops : {f : Refusal} → r ≡ Err f → Err f ≡ read_at (at + length s) (measure_several least (measure_tree k levels low around) s)
   unfolding measure_several
-  several-stops e = stops number_shape Read Fault (at + length s) (num s) _ h e
+  several-stops e = stops read_shape beside (at + length s) (num s) _ h e
 
-  module _ {c : ℕ} {past : Cursor} (e : r ≡ number.Read c past) where
-    pub several-few : c < least → Fault Layout ≡ tree_at (at + length s) (measure_several least (measure_tree k levels low around) s)
+  module _ {c : ℕ} {past : Cursor} (e : r ≡ Ok (c, past)) where
+    pub several-few : c < least → Err Layout ≡ read_at (at + length s) (measure_several least (measure_tree k levels low around) s)
     unfolding measure_several
-    several-few l = refuses number_shape Read Fault at (num s) _ h e (num_tail s) (λ u. rw (lt-leb least c l))
+    several-few l = refuses read_shape beside at (num s) _ h e (num_tail s) (λ u. rw (lt-leb least c l))
 
-    module _ {u : List ℕ} {x : TreeRead} (l : least ≤ c) (i : u ≡ drop (past.at - at) s) (q : x ≡ tree_at (past.at + length u) (measure_all c nothing (measure_tree k levels low around) u)) where
-      pub several_all_stop : {f : Refusal} → x ≡ Fault f → Fault f ≡ tree_at (at + length s) (measure_several least (measure_tree k levels low around) s)
+    module _ {u : List ℕ} {x : Result (Extent × Cursor) Refusal} (l : least ≤ c) (i : u ≡ drop (past.at - at) s) (q : x ≡ read_at (past.at + length u) (measure_all c nothing (measure_tree k levels low around) u)) where
+      pub several_all_stop : {f : Refusal} → x ≡ Err f → Err f ≡ read_at (at + length s) (measure_several least (measure_tree k levels low around) s)
       unfolding measure_several
       several_all_stop d =
-          goes number_shape Read Fault at (num s) _ h e (num_tail s) i
-          (rw (le-leb least c l) (stops tree_shape Read Fault (past.at + length u) (measure_all c nothing (measure_tree k levels low around) u) _ q d))
+          goes read_shape beside at (num s) _ h e (num_tail s) i
+          (rw (le-leb least c l) (stops read_shape beside (past.at + length u) (measure_all c nothing (measure_tree k levels low around) u) _ q d))
 
-      pub several-read : {x' : Extent} {end : Cursor} → x ≡ Read x' end → Read (record { size = x'.size + 1; owned = x'.owned }) end ≡ tree_at (at + length s) (measure_several least (measure_tree k levels low around) s)
+      pub several-read : {x' : Extent} {end : Cursor} → x ≡ Ok (x', end) → Ok ((record { size = x'.size + 1; owned = x'.owned }), end) ≡ read_at (at + length s) (measure_several least (measure_tree k levels low around) s)
       unfolding measure_several
       several-read d =
-          goes number_shape Read Fault at (num s) _ h e (num_tail s) i
-          (rw (le-leb least c l) (gives tree_shape Read Fault past.at (measure_all c nothing (measure_tree k levels low around) u) _ q d (all_trees_tail k levels low around c u) (λ w. refl)))
+          goes read_shape beside at (num s) _ h e (num_tail s) i
+          (rw (le-leb least c l) (gives read_shape beside past.at (measure_all c nothing (measure_tree k levels low around) u) _ q d (all_trees_tail k levels low around c u) (λ w. refl)))
 
-pub all-fits : (at : ℕ) (k : Counts) (levels low : ℕ) (around : List ℕ) (c : ℕ) (u : List ℕ) {x : TreeRead} {e : Extent} {end : Cursor}
-    → x ≡ tree_at (at + length u) (measure_all c nothing (measure_tree k levels low around) u) → x ≡ Read e end → at + length u ≤ 65536 → e.size + 1 < 4294967296
+pub all-fits : (at : ℕ) (k : Counts) (levels low : ℕ) (around : List ℕ) (c : ℕ) (u : List ℕ) {x : Result (Extent × Cursor) Refusal} {e : Extent} {end : Cursor}
+    → x ≡ read_at (at + length u) (measure_all c nothing (measure_tree k levels low around) u) → x ≡ Ok (e, end) → at + length u ≤ 65536 → Fits w32 (e.size + 1)
 all-fits at k levels low around c u {e = e} {end = end} q d l =
-    let T : Took at u (measure_all c nothing (measure_tree k levels low around) u) e end.at = took tree_shape q d (all_trees_tail k levels low around c u) in
+    let T : Took at u (measure_all c nothing (measure_tree k levels low around) u) e end.at = took read_shape q d (all_trees_tail k levels low around c u) in
     let z = all_small k levels low around c u T.is in
     omega arith
 
-pub tree-fits : (at : ℕ) (k : Counts) (levels low : ℕ) (around u : List ℕ) {x : TreeRead} {e : Extent} {end : Cursor}
-    → x ≡ tree_at (at + length u) (measure_tree k levels low around u) → x ≡ Read e end → at + length u ≤ 65536 → e.size + 1 < 4294967296
+pub tree-fits : (at : ℕ) (k : Counts) (levels low : ℕ) (around u : List ℕ) {x : Result (Extent × Cursor) Refusal} {e : Extent} {end : Cursor}
+    → x ≡ read_at (at + length u) (measure_tree k levels low around u) → x ≡ Ok (e, end) → at + length u ≤ 65536 → Fits w32 (e.size + 1)
 tree-fits at k levels low around u {e = e} {end = end} q d l =
-    let T : Took at u (measure_tree k levels low around u) e end.at = took tree_shape q d (tree_tail k levels low around u) in
+    let T : Took at u (measure_tree k levels low around u) e end.at = took read_shape q d (tree_tail k levels low around u) in
     let z = tree-small k levels low around u T.is in
     omega arith
 
@@ -211,8 +195,8 @@ pub record All (at : ℕ) (k : Counts) (levels low : ℕ) (s around₀ : List �
   pub small : at + size ≤ place
   pub is : measure_all count nothing (measure_tree k levels low around₀) s ≡ measure_all left (record { size = size; owned = owned }) (measure_tree k levels low around₀) (drop (place - at) s)
 
-pub all_start : {at : ℕ} {k : Counts} {levels low : ℕ} {s around : List ℕ} {count : ℕ} → All at k levels low s around count around at count 0 true
-all_start {at} = let e : at - at ≡ 0 = omega arith in record { same = refl; moved = omega arith; within = omega arith; small = omega arith; is = rw e }
+pub all_start : {at : ℕ} {k : Counts} {levels low : ℕ} {s around : List ℕ} {count left : ℕ} → left ≡ count → All at k levels low s around count around at left 0 true
+all_start {at} q = let e : at - at ≡ 0 = omega arith in record { same = refl; moved = omega arith; within = omega arith; small = omega arith; is = rw (e, q) }
 
 all_more_is : (part : Reader Extent) (left : ℕ) (sum : Extent) (s : List ℕ) → 0 < left → measure_all left sum part s ≡ next (part s) (λ e. measure_all (left - 1) (joined sum e) part)
 unfolding measure_all
@@ -226,7 +210,7 @@ module _ {at : ℕ} {k : Counts} {levels low : ℕ} {s around₀ : List ℕ} {co
   pub all-names : {names : ℕ} → names ≤ length around₀ → names ≤ length around
   all-names h = let e = ap length c.same in omega arith
 
-  pub all_read : {p : Cursor} → place ≡ p.at → left ≤ 0 → Read (record { size = size; owned = owned }) p ≡ tree_at (at + length s) (measure_all count nothing (measure_tree k levels low around₀) s)
+  pub all_read : {p : Cursor} → place ≡ p.at → left ≤ 0 → Ok ((record { size = size; owned = owned }), p) ≡ read_at (at + length s) (measure_all count nothing (measure_tree k levels low around₀) s)
   unfolding measure_all
   all_read {p} q h =
       let x = c.moved in
@@ -234,21 +218,21 @@ module _ {at : ℕ} {k : Counts} {levels low : ℕ} {s around₀ : List ℕ} {co
       let e : left ≡ 0 = omega arith in
       let l = length-drop (place - at) s in
       let z : at + length s - length (drop (place - at) s) ≡ p.at = omega arith in
-      sym (ap (tree_at (at + length s)) c.is ∙ rw (e, z))
+      sym (ap (read_at (at + length s)) c.is ∙ rw (e, z))
 
-  module _ (some : 0 < left) {u : List ℕ} (i : u ≡ drop (place - at) s) {r : TreeRead} (h : r ≡ tree_at (place + length u) (measure_tree k levels low around u)) where
-    there : r ≡ tree_at (place + length u) (measure_tree k levels low around₀ u)
-    there = h ∙ ap (λ (l : List ℕ). tree_at (place + length u) (measure_tree k levels low l u)) c.same
+  module _ (some : 0 < left) {u : List ℕ} (i : u ≡ drop (place - at) s) {r : Result (Extent × Cursor) Refusal} (h : r ≡ read_at (place + length u) (measure_tree k levels low around u)) where
+    there : r ≡ read_at (place + length u) (measure_tree k levels low around₀ u)
+    there = h ∙ ap (λ (l : List ℕ). read_at (place + length u) (measure_tree k levels low l u)) c.same
 
     step : measure_all count nothing (measure_tree k levels low around₀) s ≡ next (measure_tree k levels low around₀ u) (λ e. measure_all (left - 1) (joined (record { size = size; owned = owned }) e) (measure_tree k levels low around₀))
     step = c.is ∙ ap (measure_all left (record { size = size; owned = owned }) (measure_tree k levels low around₀)) (sym i) ∙ all_more_is (measure_tree k levels low around₀) left (record { size = size; owned = owned }) u some
 
-    pub part-stops : {f : Refusal} → r ≡ Fault f → Fault f ≡ tree_at (at + length s) (measure_all count nothing (measure_tree k levels low around₀) s)
-    part-stops {f} e = sym (ap (tree_at (at + length s)) step ∙ rw (refused tree_shape (place + length u) (measure_tree k levels low around₀ u) there e, case_back))
+    pub part-stops : {f : Refusal} → r ≡ Err f → Err f ≡ read_at (at + length s) (measure_all count nothing (measure_tree k levels low around₀) s)
+    part-stops {f} e = sym (ap (read_at (at + length s)) step ∙ rw (refused read_shape (place + length u) (measure_tree k levels low around₀ u) there e, case_back))
 
-    module _ {x : Extent} {past : Cursor} (e : r ≡ Read x past) where
+    module _ {x : Extent} {past : Cursor} (e : r ≡ Ok (x, past)) where
       T : Took place u (measure_tree k levels low around₀ u) x past.at
-      T = took tree_shape there e (tree_tail k levels low around₀ u)
+      T = took read_shape there e (tree_tail k levels low around₀ u)
 
       long : length u ≡ length s - (place - at)
       long = ap length i ∙ length-drop (place - at) s
@@ -266,7 +250,7 @@ module _ {at : ℕ} {k : Counts} {levels low : ℕ} {s around₀ : List ℕ} {co
           let y = T.ends in
           omega arith
 
-      pub part-fits : at + length s ≤ 65536 → size + x.size < 4294967296
+      pub part-fits : at + length s ≤ 65536 → Fits w32 (size + x.size)
       part-fits l =
           let z = spent in
           let a = c.small in
@@ -276,8 +260,9 @@ module _ {at : ℕ} {k : Counts} {levels low : ℕ} {s around₀ : List ℕ} {co
           let o = c.moved in
           omega arith
 
-      pub part-more : {around' : List ℕ} {b : Bool} → around' ≡ around → b ≡ (owned && x.owned) → All at k levels low s around₀ count around' past.at (left - 1) (size + x.size) b
-      part-more {around'} {b} f g =
+      pub part-more : {around' : List ℕ} {b : Bool} {next : ℕ} → next + 1 ≡ left → around' ≡ around → b ≡ (owned && x.owned) → All at k levels low s around₀ count around' past.at next (size + x.size) b
+      part-more {around'} {b} {next} q f g =
+          let j : left - 1 ≡ next = omega arith in
           let z = spent in
           let a = c.small in
           let d = c.within in
@@ -289,7 +274,7 @@ module _ {at : ℕ} {k : Counts} {levels low : ℕ} {s around₀ : List ℕ} {co
             moved = omega arith;
             within = omega arith;
             small = omega arith;
-            is = step ∙ rw (T.is, rest, g);
+            is = step ∙ rw (T.is, rest, g, j);
           }
 
 pub all_same : {at : ℕ} {k : Counts} {levels low : ℕ} {s around₀ : List ℕ} {count : ℕ} {around : List ℕ} {place left size : ℕ} {owned : Bool} {around' : List ℕ}
@@ -302,23 +287,23 @@ all-long c e = ap length (e ∙ c.same)
 
 -- ---- a function
 
-module _ (at : ℕ) (k : Counts) (levels : ℕ) (around s : List ℕ) {r : Number} (h : r ≡ number_at (at + length s) (num_below k.names s)) where
-  pub function_stops : {f : Refusal} → r ≡ number.Fault f → Fault f ≡ tree_at (at + length s) (measure_function k levels around s)
+module _ (at : ℕ) (k : Counts) (levels : ℕ) (around s : List ℕ) {r : Result (ℕ × Cursor) Refusal} (h : r ≡ read_at (at + length s) (num_below k.names s)) where
+  pub function_stops : {f : Refusal} → r ≡ Err f → Err f ≡ read_at (at + length s) (measure_function k levels around s)
   unfolding measure_function function_with
-  function_stops e = stops number_shape Read Fault (at + length s) (num_below k.names s) _ h e
+  function_stops e = stops read_shape beside (at + length s) (num_below k.names s) _ h e
 
-  module _ {n : ℕ} {past : Cursor} {u : List ℕ} {x : TreeRead} (e : r ≡ number.Read n past) (i : u ≡ drop (past.at - at) s) (q : x ≡ tree_at (past.at + length u) (measure_tree k levels 0 (set around n 1) u)) where
-    pub function_body_stops : {f : Refusal} → x ≡ Fault f → Fault f ≡ tree_at (at + length s) (measure_function k levels around s)
+  module _ {n : ℕ} {past : Cursor} {u : List ℕ} {x : Result (Extent × Cursor) Refusal} (e : r ≡ Ok (n, past)) (i : u ≡ drop (past.at - at) s) (q : x ≡ read_at (past.at + length u) (measure_tree k levels 0 (set around n 1) u)) where
+    pub function_body_stops : {f : Refusal} → x ≡ Err f → Err f ≡ read_at (at + length s) (measure_function k levels around s)
     unfolding measure_function function_with
     function_body_stops d =
-        goes number_shape Read Fault at (num_below k.names s) _ h e (below_tail k.names s) i
-        (stops tree_shape Read Fault (past.at + length u) (measure_tree k levels 0 (set around n 1) u) _ q d)
+        goes read_shape beside at (num_below k.names s) _ h e (below_tail k.names s) i
+        (stops read_shape beside (past.at + length u) (measure_tree k levels 0 (set around n 1) u) _ q d)
 
-    pub function_read : {x' : Extent} {end : Cursor} → x ≡ Read x' end → Read (record { size = x'.size + 1; owned = x'.owned }) end ≡ tree_at (at + length s) (measure_function k levels around s)
+    pub function_read : {x' : Extent} {end : Cursor} → x ≡ Ok (x', end) → Ok ((record { size = x'.size + 1; owned = x'.owned }), end) ≡ read_at (at + length s) (measure_function k levels around s)
     unfolding measure_function function_with
     function_read d =
-        goes number_shape Read Fault at (num_below k.names s) _ h e (below_tail k.names s) i
-        (gives tree_shape Read Fault past.at (measure_tree k levels 0 (set around n 1) u) _ q d (tree_tail k levels 0 (set around n 1) u) (λ w. refl))
+        goes read_shape beside at (num_below k.names s) _ h e (below_tail k.names s) i
+        (gives read_shape beside past.at (measure_tree k levels 0 (set around n 1) u) _ q d (tree_tail k levels 0 (set around n 1) u) (λ w. refl))
 
 -- the name is around the body alone
 pub around_back : {around after : List ℕ} (n : ℕ) {before : ℕ} → after ≡ set around n 1 → before ≡ get_or around n 0 → set after n before ≡ around
@@ -362,59 +347,53 @@ unfolding at_end
 end-not [] e = absurd (e refl)
 end-not (b ∷ s) e = refl
 
-module _ {A X : Type 0} {read : A → Cursor → X} {refuse : Refusal → X} (S : Shape read refuse) (at : ℕ) (root : Reader A) (s : List ℕ) (tail : Tail s (root s)) {r : X} (h : r ≡ answer_at read refuse (at + length s) (root s)) where
-  root-stops : {f : Refusal} → r ≡ refuse f → refuse f ≡ answer_at read refuse (at + length s) (then_end root s)
+module _ {A : Type 0} (at : ℕ) (root : Reader A) (s : List ℕ) (tail : Tail s (root s)) {r : Result (A × Cursor) Refusal} (h : r ≡ read_at (at + length s) (root s)) where
+  root-stops : {f : Refusal} → r ≡ Err f → Err f ≡ read_at (at + length s) (then_end root s)
   unfolding then_end
-  root-stops e = stops S read refuse (at + length s) (root s) _ h e
+  root-stops e = stops read_shape beside (at + length s) (root s) _ h e
 
-  module _ {a : A} {past : Cursor} {u : List ℕ} (e : r ≡ read a past) (i : u ≡ drop (past.at - at) s) where
-    root_ends : length u ≡ 0 → read a past ≡ answer_at read refuse (at + length s) (then_end root s)
+  module _ {a : A} {past : Cursor} {u : List ℕ} (e : r ≡ Ok (a, past)) (i : u ≡ drop (past.at - at) s) where
+    root_ends : length u ≡ 0 → Ok (a, past) ≡ read_at (at + length s) (then_end root s)
     unfolding then_end
     root_ends z =
         let p : past.at + length u - length u ≡ past.at = omega arith in
-        goes S read refuse at (root s) _ h e tail i (rw (end_is u z, p))
+        goes read_shape beside at (root s) _ h e tail i (rw (end_is u z, p))
 
-    root-more : (length u ≡ 0 → ⊥) → refuse Layout ≡ answer_at read refuse (at + length s) (then_end root s)
+    root-more : (length u ≡ 0 → ⊥) → Err Layout ≡ read_at (at + length s) (then_end root s)
     unfolding then_end
-    root-more z = goes S read refuse at (root s) _ h e tail i (rw (end-not u z))
+    root-more z = goes read_shape beside at (root s) _ h e tail i (rw (end-not u z))
 
-module _ (at : ℕ) (k : Counts) (s : List ℕ) {r : Number} (h : r ≡ number_at (at + length s) (measure_stx k.symbols k.scopes 64 s)) where
-  pub syntax-stops : {f : Refusal} → r ≡ number.Fault f → number.Fault f ≡ number_at (at + length s) (whole_syntax k s)
+module _ (at : ℕ) (k : Counts) (s : List ℕ) {r : Result (ℕ × Cursor) Refusal} (h : r ≡ read_at (at + length s) (measure_stx k.symbols k.scopes 64 s)) where
+  pub syntax-stops : {f : Refusal} → r ≡ Err f → Err f ≡ read_at (at + length s) (whole_syntax k s)
   unfolding whole_syntax
-  syntax-stops e = root-stops number_shape at (measure_stx k.symbols k.scopes 64) s (object_tail k.symbols k.scopes 64 s) h e
+  syntax-stops e = root-stops at (measure_stx k.symbols k.scopes 64) s (object_tail k.symbols k.scopes 64 s) h e
 
-  module _ {n : ℕ} {past : Cursor} {u : List ℕ} (e : r ≡ number.Read n past) (i : u ≡ drop (past.at - at) s) where
-    pub syntax-ends : length u ≡ 0 → number.Read n past ≡ number_at (at + length s) (whole_syntax k s)
+  module _ {n : ℕ} {past : Cursor} {u : List ℕ} (e : r ≡ Ok (n, past)) (i : u ≡ drop (past.at - at) s) where
+    pub syntax-ends : length u ≡ 0 → Ok (n, past) ≡ read_at (at + length s) (whole_syntax k s)
     unfolding whole_syntax
-    syntax-ends z = root_ends number_shape at (measure_stx k.symbols k.scopes 64) s (object_tail k.symbols k.scopes 64 s) h e i z
+    syntax-ends z = root_ends at (measure_stx k.symbols k.scopes 64) s (object_tail k.symbols k.scopes 64 s) h e i z
 
-    pub syntax-more : (length u ≡ 0 → ⊥) → number.Fault Layout ≡ number_at (at + length s) (whole_syntax k s)
+    pub syntax-more : (length u ≡ 0 → ⊥) → Err Layout ≡ read_at (at + length s) (whole_syntax k s)
     unfolding whole_syntax
-    syntax-more z = root-more number_shape at (measure_stx k.symbols k.scopes 64) s (object_tail k.symbols k.scopes 64 s) h e i z
+    syntax-more z = root-more at (measure_stx k.symbols k.scopes 64) s (object_tail k.symbols k.scopes 64 s) h e i z
 
 pub none_is : replicate 1024 0 ≡ none_around
 unfolding none_around
 none_is = refl
 
-module _ (levels low at : ℕ) (k : Counts) (around s : List ℕ) (none : around ≡ none_around) {r : TreeRead} (h : r ≡ tree_at (at + length s) (measure_tree k levels low around s)) where
-  from-none : r ≡ tree_at (at + length s) (measure_tree k levels low none_around s)
-  from-none = h ∙ ap (λ (l : List ℕ). tree_at (at + length s) (measure_tree k levels low l s)) none
+module _ (levels low at : ℕ) (k : Counts) (around s : List ℕ) (none : around ≡ none_around) {r : Result (Extent × Cursor) Refusal} (h : r ≡ read_at (at + length s) (measure_tree k levels low around s)) where
+  from-none : r ≡ read_at (at + length s) (measure_tree k levels low none_around s)
+  from-none = h ∙ ap (λ (l : List ℕ). read_at (at + length s) (measure_tree k levels low l s)) none
 
-  pub whole-stops : {f : Refusal} → r ≡ Fault f → Fault f ≡ tree_at (at + length s) (whole_tree k levels low s)
+  pub whole-stops : {f : Refusal} → r ≡ Err f → Err f ≡ read_at (at + length s) (whole_tree k levels low s)
   unfolding whole_tree
-  whole-stops e = root-stops tree_shape at (measure_tree k levels low none_around) s (tree_tail k levels low none_around s) from-none e
+  whole-stops e = root-stops at (measure_tree k levels low none_around) s (tree_tail k levels low none_around s) from-none e
 
-  module _ {x : Extent} {past : Cursor} {u : List ℕ} (e : r ≡ Read x past) (i : u ≡ drop (past.at - at) s) where
-    pub whole-ends : length u ≡ 0 → Read x past ≡ tree_at (at + length s) (whole_tree k levels low s)
+  module _ {x : Extent} {past : Cursor} {u : List ℕ} (e : r ≡ Ok (x, past)) (i : u ≡ drop (past.at - at) s) where
+    pub whole-ends : length u ≡ 0 → Ok (x, past) ≡ read_at (at + length s) (whole_tree k levels low s)
     unfolding whole_tree
-    whole-ends z = root_ends tree_shape at (measure_tree k levels low none_around) s (tree_tail k levels low none_around s) from-none e i z
+    whole-ends z = root_ends at (measure_tree k levels low none_around) s (tree_tail k levels low none_around s) from-none e i z
 
-    pub whole-more : (length u ≡ 0 → ⊥) → Fault Layout ≡ tree_at (at + length s) (whole_tree k levels low s)
+    pub whole-more : (length u ≡ 0 → ⊥) → Err Layout ≡ read_at (at + length s) (whole_tree k levels low s)
     unfolding whole_tree
-    whole-more z = root-more tree_shape at (measure_tree k levels low none_around) s (tree_tail k levels low none_around s) from-none e i z
-
-pub ruleset leaf_laws = (variable-stops, variable-read, name-inside, atom-stops, content-stops, atom-read, object-stops, object-read)
-
-pub ruleset tree_laws = (tree_tail, tree-moved, tree-within, tree_deep, tree-stops, tree-low, tree-goes, positive, body_variable, body_application, body_function, body_atom, body_list, body_object, body_none, several-stops, several-few, several_all_stop, several-read, all-fits, tree-fits, all_start, all-inside, inside-fits, all-names, all_read, part-stops, part-fits, part-more, all_same, all-long, function_stops, function_body_stops, function_read, around_back, around-long, still_inside, names-inside, name-inside, body_less, several_less, function_less, all_less, tree_less)
-
-pub ruleset root_laws = (object_tail, none_is, syntax-stops, syntax-ends, syntax-more, whole-stops, whole-ends, whole-more)
+    whole-more z = root-more at (measure_tree k levels low none_around) s (tree_tail k levels low none_around s) from-none e i z

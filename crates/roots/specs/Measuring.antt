@@ -1,20 +1,13 @@
 -- What the code keeps of a tree that it reads: the charge for loading it, and whether each variable of it, outside syntax values, has
 -- an enclosing function of its name. `around` holds for each name whether a function of that name is around the place: not 0.
-use Rattle.std.specs.Prelude.{ℕ, zero, suc, ◌+◌, ◌-◌, Bool, true, false, not, ◌&&◌, List, eqb, leb, get_or, set, replicate}
+use Rattle.std.specs.Prelude.{ℕ, zero, suc, ◌+◌, ◌-◌, true, not, ◌&&◌, List, eqb, leb, get_or, set, replicate}
 use Rattle.model.specs.Refusals.{layout, over_limit}
-use Rattle.model.specs.Reading as m
 use Rattle.model.specs.Reading.{Reader, ◌>>=◌, ◌>>◌, give, fail, need, num, num_below, at_end}
-use Rattle.numbers.specs.Answers.{answer_at}
 use Rattle.numbers.specs.Limits.{most_nesting}
 use Rattle.roots.specs.MeasuredObjects.{read_content_of, measure_stx}
 use Rattle.head.specs.declared.Counts.{Counts}
 use Rattle.head.specs.Fronts.{most_names}
 use Rattle.roots.specs.declared.Extent.{Extent}
-use Rattle.roots.specs.declared.TreeRead.{TreeRead}
-use Rattle.roots.specs.declared.TreeRead.TheVariants.{Read, Fault}
-
-abbrev pub tree_at : ℕ → m.Read Extent → TreeRead
-tree_at end g = answer_at Read Fault end g
 
 -- of no parts
 abbrev pub nothing : Extent

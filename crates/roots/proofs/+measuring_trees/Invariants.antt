@@ -17,8 +17,5 @@ decreases-measure_several l = 4 * l.levels + 2
 abbrev pub decreases-measure_tree : goal.decreases-measure_tree
 decreases-measure_tree l = 4 * l.levels
 
-abbrev pub invariant-measure_all-loop-left : goal.invariant-measure_all-loop-left
-invariant-measure_all-loop-left l = All l.c.at l.counts l.levels l.low l.s l.initial.around l.count l.around l.here.at l.left l.size l.owned
-
-abbrev pub decreases-measure_all-loop-left : goal.decreases-measure_all-loop-left
-decreases-measure_all-loop-left l = l.left
+abbrev pub invariant-measure_all-loop : goal.invariant-measure_all-loop
+invariant-measure_all-loop l = All l.c.at l.counts l.levels l.low l.s l.initial.around l.count l.around l.here.at (l.count - l.counter) l.size l.owned

@@ -11,8 +11,5 @@ decreases-measure_object l = 3 * l.levels
 abbrev pub decreases-measure_parts : goal.decreases-measure_parts
 decreases-measure_parts l = 3 * l.levels + 1
 
-abbrev pub invariant-measure_parts-loop-left : goal.invariant-measure_parts-loop-left
-invariant-measure_parts-loop-left l = Parts l.c.at l.symbols l.scopes l.levels l.s l.count l.here.at l.left l.sum
-
-abbrev pub decreases-measure_parts-loop-left : goal.decreases-measure_parts-loop-left
-decreases-measure_parts-loop-left l = l.left
+abbrev pub invariant-measure_parts-loop : goal.invariant-measure_parts-loop
+invariant-measure_parts-loop l = Parts l.c.at l.symbols l.scopes l.levels l.s l.count l.here.at (l.count - l.counter) l.sum

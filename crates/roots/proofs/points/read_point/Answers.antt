@@ -1,9 +1,10 @@
-use Rattle.std.proofs.Common.{rules, ◌-◌}
+use Rattle.std.proofs.Common.{refl}
 use Rattle.roots.proofs.points.read_point.Goals as goal
-use Rattle.roots.proofs.PointLaws.{point_laws}
+use Rattle.refusals.proofs.Handing.{handed_on}
+use Rattle.roots.proofs.PointLaws.{point-read, point-refused}
 
-pub returns-in-Read : goal.returns-in-Read
-returns-in-Read c = search (point_laws, rules)
+pub returns-in_err-n : goal.returns-in_err-n
+returns-in_err-n c = point-refused _ _ c.number_up_to.ensures c.in_err-n.was (handed_on c.from_residual.ensures.1 refl)
 
-pub returns-in-Fault : goal.returns-in-Fault
-returns-in-Fault c = search (point_laws, rules)
+pub returns : goal.returns
+returns c = point-read _ _ c.number_up_to.ensures c.in_ok-n.was
