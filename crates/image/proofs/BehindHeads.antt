@@ -1,21 +1,17 @@
 -- The bindings and the root behind them: one law for each way out.
+use Rattle.std.specs.Prelude.{Result, Ok, Err}
 use Prim.Native.Nat.{ℕ, ◌+◌, ◌-◌, ◌≤◌}
 use mathlib.Core.Path.{◌≡◌, refl, ap, subst}
 use mathlib.Core.List.{List, [], ◌∷◌}
 use native.Mathlib.Omega.{arith}
 use lib.ListN.{length, drop}
-use Rattle.model.specs.Resolving.{Bind}
 use Rattle.model.specs.Reading.{Read, got, fault, next, at_end}
 use Rattle.refusals.specs.Refusing.{refusal_of}
 use Rattle.refusals.specs.declared.Refusal.{Refusal}
 use Rattle.numbers.specs.declared.Cursor.{Cursor}
-use Rattle.numbers.specs.declared.Number.{Number}
-use Rattle.numbers.specs.declared.Number.TheVariants as number
-use Rattle.numbers.specs.declared.Place.{Place}
-use Rattle.numbers.specs.declared.Place.TheVariants as place
-use Rattle.numbers.specs.Answers.{number_at, seen_at}
+use Rattle.numbers.specs.Answers.{read_at, seen}
 use Rattle.numbers.proofs.Tails.{Tail}
-use Rattle.numbers.proofs.Answering.{Took, took, refused, number_shape, seen_shape, whole, seen-refused}
+use Rattle.numbers.proofs.Answering.{Took, took, refused, read_shape, whole, seen-refused}
 use Rattle.store.specs.Words.{binds_of}
 use Rattle.roots.specs.MeasuredObjects.{measure_stx}
 use Rattle.roots.proofs.ObjectSizes.{object_tail}
@@ -28,8 +24,6 @@ use Rattle.head.specs.declared.Front.{Front}
 use Rattle.head.specs.Heads.{declares}
 use Rattle.image.specs.Judging.{measure_rest, RestGood, BehindHead}
 use Rattle.image.specs.declared.Judgement.{Judgement}
-use Rattle.image.specs.declared.Judged.TheVariants as judged
-use Rattle.image.proofs.Heads.{counted-scopes}
 
 -- ---- the end of the image
 
@@ -51,36 +45,36 @@ last-whole n s k left e = then_whole (measure_stx n.symbols n.scopes 64 s) k lef
 -- ---- the bindings and the root
 
 module _ (f : Front) (s l : List ℕ) where
-  rest-bad : {x : Refusal} → measure_rest (declares f.head) s ≡ fault (refusal_of x) → BehindHead f s l (judged.Fault x)
+  rest-bad : {x : Refusal} → measure_rest (declares f.head) s ≡ fault (refusal_of x) → BehindHead f s l (Err x)
   rest-bad g = record { is = g; good = λ j e. (let z : ◌≡◌ {A = ℕ} 0 1 = cc in absurd (omega arith)) }
 
-  module _ {n : Counts} (ne : n ≡ declares f.head) {bs : List Bind} {q : Place} (h : record { value = bs; end = q } ≡ seen_at [] (f.end + length s) (read_all n s)) where
-    seen : record { value = bs; end = q } ≡ seen_at [] (f.end + length s) (read_all (declares f.head) s)
-    seen = subst (λ (k : Counts). record { value = bs; end = q } ≡ seen_at [] (f.end + length s) (read_all k s)) ne h
+  module _ {n : Counts} (ne : n ≡ declares f.head) (q : Result (ℕ × Cursor) Refusal) (h : seen (binds_of l) q ≡ read_at (f.end + length s) (read_all n s)) where
+    declared : seen (binds_of l) q ≡ read_at (f.end + length s) (read_all (declares f.head) s)
+    declared = subst (λ (k : Counts). seen (binds_of l) q ≡ read_at (f.end + length s) (read_all k s)) ne h
 
-    pub binds_stop : {x : Refusal} → q ≡ place.Fault x → BehindHead f s l (judged.Fault x)
+    pub binds_stop : {x : Refusal} {y : Result Judgement Refusal} → q ≡ Err x → y ≡ Err x → BehindHead f s l y
     unfolding measure_rest
-    binds_stop {x} e =
-        let g : read_all (declares f.head) s ≡ fault (refusal_of x) = seen-refused [] (f.end + length s) (read_all (declares f.head) s) seen e in
-        rest-bad (rw g)
+    binds_stop {x} e y =
+        let g : read_all (declares f.head) s ≡ fault (refusal_of x) = seen-refused (binds_of l) (f.end + length s) (read_all (declares f.head) s) declared e in
+        rw y (rest-bad (rw g))
 
-    module _ {past : Cursor} (e : q ≡ place.At past) {u : List ℕ} (i : u ≡ drop (past.at - f.end) s) {r : Number} (k : r ≡ number_at (past.at + length u) (whole_syntax n u)) where
-      held : Took f.end s (read_all (declares f.head) s) bs past.at
-      held = took (seen_shape []) seen (whole [] f.end s (read_all (declares f.head) s) seen e (all_tail (declares f.head) s)) (all_tail (declares f.head) s)
+    module _ {count : ℕ} {past : Cursor} (e : q ≡ Ok (count, past)) {u : List ℕ} (i : u ≡ drop (past.at - f.end) s) {r : Result (ℕ × Cursor) Refusal} (k : r ≡ read_at (past.at + length u) (whole_syntax n u)) where
+      held : Took f.end s (read_all (declares f.head) s) (binds_of l count) past.at
+      held = took read_shape declared (whole (binds_of l) f.end s (read_all (declares f.head) s) declared e (all_tail (declares f.head) s)) (all_tail (declares f.head) s)
 
-      rooted : r ≡ number_at (past.at + length u) (whole_syntax (declares f.head) u)
-      rooted = subst (λ (m : Counts). r ≡ number_at (past.at + length u) (whole_syntax m u)) ne k
+      rooted : r ≡ read_at (past.at + length u) (whole_syntax (declares f.head) u)
+      rooted = subst (λ (m : Counts). r ≡ read_at (past.at + length u) (whole_syntax m u)) ne k
 
-      pub rest-stops : {x : Refusal} → r ≡ number.Fault x → BehindHead f s l (judged.Fault x)
+      pub rest-stops : {x : Refusal} {y : Result Judgement Refusal} → r ≡ Err x → y ≡ Err x → BehindHead f s l y
       unfolding measure_rest
-      rest-stops {x} d =
-          let g : whole_syntax (declares f.head) u ≡ fault (refusal_of x) = refused number_shape (past.at + length u) (whole_syntax (declares f.head) u) rooted d in
-          rest-bad (rw (held.is, ← i, g))
+      rest-stops {x} d y =
+          let g : whole_syntax (declares f.head) u ≡ fault (refusal_of x) = refused read_shape (past.at + length u) (whole_syntax (declares f.head) u) rooted d in
+          rw y (rest-bad (rw (held.is, ← i, g)))
 
-      module _ {z : ℕ} {end : Cursor} (d : r ≡ number.Read z end) where
+      module _ {z : ℕ} {end : Cursor} (d : r ≡ Ok (z, end)) where
         -- the root, and that nothing is left behind it
         ended : whole_syntax (declares f.head) u ≡ got z (drop (end.at - past.at) u)
-        ended = let T : Took past.at u (whole_syntax (declares f.head) u) z end.at = took number_shape rooted d (last_tail (declares f.head) u) in T.is
+        ended = let T : Took past.at u (whole_syntax (declares f.head) u) z end.at = took read_shape rooted d (last_tail (declares f.head) u) in T.is
 
         measured : measure_stx (f.head.words + 4) f.head.scopes 64 (drop (past.at - f.end) s) ≡ got z []
         measured =
@@ -91,13 +85,9 @@ module _ (f : Front) (s l : List ℕ) where
         unfolding measure_rest whole_syntax then_end at_end
         sized = rw (held.is, measured)
 
-  module _ (count : ℕ) {n : Counts} (ne : n ≡ declares f.head) {q : Place} (h : record { value = binds_of l count; end = q } ≡ seen_at [] (f.end + length s) (read_all n s)) (few : count ≤ 512)
-      {past : Cursor} (e : q ≡ place.At past) {u : List ℕ} (i : u ≡ drop (past.at - f.end) s) {r : Number} (k : r ≡ number_at (past.at + length u) (whole_syntax n u)) where
-    pub rest-good : {z : ℕ} {end : Cursor} → r ≡ number.Read z end → BehindHead f s l (judged.Good (record { front = f; root = past.at; size = z; bindings = count }))
-    rest-good {z} d =
-        let T : Took f.end s (read_all (declares f.head) s) (binds_of l count) past.at = held ne h e i k in
-        let j : Judgement = record { front = f; root = past.at; size = z; bindings = count } in
-        let g : RestGood f s l j = record { front-is = refl; binds-read = T.is; few-binds = few; behind = T.moved; within = T.within; root_measured = measured ne h e i k d } in
-        record { is = sized ne h e i k d; good = λ j' y. (let p : j ≡ j' = cc in subst (RestGood f s l) p g) }
-
-pub ruleset behind_laws = (counted-scopes, binds_stop, rest-stops, rest-good, all_tail)
+        pub rest-good : count ≤ 512 → BehindHead f s l (Ok (record { front = f; root = past.at; size = z; bindings = count }))
+        rest-good few =
+            let T : Took f.end s (read_all (declares f.head) s) (binds_of l count) past.at = held in
+            let j : Judgement = record { front = f; root = past.at; size = z; bindings = count } in
+            let g : RestGood f s l j = record { front-is = refl; binds-read = T.is; few-binds = few; behind = T.moved; within = T.within; root_measured = measured } in
+            record { is = sized; good = λ j' y. (let p : j ≡ j' = cc in subst (RestGood f s l) p g) }

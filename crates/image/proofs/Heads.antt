@@ -1,4 +1,5 @@
 -- The head of an image that is a slice of bytes: what the definition read, and that it is written so.
+use Rattle.std.specs.Prelude.{Result, Ok, Err}
 use Prim.Native.Nat.{ℕ, suc, ◌+◌, ◌-◌, ◌≤◌, ◌<◌}
 use mathlib.Core.Path.{◌≡◌, refl, sym, ap, ◌∙◌}
 use mathlib.Core.List.{List, [], ◌∷◌, ◌++◌}
@@ -16,13 +17,12 @@ use Rattle.refusals.specs.Refusing.{refusal_of, case_of}
 use Rattle.refusals.proofs.Cases.{refusal_back}
 use Rattle.refusals.specs.declared.Refusal.{Refusal}
 use Rattle.numbers.specs.declared.Cursor.{Cursor}
+use Rattle.numbers.proofs.Answering.{ok_same}
 use borrow.Author.Tests.{le-leb, lt-leb}
 use Rattle.codec_laws.specs.WellFormed.{Bytes, HeadFits}
 use Rattle.codec_laws.proofs.HeadTrip.{head_w}
 use Rattle.head.specs.Heads.{head_of, head_at, declares}
 use Rattle.head.specs.declared.Head.{Head}
-use Rattle.head.specs.declared.HeadRead.{HeadRead}
-use Rattle.head.specs.declared.HeadRead.TheVariants as hd
 use Rattle.head.specs.declared.Counts.{Counts}
 use Rattle.head.specs.Fronts.{whole_head, Headed}
 
@@ -51,15 +51,15 @@ pub record HeadHere (kind : ℕ) (s : List ℕ) (h : Head) (end : ℕ) : Type 0 
   pub wrote : s ≡ head_bytes kind head ++ drop end s
   pub fits : HeadFits head
 
-pub head-here : (kind : ℕ) (s : List ℕ) → Bytes s → {q : HeadRead} → q ≡ head_at (length s) (read_head kind s) → {h : Head} {c : Cursor} → q ≡ hd.Read h c → HeadHere kind s h c.at
+pub head-here : (kind : ℕ) (s : List ℕ) → Bytes s → {q : Result (Head × Cursor) Refusal} → q ≡ head_at (length s) (read_head kind s) → {h : Head} {c : Cursor} → q ≡ Ok (h, c) → HeadHere kind s h c.at
 head-here kind s b a {h} {c} e = go (read_head kind s) refl (sym e ∙ a)
   where
-    go : (g : Read m.Head) → read_head kind s ≡ g → hd.Read h c ≡ head_at (length s) g → HeadHere kind s h c.at
+    go : (g : Read m.Head) → read_head kind s ≡ g → Ok (h, c) ≡ head_at (length s) g → HeadHere kind s h c.at
     go (fault x) i q = let z : ◌≡◌ {A = ℕ} 0 1 = cc in absurd (omega arith)
     go (got x rest) i q =
         let w = head_w kind x s rest b i in
-        let p : h ≡ head_of x = cc in
-        let o : c ≡ record { at = length s - length rest } = cc in
+        let p : h ≡ head_of x = ap (λ (y : Head × Cursor). y.0) (ok_same q) in
+        let o : c ≡ record { at = length s - length rest } = ap (λ (y : Head × Cursor). y.1) (ok_same q) in
         let d : c.at ≡ length s - length rest = ap (λ (y : Cursor). y.at) o in
         let l : length s ≡ length (head_bytes kind x) + length rest = ap length w.0.0 ∙ length-append (head_bytes kind x) rest in
         let ends : c.at ≡ length (head_bytes kind x) = omega arith in
@@ -74,10 +74,10 @@ head-here kind s b a {h} {c} e = go (read_head kind s) refl (sym e ∙ a)
           fits = w.1;
         }
 
-pub head-fault : (kind : ℕ) (s : List ℕ) {q : HeadRead} → q ≡ head_at (length s) (read_head kind s) → {f : Refusal} → q ≡ hd.Fault f → read_head kind s ≡ fault (refusal_of f)
+pub head-fault : (kind : ℕ) (s : List ℕ) {q : Result (Head × Cursor) Refusal} → q ≡ head_at (length s) (read_head kind s) → {f : Refusal} → q ≡ Err f → read_head kind s ≡ fault (refusal_of f)
 head-fault kind s a {f} e = go (read_head kind s) (sym e ∙ a)
   where
-    go : (g : Read m.Head) → hd.Fault f ≡ head_at (length s) g → g ≡ fault (refusal_of f)
+    go : (g : Read m.Head) → Err f ≡ head_at (length s) g → g ≡ fault (refusal_of f)
     go (got x rest) q = let z : ◌≡◌ {A = ℕ} 0 1 = cc in absurd (omega arith)
     go (fault x) q = let i : f ≡ case_of x = cc in ap fault (sym (refusal_back x) ∙ ap refusal_of (sym i))
 
@@ -130,7 +130,7 @@ module _ {kind : ℕ} {s : List ℕ} {h : Head} {end : ℕ} (H : HeadHere kind s
 
 -- ---- what the readers behind a head ask
 
-module _ (kind : ℕ) (s : List ℕ) (known : (i : ℕ) → Fits w8 (get_or s i 0)) {q : HeadRead} (a : q ≡ head_at (length s) (read_head kind s)) {h : Head} {c : Cursor} (e : q ≡ hd.Read h c) where
+module _ (kind : ℕ) (s : List ℕ) (known : (i : ℕ) → Fits w8 (get_or s i 0)) {q : Result (Head × Cursor) Refusal} (a : q ≡ head_at (length s) (read_head kind s)) {h : Head} {c : Cursor} (e : q ≡ Ok (h, c)) where
   H₀ : HeadHere kind s h c.at
   H₀ = head-here kind s (bytes_of s known) a e
 

@@ -1,4 +1,5 @@
 -- The whole syntax image: one law for each way out.
+use Rattle.std.specs.Prelude.{Result, Ok, Err}
 use Prim.Native.Nat.{ℕ, ◌+◌, ◌-◌, ◌≤◌, ◌<◌}
 use mathlib.Core.Path.{◌≡◌, refl, sym, ap, ◌∙◌, subst}
 use mathlib.Core.List.{List, []}
@@ -28,15 +29,11 @@ use Rattle.head.specs.declared.Counts.{Counts}
 use Rattle.bindings.proofs.Definition.{reads-binds}
 use Rattle.head.specs.Heads.{head_at, declares}
 use Rattle.head.specs.declared.Head.{Head}
-use Rattle.head.specs.declared.HeadRead.{HeadRead}
-use Rattle.head.specs.declared.HeadRead.TheVariants as hd
 use Rattle.head.specs.declared.Front.{Front}
 use Rattle.image.specs.Judging.{measure_rest, size_in, RestGood, BehindHead, syntax_kind, Good, Judges}
-use Rattle.image.proofs.Answers.{bad-image, too_long_lem, good-image}
+use Rattle.image.proofs.Answers.{bad-image, good-image}
 use Rattle.image.proofs.Heads.{bytes_of, image-short, HeadHere, head-here, head-fault, name-count, scope-count, symbol-count, names-from, names-to, scopes-to, headed-by, headed-words, behind-head}
 use Rattle.image.specs.declared.Judgement.{Judgement}
-use Rattle.image.specs.declared.Judged.{Judged}
-use Rattle.image.specs.declared.Judged.TheVariants as judged
 
 -- ---- behind the head h, whose counts are n
 
@@ -74,12 +71,12 @@ module _ (n : Counts) (h : m.Head) (ag : Agree n h) where
 
 -- ---- the ways out
 
-module _ (s l : List ℕ) (known : (i : ℕ) → Fits w8 (get_or s i 0)) (short : length s ≤ 65536) {q : HeadRead} (a : q ≡ head_at (length s) (read_head 1 s)) where
-  pub head-stops : {f : Refusal} → q ≡ hd.Fault f → Judges syntax_kind s l (judged.Fault f)
+module _ (s l : List ℕ) (known : (i : ℕ) → Fits w8 (get_or s i 0)) (short : length s ≤ 65536) {q : Result (Head × Cursor) Refusal} (a : q ≡ head_at (length s) (read_head 1 s)) where
+  pub head-stops : {f : Refusal} {x : Result Judgement Refusal} → q ≡ Err f → x ≡ Err f → Judges syntax_kind s l x
   unfolding read_syntax
-  head-stops {f} e = bad-image syntax_kind s l (image-short read_syntax s short ∙ rw (head-fault 1 s a e))
+  head-stops {f} e y = rw y (bad-image syntax_kind s l (image-short read_syntax s short ∙ rw (head-fault 1 s a e)))
 
-  module _ {h : Head} {c : Cursor} (e : q ≡ hd.Read h c) where
+  module _ {h : Head} {c : Cursor} (e : q ≡ Ok (h, c)) where
     H : HeadHere 1 s h c.at
     H = head-here 1 s (bytes_of s known) a e
 
@@ -93,16 +90,16 @@ module _ (s l : List ℕ) (known : (i : ℕ) → Fits w8 (get_or s i 0)) (short 
     unfolding read_syntax
     from-head = rw H.reads
 
-    module _ {u : List ℕ} (i : u ≡ drop (c.at - 0) s) {x : Judged} (w : BehindHead (record { head = h; end = c.at }) u l x) where
+    module _ {u : List ℕ} (i : u ≡ drop (c.at - 0) s) {x : Result Judgement Refusal} (w : BehindHead (record { head = h; end = c.at }) u l x) where
       here : u ≡ drop c.at s
       here = behind-head s c.at i
 
-      stopped : {f : Refusal} → x ≡ judged.Fault f → Judges syntax_kind s l (judged.Fault f)
+      stopped : {f : Refusal} → x ≡ Err f → Judges syntax_kind s l (Err f)
       stopped {f} d =
           bad-image syntax_kind s l (image-short read_syntax s short ∙ from-head ∙ rest-fault (declares h) H.head agree (drop c.at s) (refusal_of f)
           (subst (λ (v : List ℕ). measure_rest (declares h) v ≡ fault (refusal_of f)) here (w.is ∙ ap size_in d)))
 
-      module _ {j : Judgement} (d : x ≡ judged.Good j) where
+      module _ {j : Judgement} (d : x ≡ Ok j) where
         R : RestGood front u l j
         R = w.good j d
 
@@ -167,17 +164,15 @@ module _ (s l : List ℕ) (known : (i : ℕ) → Fits w8 (get_or s i 0)) (short 
           size-to = size-to;
         }
 
-        all-good : Judges syntax_kind s l (judged.Good j)
+        all-good : Judges syntax_kind s l (Ok j)
         unfolding whole-image good
         all-good =
             let p : same ≡ j = (λ k. record { front = sym R.front-is k; root = j.root; size = j.size; bindings = j.bindings }) in
-            subst (λ (y : Judgement). Judges syntax_kind s l (judged.Good y)) p (good-image syntax_kind s l good H.reads)
+            subst (λ (y : Judgement). Judges syntax_kind s l (Ok y)) p (good-image syntax_kind s l good H.reads)
 
       pub rest-judged : Judges syntax_kind s l x
       rest-judged = go x refl
         where
-          go : (y : Judged) → x ≡ y → Judges syntax_kind s l x
-          go (judged.Good j) d = subst (Judges syntax_kind s l) (sym d) (all-good d)
-          go (judged.Fault f) d = subst (Judges syntax_kind s l) (sym d) (stopped d)
-
-pub ruleset image_laws = (too_long_lem, head-stops, rest-judged)
+          go : (y : Result Judgement Refusal) → x ≡ y → Judges syntax_kind s l x
+          go (Ok j) d = subst (Judges syntax_kind s l) (sym d) (all-good d)
+          go (Err f) d = subst (Judges syntax_kind s l) (sym d) (stopped d)

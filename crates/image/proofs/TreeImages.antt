@@ -1,4 +1,5 @@
 -- The whole tree image: one law for each way out.
+use Rattle.std.specs.Prelude.{Result, Ok, Err}
 use Prim.Native.Nat.{ℕ, ◌+◌, ◌-◌, ◌≤◌, ◌<◌}
 use mathlib.Core.Path.{◌≡◌, refl, sym, ap, ◌∙◌}
 use mathlib.Core.List.{List, []}
@@ -17,22 +18,18 @@ use Rattle.refusals.specs.Refusing.{refusal_of}
 use Rattle.refusals.specs.declared.Refusal.{Refusal}
 use Rattle.refusals.specs.declared.Refusal.TheVariants as refusal
 use Rattle.numbers.specs.declared.Cursor.{Cursor}
-use Rattle.numbers.specs.Answers.{kept}
+use Rattle.numbers.specs.Answers.{read_at, kept}
 use Rattle.numbers.proofs.Answering.{Kept}
 use Rattle.head.specs.Heads.{head_at, declares}
 use Rattle.head.specs.declared.Head.{Head}
-use Rattle.head.specs.declared.HeadRead.{HeadRead}
-use Rattle.head.specs.declared.HeadRead.TheVariants as hd
 use Rattle.head.specs.declared.Counts.{Counts}
 use Rattle.roots.specs.declared.Extent.{Extent}
-use Rattle.roots.specs.declared.TreeRead.{TreeRead}
-use Rattle.roots.specs.declared.TreeRead.TheVariants as tree
-use Rattle.roots.specs.Measuring.{tree_at, measure_tree, then_end, none_around, whole_tree}
+use Rattle.roots.specs.Measuring.{measure_tree, then_end, none_around, whole_tree}
 use Rattle.roots.proofs.Kept.{counts_of, extent_of, around-none, tree_is}
 use Rattle.roots.proofs.Spans.{tree-small}
 use Rattle.roots.proofs.Whole.{tree-refused, tree-read}
 use Rattle.store.specs.Words.{binds_from, binds_of}
-use Rattle.image.specs.declared.Judged.TheVariants as judged
+use Rattle.image.specs.declared.Judgement.{Judgement}
 use Rattle.image.specs.Judging.{read_owned, tree_kind, Good, JudgesTree}
 use Rattle.image.proofs.Answers.{bad-image, too_long_lem, good-image}
 use Rattle.image.proofs.BehindHeads.{then_whole}
@@ -74,15 +71,15 @@ owned-not s e o = rw (e, o)
 
 -- ---- the ways out
 
-module _ (s : List ℕ) (known : (i : ℕ) → Fits w8 (get_or s i 0)) (short : length s ≤ 65536) {q : HeadRead} (a : q ≡ head_at (length s) (read_head 2 s)) where
-  pub head-refused : {f : Refusal} → q ≡ hd.Fault f → read_tree_image s ≡ fault (refusal_of f)
+module _ (s : List ℕ) (known : (i : ℕ) → Fits w8 (get_or s i 0)) (short : length s ≤ 65536) {q : Result (Head × Cursor) Refusal} (a : q ≡ head_at (length s) (read_head 2 s)) where
+  pub head-refused : {f : Refusal} → q ≡ Err f → read_tree_image s ≡ fault (refusal_of f)
   unfolding read_tree_image
   head-refused e = rw (head-fault 2 s a e)
 
-  pub head-stops : {f : Refusal} → q ≡ hd.Fault f → JudgesTree s (judged.Fault f)
-  head-stops {f} e = record { judges = λ st. bad-image tree_kind s st (image-short read_owned s short ∙ owned-stops s (head-refused e)) }
+  pub head-stops : {f : Refusal} {x : Result Judgement Refusal} → q ≡ Err f → x ≡ Err f → JudgesTree s x
+  head-stops {f} e y = rw y (record { judges = λ st. bad-image tree_kind s st (image-short read_owned s short ∙ owned-stops s (head-refused e)) })
 
-  module _ {h : Head} {c : Cursor} (e : q ≡ hd.Read h c) where
+  module _ {h : Head} {c : Cursor} (e : q ≡ Ok (h, c)) where
     pub H : HeadHere 2 s h c.at
     H = head-here 2 s (bytes_of s known) a e
 
@@ -93,21 +90,21 @@ module _ (s : List ℕ) (known : (i : ℕ) → Fits w8 (get_or s i 0)) (short : 
     unfolding read_tree_image
     from-head = ap (λ (g : Read m.Head). next g behind) H.reads ∙ root_is H.head (drop c.at s)
 
-    module _ {u : List ℕ} (i : u ≡ drop (c.at - 0) s) {n : Counts} (ne : n ≡ declares h) {x : TreeRead} (w : x ≡ tree_at (c.at + length u) (whole_tree n 64 0 u)) where
-      measured : x ≡ tree_at (c.at + length (drop c.at s)) (whole_tree (counts_of H.head) 64 0 (drop c.at s))
+    module _ {u : List ℕ} (i : u ≡ drop (c.at - 0) s) {n : Counts} (ne : n ≡ declares h) {x : Result (Extent × Cursor) Refusal} (w : x ≡ read_at (c.at + length u) (whole_tree n 64 0 u)) where
+      measured : x ≡ read_at (c.at + length (drop c.at s)) (whole_tree (counts_of H.head) 64 0 (drop c.at s))
       measured =
-          w ∙ ap (λ (k : Counts). tree_at (c.at + length u) (whole_tree k 64 0 u)) (ne ∙ (λ k. record { symbols = symbol-count H k; names = name-count H k; scopes = scope-count H k }))
-          ∙ ap (λ (v : List ℕ). tree_at (c.at + length v) (whole_tree (counts_of H.head) 64 0 v)) (behind-head s c.at i)
+          w ∙ ap (λ (k : Counts). read_at (c.at + length u) (whole_tree k 64 0 u)) (ne ∙ (λ k. record { symbols = symbol-count H k; names = name-count H k; scopes = scope-count H k }))
+          ∙ ap (λ (v : List ℕ). read_at (c.at + length v) (whole_tree (counts_of H.head) 64 0 v)) (behind-head s c.at i)
 
-      pub root-refused : {f : Refusal} → x ≡ tree.Fault f → read_tree_image s ≡ fault (refusal_of f)
+      pub root-refused : {f : Refusal} → x ≡ Err f → read_tree_image s ≡ fault (refusal_of f)
       root-refused {f} d =
           let g : then_end (read_tree 64 H.head 0) (drop c.at s) ≡ fault (refusal_of f) = tree-refused H.head few 64 0 c.at (drop c.at s) measured d in
           from-head ∙ ap (kept (image_of H.head)) g
 
-      pub root-stops : {f : Refusal} → x ≡ tree.Fault f → JudgesTree s (judged.Fault f)
-      root-stops {f} d = record { judges = λ st. bad-image tree_kind s st (image-short read_owned s short ∙ owned-stops s (root-refused d)) }
+      pub root-stops : {f : Refusal} {y : Result Judgement Refusal} → x ≡ Err f → y ≡ Err f → JudgesTree s y
+      root-stops {f} d y = rw y (record { judges = λ st. bad-image tree_kind s st (image-short read_owned s short ∙ owned-stops s (root-refused d)) })
 
-      module _ {y : Extent} {past : Cursor} (d : x ≡ tree.Read y past) where
+      module _ {y : Extent} {past : Cursor} (d : x ≡ Ok (y, past)) where
         K : Kept (extent_of []) (then_end (read_tree 64 H.head 0) (drop c.at s)) y (drop (past.at - c.at) (drop c.at s))
         K = tree-read H.head few 64 0 c.at (drop c.at s) measured d
 
@@ -143,7 +140,7 @@ module _ (s : List ℕ) (known : (i : ℕ) → Fits w8 (get_or s i 0)) (short : 
         one_byte : 2 < 128
         one_byte = omega arith
 
-        pub unowned : y.owned ≡ false → JudgesTree s (judged.Fault refusal.Unowned)
+        pub unowned : y.owned ≡ false → JudgesTree s (Err refusal.Unowned)
         unowned o = record { judges = λ st. bad-image tree_kind s st (image-short read_owned s short ∙ owned-not s all_read (sym owned-is ∙ o)) }
 
         good : (st : List ℕ) → y.owned ≡ true → Good tree_kind s st (record { front = record { head = h; end = c.at }; root = c.at; size = y.size; bindings = 0 })
@@ -168,11 +165,9 @@ module _ (s : List ℕ) (known : (i : ℕ) → Fits w8 (get_or s i 0)) (short : 
           size-to = size-to;
         }
 
-        pub all-good : y.owned ≡ true → JudgesTree s (judged.Good (record { front = record { head = h; end = c.at }; root = c.at; size = y.size; bindings = 0 }))
+        pub all-good : y.owned ≡ true → JudgesTree s (Ok (record { front = record { head = h; end = c.at }; root = c.at; size = y.size; bindings = 0 }))
         unfolding good
         all-good o = record { judges = λ st. good-image tree_kind s st (good st o) H.reads }
 
-pub tree-long : (s : List ℕ) → 65536 < length s → JudgesTree s (judged.Fault refusal.OverLimit)
+pub tree-long : (s : List ℕ) → 65536 < length s → JudgesTree s (Err refusal.OverLimit)
 tree-long s h = record { judges = λ st. too_long_lem tree_kind s st h }
-
-pub ruleset tree_image_laws = (tree-long, head-stops, root-stops, unowned, all-good)

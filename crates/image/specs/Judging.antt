@@ -1,5 +1,5 @@
 -- What a judgement says of the image and of the store.
-use Rattle.std.specs.Prelude.{ℕ, ◌+◌, ◌-◌, ◌≤◌, ◌≡◌, List, [], length, drop}
+use Rattle.std.specs.Prelude.{ℕ, ◌+◌, ◌-◌, ◌≤◌, ◌≡◌, List, [], length, drop, Result, Ok, Err}
 use Rattle.model.specs.Limits.{most_nesting}
 use Rattle.model.specs.Refusals.{unowned}
 use Rattle.model.specs.Objects.{Stx, size}
@@ -7,6 +7,7 @@ use Rattle.model.specs.Trees.{Tree, load_size}
 use Rattle.model.specs.Reading as m
 use Rattle.model.specs.Reading.{Read, Reader, Image, got, fault, next, give, need, ◌>>=◌, ◌>>◌, read_head, read_stx, read_syntax, read_tree, read_tree_image, read_image}
 use Rattle.model.specs.Jobs.{closed}
+use Rattle.refusals.specs.declared.Refusal.{Refusal}
 use Rattle.refusals.specs.Refusing.{refusal_of}
 use Rattle.codec_laws.specs.WellFormed.{Bytes, HeadFits}
 use Rattle.numbers.specs.Limits as limits
@@ -22,8 +23,6 @@ use Rattle.bindings.specs.Sections.{read_all}
 use Rattle.roots.specs.MeasuredObjects.{measure_stx}
 use Rattle.roots.specs.Measuring.{whole_syntax}
 use Rattle.image.specs.declared.Judgement.{Judgement}
-use Rattle.image.specs.declared.Judged.{Judged}
-use Rattle.image.specs.declared.Judged.TheVariants as judged
 
 -- ---- behind the front f
 
@@ -35,9 +34,9 @@ measure_rest n = do
   whole_syntax n
 
 -- what an answer says of the root's size
-abbrev pub size_in : Judged → Read ℕ
-size_in (judged.Good j) = got j.size []
-size_in (judged.Fault f) = fault (refusal_of f)
+abbrev pub size_in : Result Judgement Refusal → Read ℕ
+size_in (Ok j) = got j.size []
+size_in (Err f) = fault (refusal_of f)
 
 -- the bindings of s, which begins where the front ends, are in the store l, and the root behind them ends the image
 pub record RestGood (f : Front) (s l : List ℕ) (j : Judgement) : Type 0 where
@@ -48,9 +47,9 @@ pub record RestGood (f : Front) (s l : List ℕ) (j : Judgement) : Type 0 where
   pub within : j.root ≤ f.end + length s
   pub root_measured : measure_stx (f.head.words + 4) f.head.scopes limits.most_nesting (drop (j.root - f.end) s) ≡ got j.size []
 
-pub record BehindHead (f : Front) (s l : List ℕ) (r : Judged) : Type 0 where
+pub record BehindHead (f : Front) (s l : List ℕ) (r : Result Judgement Refusal) : Type 0 where
   pub is : measure_rest (declares f.head) s ≡ size_in r
-  pub good : (j : Judgement) → r ≡ judged.Good j → RestGood f s l j
+  pub good : (j : Judgement) → r ≡ Ok j → RestGood f s l j
 
 -- ---- the whole image s, with the store l afterwards
 
@@ -76,10 +75,10 @@ abbrev pub tree_kind : Kind Tree
 tree_kind = record { number = 2; whole = read_owned; root = λ h. read_tree most_nesting h 0; size = load_size }
 
 -- what an answer says that the image is: its root lies where the judgement says, and its bindings are in the store
-abbrev pub judged_as : {A : Type 0} → Kind A → List ℕ → List ℕ → Judged → Read (Image A)
-judged_as K s l (judged.Good j) =
+abbrev pub judged_as : {A : Type 0} → Kind A → List ℕ → List ℕ → Result Judgement Refusal → Read (Image A)
+judged_as K s l (Ok j) =
     next (read_head K.number s) (λ h t. next (K.root h (drop j.root s)) (λ x u. got (record { head = h; binds = binds_of l j.bindings; root = x }) u))
-judged_as K s l (judged.Fault f) = fault (refusal_of f)
+judged_as K s l (Err f) = fault (refusal_of f)
 
 pub record Good {A : Type 0} (K : Kind A) (s l : List ℕ) (j : Judgement) : Type 0 where
   pub image : Image A
@@ -104,10 +103,10 @@ pub record Good {A : Type 0} (K : Kind A) (s l : List ℕ) (j : Judgement) : Typ
   pub size_is : j.size ≡ K.size image.root
   pub size-to : j.size ≤ most_image
 
-pub record Judges {A : Type 0} (K : Kind A) (s l : List ℕ) (r : Judged) : Type 0 where
+pub record Judges {A : Type 0} (K : Kind A) (s l : List ℕ) (r : Result Judgement Refusal) : Type 0 where
   pub is : read_image K.whole s ≡ judged_as K s l r
-  pub good : (j : Judgement) → r ≡ judged.Good j → Good K s l j
+  pub good : (j : Judgement) → r ≡ Ok j → Good K s l j
 
 -- a tree's image has no bindings: whatever is in the store
-pub record JudgesTree (s : List ℕ) (r : Judged) : Type 0 where
+pub record JudgesTree (s : List ℕ) (r : Result Judgement Refusal) : Type 0 where
   pub judges : (l : List ℕ) → Judges tree_kind s l r

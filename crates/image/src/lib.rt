@@ -9,10 +9,9 @@ ghost use Rattle.scopes.specs.Sets.{set_scopes};
 ghost use Rattle.words.specs.Section.{most_words};
 
 use bindings::loading;
-use head::{Front, Head, HeadRead};
-use numbers::{Cursor, Number, Place};
+use head::{Front, Head};
+use numbers::Cursor;
 use refusals::Refusal;
-use roots::TreeRead;
 
 // What the jobs know of an image without fault.
 #[derive(Clone, Copy)]
@@ -26,84 +25,55 @@ pub struct Judgement {
     pub bindings: u32,
 }
 
-#[derive(Clone, Copy)]
-pub enum Judged {
-    Good(Judgement),
-    Fault(Refusal),
-}
-
-const MOST_IMAGE: usize = numbers::Cursor::MOST_IMAGE;
-
 // The bindings behind the front f, into the store from its start, and the root; `s` is the image from there on.
-fn judge_rest(f: Front, s: &[u8], store: &mut [u64]) -> Judged
+fn judge_rest(f: Front, s: &[u8], store: &mut [u64]) -> Result<Judgement, Refusal>
     requires image { (f.end + length s.now ≤ most_image) × (f.head.scopes ≤ set_scopes) × (f.head.words ≤ most_words) }
     requires held { store_size ≤ length store.old }
     ensures { BehindHead f s.now store.new result }
 {
     let c = Cursor { at: f.end };
-    let h = f.head;
-    let counts = h.counts();
-    let read = loading::read_bindings(c, s, counts, store);
-    let bindings = read.count as u32;
-    let end = read.end;
-    match end {
-        Place::At(past) => match roots::measure_syntax_root(past, c.after(s, past), counts) {
-            Number::Read(size, _) => Judged::Good(Judgement {
-                front: f,
-                root: past.at,
-                size,
-                bindings,
-            }),
-            Number::Fault(x) => Judged::Fault(x),
-        },
-        Place::Fault(x) => Judged::Fault(x),
-    }
+    let counts = f.head.counts();
+    let (bindings, past) = loading::read_bindings(c, s, counts, store)?;
+    let (size, _) = roots::measure_syntax_root(past, c.after(s, past), counts)?;
+    Ok(Judgement {
+        front: f,
+        root: past.at,
+        size,
+        bindings: bindings as u32,
+    })
 }
 
 // A syntax image, whose bindings are in the store afterwards.
-pub fn judge_syntax(image: &[u8], store: &mut [u64]) -> Judged
+pub fn judge_syntax(image: &[u8], store: &mut [u64]) -> Result<Judgement, Refusal>
     requires { store_size ≤ length store.old }
     ensures { Judges syntax_kind image.now store.new result }
 {
-    if MOST_IMAGE < image.len() {
-        return Judged::Fault(Refusal::OverLimit);
+    if Cursor::MOST_IMAGE < image.len() {
+        return Err(Refusal::OverLimit);
     }
-    match head::read_head(image, Head::SYNTAX) {
-        HeadRead::Read(h, c) => {
-            let front = Cursor { at: 0 };
-            let f = Front { head: h, end: c.at };
-            judge_rest(f, front.after(image, c), store)
-        }
-        HeadRead::Fault(x) => Judged::Fault(x),
-    }
+    let (head, c) = head::read_head(image, Head::SYNTAX)?;
+    let start = Cursor { at: 0 };
+    let front = Front { head, end: c.at };
+    judge_rest(front, start.after(image, c), store)
 }
 
 // A tree image, each variable of which has an enclosing function of its name.
-pub fn judge_tree(image: &[u8]) -> Judged
+pub fn judge_tree(image: &[u8]) -> Result<Judgement, Refusal>
     ensures { JudgesTree image.now result }
 {
-    if MOST_IMAGE < image.len() {
-        return Judged::Fault(Refusal::OverLimit);
+    if Cursor::MOST_IMAGE < image.len() {
+        return Err(Refusal::OverLimit);
     }
-    match head::read_head(image, Head::TREE) {
-        HeadRead::Read(h, c) => {
-            let front = Cursor { at: 0 };
-            match roots::measure_tree_root(c, front.after(image, c), h.counts()) {
-                TreeRead::Read(extent, _) => {
-                    if extent.owned {
-                        let f = Front { head: h, end: c.at };
-                        return Judged::Good(Judgement {
-                            front: f,
-                            root: c.at,
-                            size: extent.size,
-                            bindings: 0,
-                        });
-                    }
-                    Judged::Fault(Refusal::Unowned)
-                }
-                TreeRead::Fault(x) => Judged::Fault(x),
-            }
-        }
-        HeadRead::Fault(x) => Judged::Fault(x),
+    let (head, c) = head::read_head(image, Head::TREE)?;
+    let start = Cursor { at: 0 };
+    let (extent, _) = roots::measure_tree_root(c, start.after(image, c), head.counts())?;
+    if !extent.owned {
+        return Err(Refusal::Unowned);
     }
+    Ok(Judgement {
+        front: Front { head, end: c.at },
+        root: c.at,
+        size: extent.size,
+        bindings: 0,
+    })
 }
