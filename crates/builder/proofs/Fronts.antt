@@ -11,24 +11,19 @@ use Rattle.scopes.specs.Sets.{set_scopes}
 use Rattle.numbers.specs.Limits.{most_image}
 use Rattle.model.specs.Choice.{when◌then◌else◌}
 use Rattle.model.specs.Refusals.{layout, over_limit}
-use Rattle.model.specs.Objects as m
-use Rattle.model.specs.Objects.{no_sets}
-use Rattle.model.specs.Reading.{Read, got, fault, need, give, ◌>>◌, byte, groups, num, read_sets}
+use Rattle.model.specs.Reading.{Read, got, need, give, ◌>>◌, byte, groups, num, read_sets}
 use Rattle.codec_laws.proofs.NumberTrip.{got-value, got-rest, fault≢got}
 use Rattle.codec_laws.proofs.Sequence.{next-got, need-got}
-use Rattle.refusals.specs.Refusing.{refusal_of}
 use Rattle.refusals.specs.declared.Refusal.{Refusal}
-use Rattle.numbers.specs.Answers.{number_at, Seen, seen, seen_at}
+use Rattle.std.specs.Prelude.{Result, Ok}
+use Rattle.numbers.specs.Answers.{read_at, seen}
 use Rattle.numbers.specs.declared.Cursor.{Cursor}
-use Rattle.numbers.specs.declared.Number.{Number}
-use Rattle.numbers.specs.declared.Number.TheVariants as number
-use Rattle.numbers.specs.declared.Place.TheVariants as place
-use Rattle.numbers.proofs.Answering.{Took, took, refused, number_shape, seen_shape}
+use Rattle.numbers.proofs.Answering.{Took, took, read_shape, whole}
 use Rattle.numbers.proofs.Tails.{num_tail}
 use Rattle.numbers.proofs.Reading.{part-from}
 use Rattle.sets.proofs.Reading.{sets_tail}
 use Rattle.table.specs.declared.Sets.{Sets}
-use Rattle.things.specs.Rep.{sets_of}
+use Rattle.table.specs.Words.{sets_of}
 use Rattle.builder.specs.Fronts.{Within, Left, NumberHere, NumberRead, FrontHere, FrontRead}
 
 -- ---- a number takes a byte at least
@@ -90,14 +85,14 @@ part image at = take (length image - at) (drop at image)
 pub place_short : {image : List ℕ} {at : ℕ} → Within image at → at + length (take (length image - at) (drop at image)) ≤ most_image
 place_short {image} {at} w = rw part-from (omega (arith, w.inside, w.short, length-drop at image))
 
-module _ {image : List ℕ} {at : ℕ} (h : NumberHere image at) {r : Number}
-    (a : r ≡ number_at (at + length (take (length image - at) (drop at image))) (num (take (length image - at) (drop at image)))) where
-  whole : r ≡ number_at (at + length (drop at image)) (num (drop at image))
-  whole = rw part-from at a
+module _ {image : List ℕ} {at : ℕ} (h : NumberHere image at) {r : Result (ℕ × Cursor) Refusal}
+    (a : r ≡ read_at (at + length (take (length image - at) (drop at image))) (num (take (length image - at) (drop at image)))) where
+  there : r ≡ read_at (at + length (drop at image)) (num (drop at image))
+  there = rw part-from at a
 
-  pub number_read : {n : ℕ} {past : Cursor} → r ≡ number.Read n past → NumberRead image at n past.at
+  pub number_read : {n : ℕ} {past : Cursor} → r ≡ Ok (n, past) → NumberRead image at n past.at
   number_read {n} {past} e =
-      let t = taken h.place.inside (took number_shape whole e (num_tail (drop at image))) in
+      let t = taken h.place.inside (took read_shape there e (num_tail (drop at image))) in
       record {
         value-is = λ v rest x. (taken-left t x).0;
         left = λ v rest x.
@@ -106,9 +101,6 @@ module _ {image : List ℕ} {at : ℕ} (h : NumberHere image at) {r : Number}
             let s = num-short v (drop at image) rest x in
             record { moved = omega (arith, s, d, length-drop at image, t.inside, h.place.inside); inside = t.inside; is = q };
       }
-
-  pub number_sure : {f : Refusal} → r ≡ number.Fault f → NumberRead image at 0 at
-  number_sure {f} e = absurd (fault≢got (refusal_of f) h.n h.rest (sym (refused number_shape (at + length (drop at image)) (num (drop at image)) whole e) ∙ h.is))
 
 -- ---- an object's front
 
@@ -129,48 +121,40 @@ module _ {image : List ℕ} {at scopes : ℕ} (h : FrontHere image at scopes) wh
     pub few-scopes : scopes ≤ set_scopes
     few-scopes = h.few
 
-    module _ {o : Seen m.Sets} (a : o ≡ seen_at no_sets (here + length (take (length image - here) (drop here image))) (read_sets scopes (take (length image - here) (drop here image)))) where
-      seen-there : o ≡ seen_at no_sets (here + length (drop here image)) (read_sets scopes (drop here image))
+    sets-here : read_sets scopes (drop here image) ≡ got h.sets h.is.behind-sets
+    sets-here = ap (read_sets scopes) (sym behind.is) ∙ h.is.sets-read
+
+    module _ {o : Result (Sets × Cursor) Refusal} {c : Sets} {past : Cursor} (e : o ≡ Ok (c, past))
+        (a : seen sets_of o ≡ read_at (here + length (take (length image - here) (drop here image))) (read_sets scopes (take (length image - here) (drop here image)))) where
+      seen-there : seen sets_of o ≡ read_at (here + length (drop here image)) (read_sets scopes (drop here image))
       seen-there = rw part-from at a
 
-      sets-here : read_sets scopes (drop here image) ≡ got h.sets h.is.behind-sets
-      sets-here = ap (read_sets scopes) (sym behind.is) ∙ h.is.sets-read
+      sets-taken : Taken image here past.at (read_sets scopes (drop here image)) (sets_of c)
+      sets-taken =
+          let w = whole sets_of here (drop here image) (read_sets scopes (drop here image)) seen-there e (sets_tail scopes (drop here image)) in
+          taken here-inside (took read_shape seen-there w (sets_tail scopes (drop here image)))
 
-      module _ {past : Cursor} (e : o.end ≡ place.At past) where
-        sets-taken : Taken image here past.at (read_sets scopes (drop here image)) o.value
-        sets-taken =
-            let x : o ≡ seen o.value past = ap (λ p. record { value = o.value; end = p }) e in
-            taken here-inside (took (seen_shape no_sets) seen-there x (sets_tail scopes (drop here image)))
+      pub number-here : NumberHere image past.at
+      number-here =
+          let q = taken-left sets-taken sets-here in
+          let z : num (drop past.at image) ≡ got h.n h.rest = ap num (sym q.1) ∙ h.is.number_read in
+          record { place = record { inside = sets-taken.inside; short = h.place.short }; n = h.n; rest = h.rest; is = z }
 
-        pub number-here : NumberHere image past.at
-        number-here =
-            let q = taken-left sets-taken sets-here in
-            let z : num (drop past.at image) ≡ got h.n h.rest = ap num (sym q.1) ∙ h.is.number_read in
-            record { place = record { inside = sets-taken.inside; short = h.place.short }; n = h.n; rest = h.rest; is = z }
+      pub front_read : {n after : ℕ} → NumberRead image past.at n after → FrontRead image at scopes tag c n after
+      front_read {n} {after} w =
+          record {
+            means = λ tag₀ sets₀ n₀ rest f.
+                let l = t.left tag₀ f.behind-tag f.tag_read in
+                let s : read_sets scopes (drop here image) ≡ got sets₀ f.behind-sets = ap (read_sets scopes) (sym l.is) ∙ f.sets-read in
+                let q = taken-left sets-taken s in
+                let k : num (drop past.at image) ≡ got n₀ rest = ap num (sym q.1) ∙ f.number_read in
+                let y = w.left n₀ rest k in
+                record {
+                  tag_is = t.value-is tag₀ f.behind-tag f.tag_read;
+                  sets-are = q.0;
+                  number_is = w.value-is n₀ rest k;
+                  left = record { moved = omega (arith, l.moved, sets-taken.moved, y.moved); inside = y.inside; is = y.is };
+                };
+          }
 
-        pub front_read : {c : Sets} {n after : ℕ} → sets_of c ≡ o.value → NumberRead image past.at n after → FrontRead image at scopes tag c n after
-        front_read {c} {n} {after} i w =
-            record {
-              means = λ tag₀ sets₀ n₀ rest f.
-                  let l = t.left tag₀ f.behind-tag f.tag_read in
-                  let s : read_sets scopes (drop here image) ≡ got sets₀ f.behind-sets = ap (read_sets scopes) (sym l.is) ∙ f.sets-read in
-                  let q = taken-left sets-taken s in
-                  let k : num (drop past.at image) ≡ got n₀ rest = ap num (sym q.1) ∙ f.number_read in
-                  let y = w.left n₀ rest k in
-                  record {
-                    tag_is = t.value-is tag₀ f.behind-tag f.tag_read;
-                    sets-are = i ∙ q.0;
-                    number_is = w.value-is n₀ rest k;
-                    left = record { moved = omega (arith, l.moved, sets-taken.moved, y.moved); inside = y.inside; is = y.is };
-                  };
-            }
-
-      pub sets_sure : {f : Refusal} {x y z : ℕ} {c : Sets} → o.end ≡ place.Fault f → FrontRead image at scopes x c y z
-      sets_sure {f} e =
-          let end = here + length (drop here image) in
-          let p : place.Fault f ≡ place.At (record { at = end - length h.is.behind-sets }) =
-          sym e ∙ ap (λ (x : Seen m.Sets). x.end) seen-there ∙ ap (λ (g : Read m.Sets). (seen_at no_sets end g).end) sets-here in
-          let z : ◌≡◌ {A = ℕ} 0 1 = cc in
-          absurd (omega arith)
-
-pub ruleset laws = (place_short, number_read, number_sure, tag-here, here-inside, here-short, few-scopes, number-here, front_read, sets_sure)
+pub ruleset laws = (place_short, number_read, tag-here, here-inside, here-short, few-scopes, number-here, front_read)

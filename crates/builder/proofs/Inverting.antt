@@ -10,7 +10,7 @@ use Rattle.model.specs.Objects as m
 use Rattle.model.specs.Objects.{Atom, tag_of, content_of, Stx, Stxs, atom, list, nil, cons}
 use Rattle.model.specs.Trees.{Tree, Trees, var, app, fun, datum, lst, stx, tnil, tcons, from_stxs}
 use Rattle.model.specs.Limits.{last_point, last_primitive, last_rung_word}
-use Rattle.model.specs.Reading.{Reader, got, fault, need, num, num_up_to, num_below, Head, symbols, read_sets, read_atom, read_parts, read_content, read_stx, read_trees, read_app, read_tree_body, read_tree}
+use Rattle.model.specs.Reading.{Reader, got, need, num, num_up_to, num_below, Head, symbols, read_sets, read_atom, read_parts, read_content, read_stx, read_trees, read_app, read_tree_body, read_tree}
 use borrow.Author.Tests.{eqb-true}
 use Rattle.codec_laws.proofs.NumberTrip.{got-value, got-rest, fault≢got}
 use Rattle.codec_laws.proofs.Sequence.{next-got, need-got, moved}

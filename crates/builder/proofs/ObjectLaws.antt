@@ -11,7 +11,7 @@ use Rattle.table.specs.Tags.{list_tag}
 use Rattle.table.specs.declared.Sets.{Sets}
 use Rattle.table.proofs.Laws.{same_trans}
 use Rattle.things.specs.Making.{Roomy, StoredObject}
-use Rattle.things.specs.Rep.{sets_of}
+use Rattle.table.specs.Words.{sets_of}
 use Rattle.things.proofs.ByTag.{tag-low}
 use Rattle.builder.specs.declared.Built.{Built}
 use Rattle.builder.specs.Reads.{ObjectRead, ObjectsRead}

@@ -5,7 +5,7 @@ use Prim.Native.Nat.{ℕ, ◌+◌, ◌-◌, ◌*◌, ◌≤◌, ◌<◌, ◌^◌
 use native.Mathlib.Omega.{arith}
 use lib.ListN.{length, drop}
 use Rattle.scopes.specs.Sets.{set_scopes}
-use Rattle.model.specs.Objects.{Atom, tag_of, content_of, atom, list, size}
+use Rattle.model.specs.Objects.{Atom, tag_of, content_of}
 use Rattle.model.specs.Trees.{Tree, Trees, var, fun, datum, tcons, load_size}
 use Rattle.model.specs.Reading.{got, num}
 use Rattle.table.specs.Tags.{variable_tag, application_tag, list_value_tag, atom_value_tag}

@@ -5,7 +5,7 @@ use Rattle.numbers.specs.Limits.{most_image}
 use Rattle.model.specs.Objects as m
 use Rattle.model.specs.Reading.{got, num, read_sets}
 use Rattle.table.specs.declared.Sets.{Sets}
-use Rattle.things.specs.Rep.{sets_of}
+use Rattle.table.specs.Words.{sets_of}
 
 -- a place of an image
 pub record Within (image : List ℕ) (at : ℕ) : Type 0 where

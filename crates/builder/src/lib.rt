@@ -8,7 +8,7 @@ ghost use Rattle.builder.specs.Building.{Judged, JudgedAll, Builds, BuildsAll, S
 ghost use Rattle.things.specs.Making.{Roomy};
 ghost use Rattle.table.specs.Sizes.{node_size};
 
-use numbers::{Cursor, Number, Place};
+use numbers::Cursor;
 use scopes::Name;
 use table::{Node, Sets};
 
@@ -18,12 +18,6 @@ pub struct Built {
     pub at: u32,
     pub top: u32,
     pub past: usize,
-}
-
-#[derive(Clone, Copy)]
-struct NumberAt {
-    value: u32,
-    past: usize,
 }
 
 // An object up to its parts.
@@ -48,20 +42,15 @@ const SYNTAX_VALUE: u32 = 5;
 
 // ---- bytes that are known to be a number, or three sets
 
-fn read_number(image: &[u8], at: usize) -> NumberAt
+fn read_number(image: &[u8], at: usize) -> (u32, usize)
     requires { NumberHere image.now at }
-    ensures { NumberRead image.now at result.value result.past }
+    ensures { NumberRead image.now at result.0 result.1 }
 {
-    let s = &image[at..];
     let c = Cursor { at };
-    match c.number(s) {
-        Number::Read(value, past) => NumberAt {
-            value,
-            past: past.at,
-        },
-        // never met
-        Number::Fault(_) => NumberAt { value: 0, past: at },
-    }
+    let Ok((n, past)) = c.number(&image[at..]) else {
+        unreachable!()
+    };
+    (n, past.at)
 }
 
 // ---- syntax objects
@@ -70,33 +59,17 @@ pub fn read_front(image: &[u8], at: usize, scopes: u32) -> Front
     requires { FrontHere image.now at scopes }
     ensures { FrontRead image.now at scopes result.tag result.sets result.number result.past }
 {
-    let tag = read_number(image, at);
-    let here = tag.past;
-    let s = &image[here..];
+    let (tag, here) = read_number(image, at);
     let c = Cursor { at: here };
-    let three = sets::read_sets(c, s, scopes);
-    let at0 = three.at0;
-    let at1 = three.at1;
-    let at2 = three.at2;
-    let sets = Sets { at0, at1, at2 };
-    let end = three.end;
-    match end {
-        Place::At(next) => {
-            let n = read_number(image, next.at);
-            Front {
-                tag: tag.value,
-                sets,
-                number: n.value,
-                past: n.past,
-            }
-        }
-        // never met
-        Place::Fault(_) => Front {
-            tag: 0,
-            sets,
-            number: 0,
-            past: at,
-        },
+    let Ok((sets, next)) = sets::read_sets(c, &image[here..], scopes) else {
+        unreachable!()
+    };
+    let (number, past) = read_number(image, next.at);
+    Front {
+        tag,
+        sets,
+        number,
+        past,
     }
 }
 
@@ -107,15 +80,13 @@ pub fn object(table: &mut [u32], top: u32, image: &[u8], at: usize, scopes: u32)
     ensures { Builds (ObjectRead scopes) table.old table.new top image.now at (at + 1) result }
 {
     let x = read_front(image, at, scopes);
-    let tag = x.tag;
-    let sets = x.sets;
-    if tag == Node::LIST {
+    if x.tag == Node::LIST {
         let parts = objects(table, top, image, x.past, scopes, x.number);
         let node = Node {
-            tag,
+            tag: x.tag,
             content: parts.at,
         };
-        let made = things::make_object(table, parts.top, node, sets);
+        let made = things::make_object(table, parts.top, node, x.sets);
         return Built {
             at: made.at,
             top: made.top,
@@ -123,10 +94,10 @@ pub fn object(table: &mut [u32], top: u32, image: &[u8], at: usize, scopes: u32)
         };
     }
     let node = Node {
-        tag,
+        tag: x.tag,
         content: x.number,
     };
-    let made = things::make_object(table, top, node, sets);
+    let made = things::make_object(table, top, node, x.sets);
     Built {
         at: made.at,
         top: made.top,
@@ -142,14 +113,12 @@ fn objects(table: &mut [u32], top: u32, image: &[u8], at: usize, scopes: u32, co
 {
     let mut end = top;
     let mut past = at;
-    let mut left = count;
     let mut turned: u32 = 0;
-    while left != 0 {
+    for _ in 0..count {
         let one = object(table, end, image, past, scopes);
         let m = things::link(table, one.top, one.at, turned);
         end = m.top;
         past = one.past;
-        left -= 1;
         turned = m.at;
     }
     let chain = things::turn(table, end, turned);
@@ -168,37 +137,24 @@ pub fn tree(table: &mut [u32], top: u32, image: &[u8], at: usize, scopes: u32) -
     requires { Judged (TreeRead scopes) table.old top image.now at scopes }
     ensures { Builds (TreeRead scopes) table.old table.new top image.now at (at + 1) result }
 {
-    let tag = read_number(image, at);
-    let kind = tag.value;
+    let (kind, here) = read_number(image, at);
     if kind == SYNTAX_VALUE {
-        return object(table, top, image, tag.past, scopes);
+        return object(table, top, image, here, scopes);
     }
-    let n = read_number(image, tag.past);
-    if kind == VARIABLE {
-        let node = Node {
-            tag: Node::VARIABLE,
-            content: n.value,
-        };
-        return leaf(table, top, node, n.past);
+    let (n, past) = read_number(image, here);
+    match kind {
+        VARIABLE => {
+            let node = Node {
+                tag: Node::VARIABLE,
+                content: n,
+            };
+            leaf(table, top, node, past)
+        }
+        ATOM => atom(table, top, image, past, n),
+        FUNCTION => function(table, top, image, past, scopes, Name(n)),
+        APPLICATION => list(table, top, image, past, scopes, n, Node::APPLICATION),
+        _ => list(table, top, image, past, scopes, n, Node::LIST_VALUE),
     }
-    if kind == ATOM {
-        return atom(table, top, image, n.past, n.value);
-    }
-    if kind == FUNCTION {
-        return function(table, top, image, n.past, scopes, Name(n.value));
-    }
-    if kind == APPLICATION {
-        return list(
-            table,
-            top,
-            image,
-            n.past,
-            scopes,
-            n.value,
-            Node::APPLICATION,
-        );
-    }
-    list(table, top, image, n.past, scopes, n.value, Node::LIST_VALUE)
 }
 
 // A node without parts, whose bytes end at `past`.
@@ -219,12 +175,12 @@ fn atom(table: &mut [u32], top: u32, image: &[u8], at: usize, tag: u32) -> Built
     requires { Judged (AtomRead tag) table.old top image.now at 0 }
     ensures { Builds (AtomRead tag) table.old table.new top image.now at at result }
 {
-    let n = read_number(image, at);
+    let (content, past) = read_number(image, at);
     let node = Node {
         tag: Node::ATOM_VALUE + tag,
-        content: n.value,
+        content,
     };
-    leaf(table, top, node, n.past)
+    leaf(table, top, node, past)
 }
 
 // A function; its name has been read.
@@ -264,7 +220,8 @@ fn list(
     leaf(table, parts.top, node, parts.past)
 }
 
-// So many trees, as a chain, likewise.
+// So many trees, as a chain, likewise. Its twin `objects` stays: each calls its own reader in a cycle of calls, which a closure lent to one
+// function for both would break.
 #[cycle(building_trees)]
 fn trees(table: &mut [u32], top: u32, image: &[u8], at: usize, scopes: u32, count: u32) -> Built
     requires { JudgedAll (TreesRead scopes) count table.old top image.now at scopes }
@@ -272,14 +229,12 @@ fn trees(table: &mut [u32], top: u32, image: &[u8], at: usize, scopes: u32, coun
 {
     let mut end = top;
     let mut past = at;
-    let mut left = count;
     let mut turned: u32 = 0;
-    while left != 0 {
+    for _ in 0..count {
         let one = tree(table, end, image, past, scopes);
         let m = things::link(table, one.top, one.at, turned);
         end = m.top;
         past = one.past;
-        left -= 1;
         turned = m.at;
     }
     let chain = things::turn(table, end, turned);

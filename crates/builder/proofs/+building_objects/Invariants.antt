@@ -9,8 +9,5 @@ decreases-object l = (length l.image.now - l.at) * 3
 abbrev pub decreases-objects : goal.decreases-objects
 decreases-objects l = (length l.image.now - l.at) * 3 + 1
 
-abbrev pub invariant-objects-loop-left : goal.invariant-objects-loop-left
-invariant-objects-loop-left l = Going (ObjectsRead l.scopes) l.count l.initial.table l.top l.image l.at l.table l.end l.past l.left l.turned
-
-abbrev pub decreases-objects-loop-left : goal.decreases-objects-loop-left
-decreases-objects-loop-left l = l.left
+abbrev pub invariant-objects-loop : goal.invariant-objects-loop
+invariant-objects-loop l = Going (ObjectsRead l.scopes) l.count l.initial.table l.top l.image l.at l.table l.end l.past (l.count - l.counter) l.turned

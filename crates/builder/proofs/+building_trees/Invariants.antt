@@ -15,8 +15,5 @@ decreases-tree l = (length l.image.now - l.at) * 3
 abbrev pub decreases-trees : goal.decreases-trees
 decreases-trees l = (length l.image.now - l.at) * 3 + 1
 
-abbrev pub invariant-trees-loop-left : goal.invariant-trees-loop-left
-invariant-trees-loop-left l = Going (TreesRead l.scopes) l.count l.initial.table l.top l.image l.at l.table l.end l.past l.left l.turned
-
-abbrev pub decreases-trees-loop-left : goal.decreases-trees-loop-left
-decreases-trees-loop-left l = l.left
+abbrev pub invariant-trees-loop : goal.invariant-trees-loop
+invariant-trees-loop l = Going (TreesRead l.scopes) l.count l.initial.table l.top l.image l.at l.table l.end l.past (l.count - l.counter) l.turned

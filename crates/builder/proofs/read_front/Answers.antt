@@ -1,9 +1,8 @@
-use Rattle.std.proofs.Common.{rules, ◌-◌}
 use Rattle.builder.proofs.read_front.Goals as goal
-use Rattle.builder.proofs.Fronts.{laws}
+use Rattle.builder.proofs.Fronts.{number-here, front_read}
 
-pub read_number-n-requires : goal.read_number-n-requires
-read_number-n-requires c = search (laws, rules)
+pub read_number-number-requires : goal.read_number-number-requires
+read_number-number-requires c = number-here c.requires c.read_number-tag.ensures c.in-Ok.is c.read_sets.ensures
 
-pub returns-in-At : goal.returns-in-At
-returns-in-At c = search (laws, rules)
+pub returns : goal.returns
+returns c = front_read c.requires c.read_number-tag.ensures c.in-Ok.is c.read_sets.ensures c.read_number-number.ensures

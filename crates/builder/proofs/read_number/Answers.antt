@@ -1,6 +1,5 @@
-use Rattle.std.proofs.Common.{rules, ◌-◌}
 use Rattle.builder.proofs.read_number.Goals as goal
-use Rattle.builder.proofs.Fronts.{laws}
+use Rattle.builder.proofs.Fronts.{number_read}
 
-pub returns-in-Read : goal.returns-in-Read
-returns-in-Read c = search (laws, rules)
+pub returns : goal.returns
+returns c = number_read c.requires c.number.ensures c.in-Ok.is
