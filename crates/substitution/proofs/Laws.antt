@@ -7,19 +7,18 @@ use borrow.Author.Tests.{eq-eqb, ne_eqb}
 use lib.ListN.{length}
 use Rattle.model.specs.Trees.{Tree, fun, tcons, tsize, substitute, substitute_all}
 use Rattle.table.specs.Tags.{variable_tag, application_tag, function_tag, list_value_tag}
-use Rattle.table.specs.Words.{get_node, get_body, get_cell}
+use Rattle.table.specs.Words.{get_node, get_body}
 use Rattle.table.specs.declared.Node.{Node}
 use Rattle.table.specs.declared.Body.{Body}
-use Rattle.table.specs.declared.Cell.{Cell}
 use Rattle.table.proofs.Laws.{same_refl, same_trans}
 use Rattle.things.specs.Weights.{tsizes}
-use Rattle.things.specs.Rep.{Rep, RepP, is-var, is-app, is-fun, is-lst, is-datum, is-atom, is-list, is_none}
-use Rattle.things.specs.Making.{Roomy, Stored, Closable, Closed, Linkable, Linked}
-use Rattle.things.proofs.Weighing.{size-app, size-fun, size-lst, size_none, size-cons, size_pos}
-use Rattle.things.proofs.Frame.{below, stays_p, carry, carry_p}
-use Rattle.things.proofs.ByTag.{tag_is, var-at, app-at, fun-at, lst-at, part_at, none-at}
+use Rattle.things.specs.Rep.{Rep, RepP, is-var, is-app, is-fun, is-lst, is-datum, is-atom, is-list}
+use Rattle.things.specs.Making.{Roomy, Stored, Closable, Closed}
+use Rattle.things.proofs.Weighing.{size-app, size-fun, size-lst, size_pos}
+use Rattle.things.proofs.Frame.{below, stays_p}
+use Rattle.things.proofs.ByTag.{tag_is, var-at, app-at, fun-at, lst-at}
 use Rattle.substitution.specs.Substituting.{ReadyToSubstitute, ReadyP, ReadyB, ReadyL, Substituted, SubstitutedP, SubstitutedB, SubstitutedL}
-use Rattle.table.specs.Sizes.{cell_size, node_size}
+use Rattle.table.specs.Sizes.{node_size}
 
 -- ---- substitute
 

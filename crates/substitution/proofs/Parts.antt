@@ -16,7 +16,7 @@ use Rattle.things.specs.Turning.{turn_onto, counts, Turnable, Turned}
 use Rattle.things.proofs.Weighing.{size-cons, size_none}
 use Rattle.things.proofs.Frame.{carry, carry_p}
 use Rattle.things.proofs.ByTag.{part_at, none-at}
-use Rattle.things.proofs.Turning.{count-more, count_none, turn_more}
+use Rattle.things.proofs.Turning.{count-more, turn_more}
 use Rattle.substitution.specs.Substituting.{ReadyToSubstitute, ReadyP, Substituted, SubstitutedP}
 
 -- `from` is left of the chain of ts, and `at` is what the parts before it became, the last first

@@ -15,28 +15,24 @@ pub fn substitute(table: &mut [u32], top: u32, i: u32, x: Name, v: u32) -> Made
     ensures { Substituted table.old table.new top i x.0 v result.at result.top }
 {
     let n = table::get_node(table, i);
-    let tag = n.tag;
-    let content = n.content;
-    if tag == Node::VARIABLE {
-        if content == x.0 {
-            return Made { at: v, top };
+    match n.tag {
+        Node::VARIABLE => {
+            if n.content == x.0 {
+                return Made { at: v, top };
+            }
+            Made { at: i, top }
         }
-        return Made { at: i, top };
-    }
-    if tag == Node::APPLICATION {
-        return substitute_list(table, top, content, Node::APPLICATION, x, v);
-    }
-    if tag == Node::LIST_VALUE {
-        return substitute_list(table, top, content, Node::LIST_VALUE, x, v);
-    }
-    if tag == Node::FUNCTION {
-        if x.0 == content {
-            return Made { at: i, top };
+        Node::APPLICATION => substitute_list(table, top, n.content, Node::APPLICATION, x, v),
+        Node::LIST_VALUE => substitute_list(table, top, n.content, Node::LIST_VALUE, x, v),
+        Node::FUNCTION => {
+            if x.0 == n.content {
+                return Made { at: i, top };
+            }
+            let body = table::get_body(table, i).at;
+            substitute_body(table, top, body, Name(n.content), x, v)
         }
-        let b = table::get_body(table, i);
-        return substitute_body(table, top, b.at, Name(content), x, v);
+        _ => Made { at: i, top },
     }
-    Made { at: i, top }
 }
 
 // The node of that tag whose chain is c with v for x.
@@ -59,7 +55,8 @@ fn substitute_body(table: &mut [u32], top: u32, b: u32, name: Name, x: Name, v: 
     things::make_function(table, m.top, name, m.at)
 }
 
-// The chain c with v for x, made with its last part first and then turned round.
+// The chain c with v for x, made with its last part first and then turned round. The table that holds the chain is written meanwhile, so no
+// iterator goes over it.
 #[cycle(substituting)]
 fn substitute_parts(table: &mut [u32], top: u32, c: u32, x: Name, v: u32) -> Made
     requires { ReadyP table.old top c v }

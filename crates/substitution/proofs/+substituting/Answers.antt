@@ -1,38 +1,37 @@
-use Rattle.std.proofs.Common.{rules, ◌-◌}
+use Rattle.std.proofs.Common.{rules}
 use Rattle.substitution.proofs.+substituting.Goals as goal
 use Rattle.substitution.proofs.Laws.{laws}
 use Rattle.substitution.proofs.Parts.{parts_laws}
 
-pub substitute-returns-then-content-x : goal.substitute-returns-then-content-x
-substitute-returns-then-content-x t c = search (laws, rules)
+pub substitute-returns-then-n-x : goal.substitute-returns-then-n-x
+substitute-returns-then-n-x t c = search (laws, rules)
 
-pub substitute-returns-then-tag-eq-VARIABLE : goal.substitute-returns-then-tag-eq-VARIABLE
-substitute-returns-then-tag-eq-VARIABLE t c = search (laws, rules)
+pub substitute-returns-else-n-x : goal.substitute-returns-else-n-x
+substitute-returns-else-n-x t c = search (laws, rules)
+
+pub substitute-returns-in-7 : goal.substitute-returns-in-7
+substitute-returns-in-7 t c = search (laws, rules)
+
+pub substitute-returns-in-9 : goal.substitute-returns-in-9
+substitute-returns-in-9 t c = search (laws, rules)
+
+pub substitute-returns-then-x-n : goal.substitute-returns-then-x-n
+substitute-returns-then-x-n t c = search (laws, rules)
+
+pub substitute-returns-else-x-n : goal.substitute-returns-else-x-n
+substitute-returns-else-x-n t c = search (laws, rules)
+
+pub substitute-returns-in_default : goal.substitute-returns-in_default
+substitute-returns-in_default t c = search (laws, rules)
 
 pub substitute-substitute_list-requires : goal.substitute-substitute_list-requires
 substitute-substitute_list-requires t c = search (laws, rules)
 
-pub substitute-returns-then-tag-eq-APPLICATION : goal.substitute-returns-then-tag-eq-APPLICATION
-substitute-returns-then-tag-eq-APPLICATION t c = search (laws, rules)
-
-pub substitute-substitute_list-requires-then-tag-eq-LIST_VALUE :
-    goal.substitute-substitute_list-requires-then-tag-eq-LIST_VALUE
-substitute-substitute_list-requires-then-tag-eq-LIST_VALUE t c = search (laws, rules)
-
-pub substitute-returns-then-tag-eq-LIST_VALUE : goal.substitute-returns-then-tag-eq-LIST_VALUE
-substitute-returns-then-tag-eq-LIST_VALUE t c = search (laws, rules)
-
-pub substitute-returns-then-x-content : goal.substitute-returns-then-x-content
-substitute-returns-then-x-content t c = search (laws, rules)
+pub substitute-substitute_list-requires-in-9 : goal.substitute-substitute_list-requires-in-9
+substitute-substitute_list-requires-in-9 t c = search (laws, rules)
 
 pub substitute-substitute_body-requires : goal.substitute-substitute_body-requires
 substitute-substitute_body-requires t c = search (laws, rules)
-
-pub substitute-returns-then-tag-eq-FUNCTION : goal.substitute-returns-then-tag-eq-FUNCTION
-substitute-returns-then-tag-eq-FUNCTION t c = search (laws, rules)
-
-pub substitute-returns : goal.substitute-returns
-substitute-returns t c = search (laws, rules)
 
 pub substitute_body-make_function-requires : goal.substitute_body-make_function-requires
 substitute_body-make_function-requires t c = search (laws, rules)

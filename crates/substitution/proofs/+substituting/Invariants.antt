@@ -1,4 +1,4 @@
-use Rattle.std.proofs.Common.{◌+◌, ◌-◌, ◌*◌}
+use Rattle.std.proofs.Common.{◌+◌, ◌*◌}
 use Rattle.substitution.proofs.+substituting.Given as goal
 use Rattle.substitution.proofs.Parts.{Going}
 
