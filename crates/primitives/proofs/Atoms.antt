@@ -1,12 +1,14 @@
 -- same and pick: one law for each way out.
 use mathlib.Core.Path.{◌≡◌, refl, sym, ap, ◌∙◌}
 use mathlib.Core.List.{List}
-use mathlib.Core.Bool.{Bool, ◌&&◌}
+use mathlib.Core.Bool.{Bool, true, false, ◌&&◌}
 use mathlib.Core.Option.{none, some}
 use Prim.Native.Nat.{ℕ, zero, suc, ◌+◌, ◌≤◌, ◌<◌}
 use native.Mathlib.Omega.{arith}
 use borrow.Author.Tests.{eq-eqb, ne_eqb}
+use mir.Val.{bool_byte}
 use lib.Dec.{eqb, eqb-suc-suc}
+use Rattle.std.specs.Prelude.{Some, None}
 use Rattle.model.specs.Choice.{when◌then◌else◌}
 use Rattle.model.specs.Objects as m
 use Rattle.model.specs.Objects.{Atom, number, tag_of, content_of, same_atom}
@@ -21,22 +23,23 @@ use Rattle.things.specs.declared.Made.{Made}
 use Rattle.things.proofs.ByTag.{tag_is, datum-at}
 use Rattle.things.proofs.Making.{made-datum}
 use Rattle.primitives.specs.Working.{wrong, Does2, Does3, same, pick, agreed}
-use Rattle.primitives.specs.declared.Part.TheVariants.{Wrong, Piece}
 use Rattle.primitives.proofs.Common.{node-room, read-inside, found, added, given-none}
 
 -- ---- agree
 
-pub agree_kind : (a b : Node) → ¬ (a.tag ≡ b.tag) → 0 ≡ agreed a b
-unfolding agreed
-agree_kind a b h = rw (ne_eqb a.tag b.tag h) refl
+-- of two tests the first that fails says how the whole is
+module _ (a b : Node) {n : ℕ} {x : Bool} (e : n ≡ bool_byte x) where
+  pub agree_kind : ¬ (a.tag ≡ b.tag) → x ≡ eqb a.tag b.tag → n ≡ agreed a b
+  unfolding agreed
+  agree_kind h k = let f : x ≡ false = k ∙ ne_eqb a.tag b.tag h in rw (ne_eqb a.tag b.tag h, e, f) refl
 
-pub agree_content : (a b : Node) → a.tag ≡ b.tag → ¬ (a.content ≡ b.content) → 0 ≡ agreed a b
-unfolding agreed
-agree_content a b h k = rw (eq-eqb a.tag b.tag h, ne_eqb a.content b.content k) refl
-
-pub agree_both : (a b : Node) → a.tag ≡ b.tag → a.content ≡ b.content → 1 ≡ agreed a b
-unfolding agreed
-agree_both a b h k = rw (eq-eqb a.tag b.tag h, eq-eqb a.content b.content k) refl
+  pub agree_content : a.tag ≡ b.tag → x ≡ eqb a.content b.content → n ≡ agreed a b
+  unfolding agreed
+  agree_content h k = rw (eq-eqb a.tag b.tag h, e, k) (as_number (eqb a.content b.content))
+    where
+      as_number : (t : Bool) → bool_byte t ≡ (when true && t then 1 else 0)
+      as_number true = refl
+      as_number false = refl
 
 -- ---- same
 
@@ -60,16 +63,16 @@ shifted (suc n) a b =
     ∙ shifted n a b
 
 module _ {l : List ℕ} {top x y : ℕ} {p q : Node} (e : p ≡ get_node l x) (k : q ≡ get_node l y) where
-  pub same-wrong : p.tag < atom_value_tag → Does2 same l l top x y Wrong
+  pub same-wrong : p.tag < atom_value_tag → Does2 same l l top x y None
   unfolding same primitive
   same-wrong h = record { means = λ t u a b. wrong (rw (not-atom e a h) refl) }
 
-  pub same_wrong_2 : q.tag < atom_value_tag → Does2 same l l top x y Wrong
+  pub same_wrong_2 : q.tag < atom_value_tag → Does2 same l l top x y None
   unfolding same primitive
   same_wrong_2 h = record { means = λ t u a b. wrong (rw (not-atom k b h) (given-none (as_atom t))) }
 
   pub same-is : {n : ℕ} {l1 : List ℕ} {d : Made} → atom_value_tag ≤ p.tag → atom_value_tag ≤ q.tag → n ≡ agreed p q
-      → Stored l l1 top (record { tag = number_value_tag; content = n }) d.at d.top → Does2 same l l1 top x y (Piece d)
+      → Stored l l1 top (record { tag = number_value_tag; content = n }) d.at d.top → Does2 same l l1 top x y (Some d)
   unfolding same primitive as_atom tag_of content_of same_atom agreed
   same-is {n} {l1} {d} hp hq h s =
       record {
@@ -125,13 +128,13 @@ pick_first zero u v h = absurd (h refl)
 pick_first (suc n) u v h = refl
 
 module _ {l : List ℕ} {top x y z : ℕ} {p : Node} (e : p ≡ get_node l x) where
-  pub pick-wrong : ¬ (p.tag ≡ number_value_tag) → Does3 pick l l top x y z Wrong
+  pub pick-wrong : ¬ (p.tag ≡ number_value_tag) → Does3 pick l l top x y z None
   pick-wrong h = record { means = λ t u v a b c. wrong (none-picked u v a e h) }
 
-  pub pick-zero : p.tag ≡ number_value_tag → p.content ≡ 0 → Does3 pick l l top x y z (Piece (record { at = z; top = top }))
+  pub pick-zero : p.tag ≡ number_value_tag → p.content ≡ 0 → Does3 pick l l top x y z (Some (record { at = z; top = top }))
   pick-zero h k = record { means = λ t u v a b c. found z v (ap (λ (w : Tree). pick w u v) (number_at a e h) ∙ pick_second p.content u v k) c }
 
-  pub pick_other : p.tag ≡ number_value_tag → ¬ (p.content ≡ 0) → Does3 pick l l top x y z (Piece (record { at = y; top = top }))
+  pub pick_other : p.tag ≡ number_value_tag → ¬ (p.content ≡ 0) → Does3 pick l l top x y z (Some (record { at = y; top = top }))
   pick_other h k = record { means = λ t u v a b c. found y u (ap (λ (w : Tree). pick w u v) (number_at a e h) ∙ pick_first p.content u v k) b }
 
-pub ruleset laws = (node-room, read-inside, agree_kind, agree_content, agree_both, same-wrong, same_wrong_2, same-is, pick-wrong, pick-zero, pick_other)
+pub ruleset laws = (node-room, read-inside, same-wrong, same_wrong_2, same-is, pick-wrong, pick-zero, pick_other)

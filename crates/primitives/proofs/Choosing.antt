@@ -8,12 +8,13 @@ use native.Mathlib.Omega.{arith}
 use borrow.Author.Tests.{eqb-true}
 use lib.Dec.{eqb, leb}
 use lib.ListN.{get_or}
+use Rattle.std.specs.Prelude as std
 use Rattle.model.specs.Trees.{Tree, Trees, tcount}
 use Rattle.model.specs.Evaluating as m
 use Rattle.model.specs.Evaluating.{Plain, Local, Primitive, plain, local, primitive_of, primitive, arity, takes, wants_use, argument}
 use Rattle.things.specs.Rep.{Rep}
+use Rattle.things.specs.declared.Made.{Made}
 use Rattle.primitives.specs.Working.{ReadyToApply, ReadyAll, Given, no_more, one_more, Pieced, Does1, Does2, Does3, Works, stx_e, mk_stx, first, rest, linked, same, pick}
-use Rattle.primitives.specs.declared.Part.{Part}
 
 -- ---- how many arguments, and where
 
@@ -224,7 +225,7 @@ module _ {l : List ℕ} {top p x y z : ℕ} where
   unfolding primitive_of arity
   ready_5 h r = ready-second r (is_the 5 refl h r.is) (omega arith)
 
-  module _ {l1 : List ℕ} {r : Part} where
+  module _ {l1 : List ℕ} {r : std.Option Made} where
     -- where the number can only be primitive v's
     works : (v : Plain)
         → ((ts : Trees) → Given l top x y z ts → tcount ts ≡ arity (plain v) → Pieced l l1 top (primitive v (argument ts 0) (argument ts 1) (argument ts 2)) r)

@@ -5,6 +5,7 @@ use mathlib.Core.Option.{Option, none, some}
 use Prim.Native.Nat.{ℕ, ◌+◌, ◌≤◌}
 use native.Mathlib.Omega.{arith}
 use lib.ListN.{length}
+use Rattle.std.specs.Prelude.{Some}
 use Rattle.model.specs.Choice.{given}
 use Rattle.model.specs.Trees.{Tree}
 use Rattle.table.proofs.Laws.{same_refl}
@@ -14,7 +15,6 @@ use Rattle.things.specs.Making.{Roomy, Stored}
 use Rattle.things.specs.declared.Made.{Made}
 use Rattle.things.proofs.Frame.{below}
 use Rattle.primitives.specs.Working.{ReadyToApply, Pieced, piece}
-use Rattle.primitives.specs.declared.Part.TheVariants.{Piece}
 use Rattle.table.specs.Sizes.{node_size}
 
 pub node-room : {l : List ℕ} {top x : ℕ} → ReadyToApply l top x → Roomy l top node_size
@@ -24,11 +24,11 @@ pub read-inside : {l : List ℕ} {top x : ℕ} → ReadyToApply l top x → x + 
 read-inside r = omega (arith, below r.shown, r.room.fits)
 
 -- a value that is there already
-pub found : {l : List ℕ} {top : ℕ} {q : Option Tree} (at : ℕ) (v : Tree) → q ≡ some v → Rep l top at v → Pieced l l top q (Piece (record { at = at; top = top }))
+pub found : {l : List ℕ} {top : ℕ} {q : Option Tree} (at : ℕ) (v : Tree) → q ≡ some v → Rep l top at v → Pieced l l top q (Some (record { at = at; top = top }))
 found {l} {top} at v e r = piece (record { at = at; top = top }) v e r (same_refl top l) (omega arith) (omega arith)
 
 -- a value that is one node more
-pub added : {l l1 : List ℕ} {top : ℕ} {q : Option Tree} {n : Node} {m : Made} (v : Tree) → q ≡ some v → Rep l1 m.top m.at v → Stored l l1 top n m.at m.top → Pieced l l1 top q (Piece m)
+pub added : {l l1 : List ℕ} {top : ℕ} {q : Option Tree} {n : Node} {m : Made} (v : Tree) → q ≡ some v → Rep l1 m.top m.at v → Stored l l1 top n m.at m.top → Pieced l l1 top q (Some m)
 added {m = m} v e r s = piece m v e r s.kept (omega (arith, s.grows)) (omega (arith, s.grows))
 
 -- a node known otherwise

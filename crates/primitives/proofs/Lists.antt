@@ -5,6 +5,7 @@ use mathlib.Core.Option.{none}
 use Prim.Native.Nat.{ℕ, ◌+◌, ◌≤◌}
 use native.Mathlib.Omega.{arith}
 use lib.ListN.{length}
+use Rattle.std.specs.Prelude.{Some, None}
 use Rattle.model.specs.Trees.{Tree, tcons, lst, as_list}
 use Rattle.model.specs.Evaluating.{primitive, first_of, rest_of}
 use Rattle.table.specs.Tags.{list_value_tag}
@@ -18,7 +19,6 @@ use Rattle.things.specs.declared.Made.{Made}
 use Rattle.things.proofs.ByTag.{tag_is, lst-at, part_at, none-at}
 use Rattle.things.proofs.Making.{made-lst}
 use Rattle.primitives.specs.Working.{ReadyToApply, wrong, piece, Does1, Does2, first, rest, linked}
-use Rattle.primitives.specs.declared.Part.TheVariants.{Wrong, Piece}
 use Rattle.primitives.proofs.Common.{node-room, read-inside, found, added}
 use Rattle.table.specs.Sizes.{cell_size, node_size}
 
@@ -35,20 +35,20 @@ not-list e (is-list a q y r) h = refl
 -- ---- first and rest
 
 module _ {l : List ℕ} {top x : ℕ} {p : Node} (e : p ≡ get_node l x) where
-  pub first-wrong : ¬ (p.tag ≡ list_value_tag) → Does1 first l l top x Wrong
+  pub first-wrong : ¬ (p.tag ≡ list_value_tag) → Does1 first l l top x None
   unfolding first primitive
   first-wrong h = record { means = λ t r. wrong (rw (not-list e r h) refl) }
 
-  pub rest-wrong : ¬ (p.tag ≡ list_value_tag) → Does1 rest l l top x Wrong
+  pub rest-wrong : ¬ (p.tag ≡ list_value_tag) → Does1 rest l l top x None
   unfolding rest primitive
   rest-wrong h = record { means = λ t r. wrong (rw (not-list e r h) refl) }
 
   module _ (h : p.tag ≡ list_value_tag) where
-    pub first-empty : p.content ≡ 0 → Does1 first l l top x Wrong
+    pub first-empty : p.content ≡ 0 → Does1 first l l top x None
     unfolding first primitive as_list first_of
     first-empty k = record { means = λ t r. let w = lst-at r e h in wrong (ap first (w.is ∙ ap lst (none-at w.shown k))) }
 
-    pub rest-empty : p.content ≡ 0 → Does1 rest l l top x Wrong
+    pub rest-empty : p.content ≡ 0 → Does1 rest l l top x None
     unfolding rest primitive as_list rest_of
     rest-empty k = record { means = λ t r. let w = lst-at r e h in wrong (ap rest (w.is ∙ ap lst (none-at w.shown k))) }
 
@@ -56,7 +56,7 @@ module _ {l : List ℕ} {top x : ℕ} {p : Node} (e : p ≡ get_node l x) where
     chain-inside r n = let w = lst-at r.shown e h in omega (arith, (part_at w.shown n refl).cell.inside, r.room.fits)
 
     module _ (n : ¬ (p.content ≡ 0)) {cell : Cell} (k : cell ≡ get_cell l p.content) where
-      pub first-is : Does1 first l l top x (Piece (record { at = cell.head; top = top }))
+      pub first-is : Does1 first l l top x (Some (record { at = cell.head; top = top }))
       unfolding first primitive as_list first_of
       first-is =
           record {
@@ -66,7 +66,7 @@ module _ {l : List ℕ} {top x : ℕ} {p : Node} (e : p ≡ get_node l x) where
                 found cell.head a.first (ap first (w.is ∙ ap lst a.is)) a.cell.shown;
           }
 
-      pub rest-is : {l1 : List ℕ} {m : Made} → Stored l l1 top (record { tag = list_value_tag; content = cell.tail }) m.at m.top → Does1 rest l l1 top x (Piece m)
+      pub rest-is : {l1 : List ℕ} {m : Made} → Stored l l1 top (record { tag = list_value_tag; content = cell.tail }) m.at m.top → Does1 rest l l1 top x (Some m)
       unfolding rest primitive as_list rest_of
       rest-is {l1} {m} d =
           record {
@@ -79,7 +79,7 @@ module _ {l : List ℕ} {top x : ℕ} {p : Node} (e : p ≡ get_node l x) where
 -- ---- link
 
 module _ {l : List ℕ} {top x y : ℕ} {p : Node} (e : p ≡ get_node l y) where
-  pub link-wrong : ¬ (p.tag ≡ list_value_tag) → Does2 linked l l top x y Wrong
+  pub link-wrong : ¬ (p.tag ≡ list_value_tag) → Does2 linked l l top x y None
   unfolding linked primitive
   link-wrong h = record { means = λ t u a b. wrong (rw (not-list e b h) refl) }
 
@@ -96,7 +96,7 @@ module _ {l : List ℕ} {top x y : ℕ} {p : Node} (e : p ≡ get_node l y) wher
         }
 
     pub link-is : {l1 l2 : List ℕ} {at1 top1 : ℕ} {m : Made} → Linked l l1 top x p.content at1 top1
-        → Stored l1 l2 top1 (record { tag = list_value_tag; content = at1 }) m.at m.top → Does2 linked l l2 top x y (Piece m)
+        → Stored l1 l2 top1 (record { tag = list_value_tag; content = at1 }) m.at m.top → Does2 linked l l2 top x y (Some m)
     unfolding linked primitive as_list
     link-is {l1} {l2} {at1} {top1} {m} k d =
         record {

@@ -6,6 +6,7 @@ use mathlib.Core.Option.{Option, none, some}
 use Prim.Native.Nat.{ℕ, ◌+◌, ◌-◌, ◌≤◌, ◌<◌}
 use native.Mathlib.Omega.{arith}
 use lib.ListN.{length}
+use Rattle.std.specs.Prelude.{Some, None}
 use Rattle.model.specs.Choice.{given}
 use Rattle.model.specs.Objects as m
 use Rattle.model.specs.Objects.{Atom, Stx, Stxs, tag_of, content_of, atom, list}
@@ -26,18 +27,17 @@ use Rattle.things.proofs.ByTag.{tag_is, not-syntax, lst-at, datum-at, atom-at, l
 use Rattle.things.proofs.Making.{made-lst, made-datum, made-atom, made_list}
 use Rattle.things.proofs.Measuring.{cell_inside}
 use Rattle.primitives.specs.Working.{ReadyToApply, wrong, Does1, Does2, stx_e, mk_stx, Opened, all, other, AllSyntax}
-use Rattle.primitives.specs.declared.Part.TheVariants.{Wrong, Piece}
 use Rattle.primitives.proofs.Common.{node-room, read-inside, added, renamed}
 use Rattle.table.specs.Sizes.{cell_size, node_size}
 
 -- ---- stx-e
 
 module _ {l : List ℕ} {top x : ℕ} {p : Node} (e : p ≡ get_node l x) where
-  pub open_wrong : list_tag ≤ p.tag → ¬ (p.tag ≡ list_tag) → Does1 stx_e l l top x Wrong
+  pub open_wrong : list_tag ≤ p.tag → ¬ (p.tag ≡ list_tag) → Does1 stx_e l l top x None
   unfolding stx_e primitive
   open_wrong h k = record { means = λ t r. let n : list_tag < p.tag = omega (arith, k) in wrong (rw (not-syntax r e n) refl) }
 
-  pub open_atom : {l1 : List ℕ} {d : Made} → p.tag < list_tag → Stored l l1 top (record { tag = atom_value_tag + p.tag; content = p.content }) d.at d.top → Does1 stx_e l l1 top x (Piece d)
+  pub open_atom : {l1 : List ℕ} {d : Made} → p.tag < list_tag → Stored l l1 top (record { tag = atom_value_tag + p.tag; content = p.content }) d.at d.top → Does1 stx_e l l1 top x (Some d)
   unfolding stx_e primitive as_stx content
   open_atom {l1} {d} h s =
       record {
@@ -47,7 +47,7 @@ module _ {l : List ℕ} {top x : ℕ} {p : Node} (e : p ≡ get_node l x) where
             added (datum w.value) (ap stx_e w.is) (made-datum w.value (renamed (ap (λ (n : Node). record { tag = atom_value_tag + n.tag; content = n.content }) same) s)) s;
       }
 
-  pub open_list : {l1 : List ℕ} {d : Made} → p.tag ≡ list_tag → Stored l l1 top (record { tag = list_value_tag; content = p.content }) d.at d.top → Does1 stx_e l l1 top x (Piece d)
+  pub open_list : {l1 : List ℕ} {d : Made} → p.tag ≡ list_tag → Stored l l1 top (record { tag = list_value_tag; content = p.content }) d.at d.top → Does1 stx_e l l1 top x (Some d)
   unfolding stx_e primitive as_stx content
   open_list {l1} {d} h s =
       record { means = λ t r. let w = list_at r e h in added (lst (from_stxs w.parts)) (ap stx_e w.is) (made-lst s w.shown) s }
@@ -161,7 +161,7 @@ remade-atom : (c : m.Sets) (a : Atom) → remade c (datum a) ≡ some (atom c a)
 unfolding remade
 remade-atom c a = refl
 
-pub close_wrong : {l : List ℕ} {top x y : ℕ} {s : Node} → s ≡ get_node l y → list_tag < s.tag → Does2 mk_stx l l top x y Wrong
+pub close_wrong : {l : List ℕ} {top x y : ℕ} {s : Node} → s ≡ get_node l y → list_tag < s.tag → Does2 mk_stx l l top x y None
 unfolding mk_stx primitive
 close_wrong e h = record { means = λ t u a b. wrong (rw (not-syntax b e h) refl) }
 
@@ -170,10 +170,10 @@ close_seen {top = top} k r h =
     let w = lst-at r.shown k h in record { top = top; thing = w.parts; shown = w.shown; inside = omega (arith, r.room.fits); small = r.room.small }
 
 module _ {l : List ℕ} {top x y : ℕ} {p : Node} (k : p ≡ get_node l x) where
-  pub close_value : ¬ (p.tag ≡ list_value_tag) → p.tag < atom_value_tag → Does2 mk_stx l l top x y Wrong
+  pub close_value : ¬ (p.tag ≡ list_value_tag) → p.tag < atom_value_tag → Does2 mk_stx l l top x y None
   close_value h n = record { means = λ t u a b. wrong (closes_none t u (λ c. no_value c a k h n)) }
 
-  pub close_parts : {z : Bool} → p.tag ≡ list_value_tag → AllSyntax l p.content z → z ≡ false → Does2 mk_stx l l top x y Wrong
+  pub close_parts : {z : Bool} → p.tag ≡ list_value_tag → AllSyntax l p.content z → z ≡ false → Does2 mk_stx l l top x y None
   close_parts h d n =
       record {
         means = λ t u a b.
@@ -183,7 +183,7 @@ module _ {l : List ℕ} {top x y : ℕ} {p : Node} (k : p ≡ get_node l x) wher
 
   module _ {s : Node} {c : Sets} (e : s ≡ get_node l y) (f : s.tag ≤ list_tag) (g : c ≡ get_sets l y) {l1 : List ℕ} {j : Made} where
     pub close_list : {z : Bool} → p.tag ≡ list_value_tag → AllSyntax l p.content z → z ≡ true
-        → StoredObject l l1 top (record { tag = list_tag; content = p.content }) c j.at j.top → Does2 mk_stx l l1 top x y (Piece j)
+        → StoredObject l l1 top (record { tag = list_tag; content = p.content }) c j.at j.top → Does2 mk_stx l l1 top x y (Some j)
     close_list h d n o =
         record {
           means = λ t u a b.
@@ -196,7 +196,7 @@ module _ {l : List ℕ} {top x y : ℕ} {p : Node} (k : p ≡ get_node l x) wher
               (made_list (ap sets_of g ∙ i.sets) o shown) o.stored;
         }
 
-    pub close_atom : atom_value_tag ≤ p.tag → StoredObject l l1 top (record { tag = p.tag - atom_value_tag; content = p.content }) c j.at j.top → Does2 mk_stx l l1 top x y (Piece j)
+    pub close_atom : atom_value_tag ≤ p.tag → StoredObject l l1 top (record { tag = p.tag - atom_value_tag; content = p.content }) c j.at j.top → Does2 mk_stx l l1 top x y (Some j)
     close_atom h o =
         record {
           means = λ t u a b.

@@ -1,4 +1,6 @@
 -- What the primitives ask and give.
+use Rattle.std.specs.Prelude as std
+use Rattle.std.specs.Prelude.{Some, None}
 use Rattle.std.specs.Prelude.{◌≡◌, List, Bool, true, false, ◌&&◌, ℕ, ◌+◌, ◌≤◌, eqb}
 use Rattle.std.proofs.Math.Option.{Option, none, some}
 use Rattle.model.specs.Choice.{when◌then◌else◌}
@@ -11,8 +13,6 @@ use Rattle.table.specs.declared.Node.{Node}
 use Rattle.things.specs.Rep.{Rep, RepP}
 use Rattle.things.specs.Making.{Roomy}
 use Rattle.things.specs.declared.Made.{Made}
-use Rattle.primitives.specs.declared.Part.{Part}
-use Rattle.primitives.specs.declared.Part.TheVariants.{Wrong, Piece}
 use Rattle.table.specs.Sizes.{unit_size}
 
 -- ---- each of the rules' primitives, of as many values as it takes
@@ -69,20 +69,20 @@ pub record ReadyAll (l : List ℕ) (top p x y z : ℕ) : Type 0 where
 -- ---- what is given
 
 -- the value q, made of at most the words of a unit, or none
-pub data Pieced (l l' : List ℕ) (top : ℕ) (q : Option Tree) : Part → Type 0 where
-  wrong : q ≡ none → Pieced l l' top q Wrong
-  piece : (m : Made) (v : Tree) → q ≡ some v → Rep l' m.top m.at v → Same top l l' → top ≤ m.top → m.top ≤ top + unit_size → Pieced l l' top q (Piece m)
+pub data Pieced (l l' : List ℕ) (top : ℕ) (q : Option Tree) : std.Option Made → Type 0 where
+  wrong : q ≡ none → Pieced l l' top q None
+  piece : (m : Made) (v : Tree) → q ≡ some v → Rep l' m.top m.at v → Same top l l' → top ≤ m.top → m.top ≤ top + unit_size → Pieced l l' top q (Some m)
 
-pub record Does1 (f : Tree → Option Tree) (l l' : List ℕ) (top x : ℕ) (r : Part) : Type 0 where
+pub record Does1 (f : Tree → Option Tree) (l l' : List ℕ) (top x : ℕ) (r : std.Option Made) : Type 0 where
   pub means : (t : Tree) → Rep l top x t → Pieced l l' top (f t) r
 
-pub record Does2 (f : Tree → Tree → Option Tree) (l l' : List ℕ) (top x y : ℕ) (r : Part) : Type 0 where
+pub record Does2 (f : Tree → Tree → Option Tree) (l l' : List ℕ) (top x y : ℕ) (r : std.Option Made) : Type 0 where
   pub means : (t u : Tree) → Rep l top x t → Rep l top y u → Pieced l l' top (f t u) r
 
-pub record Does3 (f : Tree → Tree → Tree → Option Tree) (l l' : List ℕ) (top x y z : ℕ) (r : Part) : Type 0 where
+pub record Does3 (f : Tree → Tree → Tree → Option Tree) (l l' : List ℕ) (top x y z : ℕ) (r : std.Option Made) : Type 0 where
   pub means : (t u w : Tree) → Rep l top x t → Rep l top y u → Rep l top z w → Pieced l l' top (f t u w) r
 
-pub record Works (l l' : List ℕ) (top p x y z : ℕ) (r : Part) : Type 0 where
+pub record Works (l l' : List ℕ) (top p x y z : ℕ) (r : std.Option Made) : Type 0 where
   pub means : (q : Plain) → primitive_of p ≡ some (plain q) → (ts : Trees) → Given l top x y z ts → tcount ts ≡ arity (plain q)
       → Pieced l l' top (primitive q (argument ts 0) (argument ts 1) (argument ts 2)) r
 

@@ -10,14 +10,7 @@ ghost use Rattle.primitives.specs.Working.{ReadyToApply, ReadyAll, Does1, Does2,
 use table::Node;
 use things::Made;
 
-// A value, or none where an argument is of the wrong kind.
-#[derive(Clone, Copy)]
-pub enum Part {
-    Wrong,
-    Piece(Made),
-}
-
-// How many there are.
+// How many there are. A primitive goes by its number, which is a word of the table: any word is read.
 const COUNT: u32 = scopes::LAST_PRIMITIVE + 1;
 
 // How many arguments each takes.
@@ -27,11 +20,7 @@ const ARGUMENTS: [u32; COUNT as usize] = [1, 2, 1, 1, 2, 2, 3, 1, 2, 1];
 pub fn takes(p: u32, n: u32) -> bool
     ensures { result ≡ takes (primitive_of p) n }
 {
-    if p < COUNT {
-        let i = p as usize;
-        return n == ARGUMENTS[i];
-    }
-    false
+    p < COUNT && n == ARGUMENTS[p as usize]
 }
 
 // Request T-08, source document 000's local-value, local-expand and local-binder: those that want a macro use, the last.
@@ -46,47 +35,28 @@ pub const FIRST_LOCAL: u32 = MEANING_OF;
 pub fn is_local(p: u32) -> bool
     ensures { result ≡ wants_use (primitive_of p) }
 {
-    if COUNT <= p {
-        return false;
-    }
-    FIRST_LOCAL <= p
+    p < COUNT && FIRST_LOCAL <= p
 }
 
 // ---- 0 stx-e and 1 mk-stx
 
-fn stx_e(table: &mut [u32], top: u32, x: u32) -> Part
+fn stx_e(table: &mut [u32], top: u32, x: u32) -> Option<Made>
     requires { ReadyToApply table.old top x }
     ensures { Does1 stx_e table.old table.new top x result }
 {
     let o = table::get_node(table, x);
-    let tag = o.tag;
-    let content = o.content;
-    if tag < Node::LIST {
-        let m = things::make(
-            table,
-            top,
-            Node {
-                tag: Node::ATOM_VALUE + tag,
-                content,
-            },
-        );
-        return Part::Piece(m);
+    if Node::LIST < o.tag {
+        return None;
     }
-    if tag == Node::LIST {
-        let m = things::make(
-            table,
-            top,
-            Node {
-                tag: Node::LIST_VALUE,
-                content,
-            },
-        );
-        return Part::Piece(m);
+    if o.tag == Node::LIST {
+        let tag = Node::LIST_VALUE;
+        return Some(things::make(table, top, Node { tag, ..o }));
     }
-    Part::Wrong
+    let tag = Node::ATOM_VALUE + o.tag;
+    Some(things::make(table, top, Node { tag, ..o }))
 }
 
-// Each part of the chain c is a syntax object.
+// Each part of the chain c is a syntax object. An iterator over its cells, for two walks of all, is no plainer.
 fn all_syntax(table: &[u32], c: u32) -> bool
     requires { SeenP table.now c }
     ensures { AllSyntax table.now c result }
@@ -103,109 +73,75 @@ fn all_syntax(table: &[u32], c: u32) -> bool
     true
 }
 
-fn mk_stx(table: &mut [u32], top: u32, x: u32, y: u32) -> Part
+fn mk_stx(table: &mut [u32], top: u32, x: u32, y: u32) -> Option<Made>
     requires { ReadyToApply table.old top x × ReadyToApply table.old top y }
     ensures { Does2 mk_stx table.old table.new top x y result }
 {
-    let s = table::get_node(table, y);
-    if Node::LIST < s.tag {
-        return Part::Wrong;
+    if Node::LIST < table::get_node(table, y).tag {
+        return None;
     }
     let sets = table::get_sets(table, y);
     let o = table::get_node(table, x);
-    let tag = o.tag;
-    let content = o.content;
-    if tag == Node::LIST_VALUE {
-        if all_syntax(table, content) {
-            let m = things::make_object(
-                table,
-                top,
-                Node {
-                    tag: Node::LIST,
-                    content,
-                },
-                sets,
-            );
-            return Part::Piece(m);
+    if o.tag == Node::LIST_VALUE {
+        if !all_syntax(table, o.content) {
+            return None;
         }
-        return Part::Wrong;
+        let tag = Node::LIST;
+        return Some(things::make_object(table, top, Node { tag, ..o }, sets));
     }
-    if tag < Node::ATOM_VALUE {
-        return Part::Wrong;
-    }
-    let m = things::make_object(
-        table,
-        top,
-        Node {
-            tag: tag - Node::ATOM_VALUE,
-            content,
-        },
-        sets,
-    );
-    Part::Piece(m)
+    let tag = o.tag.checked_sub(Node::ATOM_VALUE)?;
+    Some(things::make_object(table, top, Node { tag, ..o }, sets))
 }
 
 // ---- 2 first, 3 rest and 4 link
 
-fn first(table: &[u32], top: u32, x: u32) -> Part
+fn first(table: &[u32], top: u32, x: u32) -> Option<Made>
     requires { ReadyToApply table.now top x }
     ensures { Does1 first table.now table.now top x result }
 {
     let o = table::get_node(table, x);
     if o.tag != Node::LIST_VALUE {
-        return Part::Wrong;
+        return None;
     }
-    let c = o.content;
-    if c == 0 {
-        return Part::Wrong;
+    if o.content == 0 {
+        return None;
     }
-    let cell = table::get_cell(table, c);
-    let at = cell.head;
-    Part::Piece(Made { at, top })
+    let at = table::get_cell(table, o.content).head;
+    Some(Made { at, top })
 }
 
-fn rest(table: &mut [u32], top: u32, x: u32) -> Part
+fn rest(table: &mut [u32], top: u32, x: u32) -> Option<Made>
     requires { ReadyToApply table.old top x }
     ensures { Does1 rest table.old table.new top x result }
 {
     let o = table::get_node(table, x);
     if o.tag != Node::LIST_VALUE {
-        return Part::Wrong;
+        return None;
     }
-    let c = o.content;
-    if c == 0 {
-        return Part::Wrong;
+    if o.content == 0 {
+        return None;
     }
-    let cell = table::get_cell(table, c);
-    let m = things::make(
-        table,
-        top,
-        Node {
-            tag: Node::LIST_VALUE,
-            content: cell.tail,
-        },
-    );
-    Part::Piece(m)
+    let value = Node {
+        tag: Node::LIST_VALUE,
+        content: table::get_cell(table, o.content).tail,
+    };
+    Some(things::make(table, top, value))
 }
 
-fn link(table: &mut [u32], top: u32, x: u32, y: u32) -> Part
+fn link(table: &mut [u32], top: u32, x: u32, y: u32) -> Option<Made>
     requires { ReadyToApply table.old top x × ReadyToApply table.old top y }
     ensures { Does2 linked table.old table.new top x y result }
 {
     let o = table::get_node(table, y);
     if o.tag != Node::LIST_VALUE {
-        return Part::Wrong;
+        return None;
     }
     let c = things::link(table, top, x, o.content);
-    let m = things::make(
-        table,
-        c.top,
-        Node {
-            tag: Node::LIST_VALUE,
-            content: c.at,
-        },
-    );
-    Part::Piece(m)
+    let value = Node {
+        tag: Node::LIST_VALUE,
+        content: c.at,
+    };
+    Some(things::make(table, c.top, value))
 }
 
 // ---- 5 same and 6 pick
@@ -214,55 +150,45 @@ fn link(table: &mut [u32], top: u32, x: u32, y: u32) -> Part
 fn agree(a: Node, b: Node) -> u32
     ensures { result ≡ agreed a b }
 {
-    if a.tag != b.tag {
-        return 0;
-    }
-    if a.content != b.content {
-        return 0;
-    }
-    1
+    u32::from(a.tag == b.tag && a.content == b.content)
 }
 
-fn same(table: &mut [u32], top: u32, x: u32, y: u32) -> Part
+fn same(table: &mut [u32], top: u32, x: u32, y: u32) -> Option<Made>
     requires { ReadyToApply table.old top x × ReadyToApply table.old top y }
     ensures { Does2 same table.old table.new top x y result }
 {
     let a = table::get_node(table, x);
     let b = table::get_node(table, y);
     if a.tag < Node::ATOM_VALUE {
-        return Part::Wrong;
+        return None;
     }
     if b.tag < Node::ATOM_VALUE {
-        return Part::Wrong;
+        return None;
     }
     let content = agree(a, b);
-    let m = things::make(
-        table,
-        top,
-        Node {
-            tag: Node::NUMBER_VALUE,
-            content,
-        },
-    );
-    Part::Piece(m)
+    let value = Node {
+        tag: Node::NUMBER_VALUE,
+        content,
+    };
+    Some(things::make(table, top, value))
 }
 
-fn pick(table: &[u32], top: u32, x: u32, y: u32, z: u32) -> Part
+fn pick(table: &[u32], top: u32, x: u32, y: u32, z: u32) -> Option<Made>
     requires { ReadyToApply table.now top x }
     ensures { Does3 pick table.now table.now top x y z result }
 {
     let o = table::get_node(table, x);
     if o.tag != Node::NUMBER_VALUE {
-        return Part::Wrong;
+        return None;
     }
     if o.content == 0 {
-        return Part::Piece(Made { at: z, top });
+        return Some(Made { at: z, top });
     }
-    Part::Piece(Made { at: y, top })
+    Some(Made { at: y, top })
 }
 
 // Primitive p, which wants no macro use, of the values x, y and z, as many of them as it takes.
-pub fn primitive(table: &mut [u32], top: u32, p: u32, x: u32, y: u32, z: u32) -> Part
+pub fn primitive(table: &mut [u32], top: u32, p: u32, x: u32, y: u32, z: u32) -> Option<Made>
     requires { ReadyAll table.old top p x y z }
     ensures { Works table.old table.new top p x y z result }
 {

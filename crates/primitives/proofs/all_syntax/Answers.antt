@@ -1,7 +1,4 @@
-use Rattle.std.proofs.Common.{rules, ◌≡◌, ℕ, ◌+◌, ◌-◌, ◌*◌, ◌<◌, ◌≤◌, length, ◌/◌, ◌%◌, Bool, true, false, nat_eq, nat_lt, List, [], ◌∷◌, ◌++◌, slice_index_or, slice_set, bit_and, bit_or, Fits, w8, w32, w64, Bor, MutBor}
-use Rattle.model.specs.Evaluating.{primitive_of, takes, wants_use}
-use Rattle.things.specs.Measuring.{SeenP}
-use Rattle.primitives.specs.Working.{ReadyToApply, ReadyAll, Does1, Does2, Does3, Works, stx_e, mk_stx, first, rest, linked, same, pick, agreed, AllSyntax}
+use Rattle.std.proofs.Common.{rules}
 use Rattle.primitives.proofs.all_syntax.Goals as goal
 use Rattle.primitives.proofs.Syntax.{laws}
 

@@ -1,7 +1,3 @@
-use Rattle.std.proofs.Common.{◌≡◌, ℕ, ◌+◌, ◌-◌, ◌*◌, ◌<◌, ◌≤◌, length}
-use Rattle.model.specs.Evaluating.{primitive_of, takes, wants_use}
-use Rattle.things.specs.Measuring.{SeenP}
-use Rattle.primitives.specs.Working.{ReadyToApply, ReadyAll, Does1, Does2, Does3, Works, stx_e, mk_stx, first, rest, linked, same, pick, agreed, AllSyntax}
 use Rattle.primitives.proofs.all_syntax.Given as goal
 use Rattle.primitives.proofs.Syntax.{Scanned}
 

@@ -1,18 +1,12 @@
-use Rattle.std.proofs.Common.{rules, ◌≡◌, ℕ, ◌+◌, ◌-◌, ◌*◌, ◌<◌, ◌≤◌, length, ◌/◌, ◌%◌, Bool, true, false, nat_eq, nat_lt, List, [], ◌∷◌, ◌++◌, slice_index_or, slice_set, bit_and, bit_or, Fits, w8, w32, w64, Bor, MutBor}
-use Rattle.model.specs.Evaluating.{primitive_of, takes, wants_use}
-use Rattle.things.specs.Measuring.{SeenP}
-use Rattle.primitives.specs.Working.{ReadyToApply, ReadyAll, Does1, Does2, Does3, Works, stx_e, mk_stx, first, rest, linked, same, pick, agreed, AllSyntax}
+use Rattle.std.proofs.Common.{rules}
 use Rattle.primitives.proofs.pick.Goals as goal
 use Rattle.primitives.proofs.Atoms.{laws}
 
--- src/lib.rt:256:9
 pub returns-then-o-ne-NUMBER_VALUE : goal.returns-then-o-ne-NUMBER_VALUE
 returns-then-o-ne-NUMBER_VALUE c = search (laws, rules)
 
--- src/lib.rt:259:9
 pub returns-then-o-eq0 : goal.returns-then-o-eq0
 returns-then-o-eq0 c = search (laws, rules)
 
--- src/lib.rt:250:1
 pub returns : goal.returns
 returns c = search (laws, rules)
