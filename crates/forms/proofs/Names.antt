@@ -1,35 +1,31 @@
 -- The name of an identifier: one law for each way out; and what a caller knows of it.
 use mathlib.Core.Path.{◌≡◌, refl, sym, ap, ap₂, ◌∙◌}
 use mathlib.Core.List.{List}
-use mathlib.Core.Option.{Option, none, some}
-use Prim.Native.Nat.{ℕ, zero, suc, ◌+◌, ◌*◌, ◌≤◌, ◌<◌}
+use mathlib.Core.Option.{none, some}
+use Prim.Native.Nat.{ℕ, zero, suc}
 use native.Mathlib.Omega.{arith}
-use lib.ListN.{length}
+use Rattle.std.specs.Prelude.{Result, Ok, Err}
 use Rattle.model.specs.Refusals.{no_rule, ambiguous}
 use Rattle.model.specs.Objects as m
 use Rattle.model.specs.Objects.{Atom, symbol, number, point, prim, rung, tag_of, content_of, Stx, atom, list, set_at}
 use Rattle.model.specs.Trees.{stx}
 use Rattle.model.specs.Competing as c
 use Rattle.model.specs.Competing.{no_rivals}
-use Rattle.model.specs.Steps.{State, Step, ok, no, after, resolve_at, identifier}
+use Rattle.model.specs.Steps.{State, Step, no, after, resolve_at, identifier}
 use Rattle.model.specs.Meanings as p
 use Rattle.model.specs.Meanings.{form_of}
 use Rattle.scopes.specs.Sets.{scopes_of}
-use Rattle.scopes.specs.declared.ScopeSet.{ScopeSet}
 use Rattle.store.specs.Words.{binds_of}
 use Rattle.store.specs.Rivalry as d
 use Rattle.store.specs.Rivalry.{several, rivals_of, decided, found_of}
 use Rattle.store.specs.declared.rivals.Rivals.{Rivals}
 use Rattle.store.proofs.Competing.{resolve_at-decided}
-use Rattle.store.specs.declared.resolving.Found.{Found}
-use Rattle.store.specs.declared.resolving.Found.TheVariants.{Means, Several}
 use Rattle.scopes.specs.declared.Name.{Name}
 use Rattle.table.specs.Words.{get_node, get_sets}
 use Rattle.table.specs.declared.Node.{Node}
 use Rattle.table.specs.declared.Sets.{Sets}
 use Rattle.things.specs.Rep.{Rep, is-atom, is-list, sets_of}
-use Rattle.things.specs.Measuring.{Seen}
-use Rattle.things.proofs.ByTag.{tag_is, content-is, tag-low}
+use Rattle.things.proofs.ByTag.{tag_is, content-is}
 use Rattle.things.proofs.Measuring.{node-inside}
 use Rattle.forms.specs.Names.{name_found, naming_of, Names}
 use Rattle.forms.specs.declared.Naming.{Naming}
@@ -67,7 +63,7 @@ module _ {l : List ℕ} (st : List ℕ) (n ph : ℕ) {i : ℕ} {o : Node} (e : o
       by (is-atom {a = rung k} a q y) = refl
       by (is-list a q y r) = refl
 
-  module _ (h : o.tag ≡ 0) {c : Sets} (f : c ≡ get_sets l i) {z : ℕ} (g : z ≡ set_at ph (sets_of c)) (w : Found)
+  module _ (h : o.tag ≡ 0) {c : Sets} (f : c ≡ get_sets l i) {z : ℕ} (g : z ≡ set_at ph (sets_of c)) (w : Result Name Rivals)
       (k : found_of w ≡ decided o.content z (binds_of st n)) where
     found-is : (top : ℕ) (x : Stx) → Rep l top i (stx x) → name_found ph (binds_of st n) x ≡ some (found_of w)
     unfolding name_found tag_of content_of
@@ -85,11 +81,11 @@ module _ {l : List ℕ} (st : List ℕ) (n ph : ℕ) {i : ℕ} {o : Node} (e : o
         by (is-atom {a = rung j} a q y) = absurd (omega (arith, tag_is e q, h))
         by (is-list a q y r) = absurd (omega (arith, tag_is e q, h))
 
-    pub named : {v : Name} → w ≡ Means v → Names ph st n l i (Named v)
-    named j = record { means = λ top x r. sym (found-is top x r ∙ ap (λ (u : Found). some (found_of u)) j) }
+    pub named : {v : Name} → w ≡ Ok v → Names ph st n l i (Named v)
+    named j = record { means = λ top x r. sym (found-is top x r ∙ ap (λ (u : Result Name Rivals). some (found_of u)) j) }
 
-    pub unclear : {v : Rivals} → w ≡ Several v → Names ph st n l i (Unclear v)
-    unclear j = record { means = λ top x r. sym (found-is top x r ∙ ap (λ (u : Found). some (found_of u)) j) }
+    pub unclear : {v : Rivals} → w ≡ Err v → Names ph st n l i (Unclear v)
+    unclear j = record { means = λ top x r. sym (found-is top x r ∙ ap (λ (u : Result Name Rivals). some (found_of u)) j) }
 
 -- ---- what a caller knows
 

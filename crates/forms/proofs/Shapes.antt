@@ -1,33 +1,25 @@
 -- Shapes: one law for each way out; and what a caller knows of each.
-use mathlib.Core.Path.{◌≡◌, refl, sym, ap, ◌∙◌}
+use mathlib.Core.Path.{◌≡◌, refl, ap, ◌∙◌}
 use mathlib.Core.List.{List}
-use mathlib.Core.Bool.{Bool, true, false}
-use Prim.Native.Nat.{ℕ, zero, suc, ◌+◌, ◌≤◌, ◌<◌}
+use mathlib.Core.Bool.{true, false}
+use Prim.Native.Nat.{ℕ, suc}
 use native.Mathlib.Omega.{arith}
 use borrow.Author.Tests.{eq-eqb, ne_eqb}
-use lib.ListN.{length}
 use lib.Dec.{eqb}
+use Rattle.std.specs.Prelude.{Option, Some, None}
 use Rattle.model.specs.Refusals.{no_rule}
-use Rattle.model.specs.Objects as m
-use Rattle.model.specs.Objects.{Atom, symbol, number, point, prim, rung, tag_of, content_of, Sets, Stx, atom, list, Stxs, nil, cons, count}
-use Rattle.model.specs.Trees.{Tree, stx, from_stxs, tcons}
+use Rattle.model.specs.Objects.{symbol, number, point, prim, rung, tag_of, Sets, Stx, atom, list, Stxs, nil, cons, count}
+use Rattle.model.specs.Trees.{stx, from_stxs}
 use Rattle.model.specs.Competing.{no_rivals}
 use Rattle.model.specs.Steps.{State, Step, no, parts1, parts2, parts3, identifier}
 use Rattle.table.specs.Words.{get_node, get_cell}
 use Rattle.table.specs.declared.Node.{Node}
 use Rattle.table.specs.declared.Cell.{Cell}
 use Rattle.things.specs.Rep.{Rep, RepP, is-atom, is-list}
-use Rattle.things.proofs.Frame.{below}
 use Rattle.things.proofs.ByTag.{tag_is, ConsAt, cons-at}
 pub use Rattle.things.proofs.ByTag.{nil-at}
 use Rattle.things.proofs.Measuring.{cell_inside, tail_seen, node-inside}
 use Rattle.forms.specs.Shapes.{OneAt, TwoAt, ThreeAt, OneAs, TwoAs, ThreeAs, OneIs, TwoAre, ThreeAre, Single, Double, Triple, is_identifier, Identifies}
-use Rattle.forms.specs.declared.One.{One}
-use Rattle.forms.specs.declared.One.TheVariants as one
-use Rattle.forms.specs.declared.Two.{Two}
-use Rattle.forms.specs.declared.Two.TheVariants as two
-use Rattle.forms.specs.declared.Three.{Three}
-use Rattle.forms.specs.declared.Three.TheVariants as three
 
 -- ---- chains of syntax objects
 
@@ -55,20 +47,20 @@ unfolding count
 cons-count {ps} {qs} n e k h = k (let z : count ps ≡ suc (count qs) = ap count e in omega (arith, z, h))
 
 module _ {l : List ℕ} {c : ℕ} where
-  pub none-single : c ≡ 0 → Single l c one.Not
+  pub none-single : c ≡ 0 → Single l c None
   unfolding OneAs
   none-single h = record { means = λ top ps r. record { told = nil-count 0 (nil-at ps r h) } }
 
-  pub none_double : c ≡ 0 → Double l c two.Not
+  pub none_double : c ≡ 0 → Double l c None
   unfolding TwoAs
   none_double h = record { means = λ top ps r. record { told = nil-count 1 (nil-at ps r h) } }
 
-  pub none_triple : c ≡ 0 → Triple l c three.Not
+  pub none_triple : c ≡ 0 → Triple l c None
   unfolding ThreeAs
   none_triple h = record { means = λ top ps r. record { told = nil-count 2 (nil-at ps r h) } }
 
   module _ {x : Cell} (h : ¬ (c ≡ 0)) (e : x ≡ get_cell l c) where
-    pub is-single : x.tail ≡ 0 → Single l c (one.Is x.head)
+    pub is-single : x.tail ≡ 0 → Single l c (Some x.head)
     unfolding OneAs
     is-single z =
         record {
@@ -83,40 +75,40 @@ module _ {l : List ℕ} {c : ℕ} where
     some-count nil r k z = no_cell r k
     some-count (cons y ps) r k z = omega arith
 
-    pub more-single : ¬ (x.tail ≡ 0) → Single l c one.Not
+    pub more-single : ¬ (x.tail ≡ 0) → Single l c None
     unfolding OneAs
     more-single z = record { means = λ top ps r. let p = first-at ps r h e in record { told = cons-count 0 p.is (some-count p.others p.cell.shown-others z) } }
 
 -- ---- what a caller knows
 
 module _ {l : List ℕ} {top : ℕ} {ps : Stxs} where
-  pub on_one : {r : One} {i : ℕ} → OneIs l top ps r → r ≡ one.Is i → OneAt l top i ps
+  pub on_one : {r : Option ℕ} {i : ℕ} → OneIs l top ps r → r ≡ Some i → OneAt l top i ps
   unfolding OneAs
   on_one a e = rw e at a.told
 
-  pub on_not_one : {r : One} → OneIs l top ps r → r ≡ one.Not → ¬ (count ps ≡ 1)
+  pub on_not_one : {r : Option ℕ} → OneIs l top ps r → r ≡ None → ¬ (count ps ≡ 1)
   unfolding OneAs
   on_not_one a e = rw e at a.told
 
-  pub on_two : {r : Two} {i j : ℕ} → TwoAre l top ps r → r ≡ two.Are i j → TwoAt l top i j ps
+  pub on_two : {r : Option (ℕ × ℕ)} {i j : ℕ} → TwoAre l top ps r → r ≡ Some (i, j) → TwoAt l top i j ps
   unfolding TwoAs
   on_two a e = rw e at a.told
 
-  pub on_not_two : {r : Two} → TwoAre l top ps r → r ≡ two.Not → ¬ (count ps ≡ 2)
+  pub on_not_two : {r : Option (ℕ × ℕ)} → TwoAre l top ps r → r ≡ None → ¬ (count ps ≡ 2)
   unfolding TwoAs
   on_not_two a e = rw e at a.told
 
-  pub on_three : {r : Three} {i j k : ℕ} → ThreeAre l top ps r → r ≡ three.Are i j k → ThreeAt l top i j k ps
+  pub on_three : {r : Option (ℕ × ℕ × ℕ)} {i j k : ℕ} → ThreeAre l top ps r → r ≡ Some (i, j, k) → ThreeAt l top i j k ps
   unfolding ThreeAs
   on_three a e = rw e at a.told
 
-  pub on_not_three : {r : Three} → ThreeAre l top ps r → r ≡ three.Not → ¬ (count ps ≡ 3)
+  pub on_not_three : {r : Option (ℕ × ℕ × ℕ)} → ThreeAre l top ps r → r ≡ None → ¬ (count ps ≡ 3)
   unfolding ThreeAs
   on_not_three a e = rw e at a.told
 
 module _ {l : List ℕ} {c : ℕ} {x : Cell} (h : ¬ (c ≡ 0)) (e : x ≡ get_cell l c) where
-  module _ {o : One} (k : Single l x.tail o) where
-    pub is_double : {j : ℕ} → o ≡ one.Is j → Double l c (two.Are x.head j)
+  module _ {o : Option ℕ} (k : Single l x.tail o) where
+    pub is_double : {j : ℕ} → o ≡ Some j → Double l c (Some (x.head, j))
     unfolding TwoAs
     is_double z =
         record {
@@ -126,13 +118,13 @@ module _ {l : List ℕ} {c : ℕ} {x : Cell} (h : ¬ (c ≡ 0)) (e : x ≡ get_c
               record { told = record { first = p.first; second = q.first; is = p.is ∙ ap (cons p.first) q.is; shown = p.cell.shown; shown-second = q.shown } };
         }
 
-    pub other_double : o ≡ one.Not → Double l c two.Not
+    pub other_double : o ≡ None → Double l c None
     unfolding TwoAs
     other_double z =
         record { means = λ top ps r. let p = first-at ps r h e in record { told = cons-count 1 p.is (on_not_one (k.means top p.others p.cell.shown-others) z) } }
 
-  module _ {o : Two} (k : Double l x.tail o) where
-    pub is_triple : {i j : ℕ} → o ≡ two.Are i j → Triple l c (three.Are x.head i j)
+  module _ {o : Option (ℕ × ℕ)} (k : Double l x.tail o) where
+    pub is_triple : {i j : ℕ} → o ≡ Some (i, j) → Triple l c (Some (x.head, i, j))
     unfolding ThreeAs
     is_triple z =
         record {
@@ -152,7 +144,7 @@ module _ {l : List ℕ} {c : ℕ} {x : Cell} (h : ¬ (c ≡ 0)) (e : x ≡ get_c
               };
         }
 
-    pub other_triple : o ≡ two.Not → Triple l c three.Not
+    pub other_triple : o ≡ None → Triple l c None
     unfolding ThreeAs
     other_triple z =
         record { means = λ top ps r. let p = first-at ps r h e in record { told = cons-count 2 p.is (on_not_two (k.means top p.others p.cell.shown-others) z) } }

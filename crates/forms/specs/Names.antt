@@ -1,7 +1,7 @@
 -- The name of an object at a phase, where it is an identifier, and the core form of a name.
 use Rattle.std.specs.Prelude.{◌≡◌, List, ℕ}
 use Rattle.std.proofs.Math.Option.{Option, none, some}
-use Rattle.model.specs.Objects.{Atom, symbol, number, point, prim, rung, Stx, atom, list, set_at}
+use Rattle.model.specs.Objects.{symbol, number, point, prim, rung, Stx, atom, list, set_at}
 use Rattle.model.specs.Trees.{stx}
 use Rattle.model.specs.Resolving.{Bind}
 use Rattle.model.specs.Meanings as p

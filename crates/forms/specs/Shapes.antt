@@ -1,14 +1,8 @@
 -- Chains of so many parts, and identifiers, as the table shows them.
-use Rattle.std.specs.Prelude.{◌≡◌, List, Bool, true, false, ℕ}
-use Rattle.model.specs.Objects.{Atom, symbol, number, point, prim, rung, Stx, atom, list, Stxs, nil, cons, count}
+use Rattle.std.specs.Prelude.{◌≡◌, List, Bool, true, false, ℕ, Option, Some, None}
+use Rattle.model.specs.Objects.{symbol, number, point, prim, rung, Stx, atom, list, Stxs, nil, cons, count}
 use Rattle.model.specs.Trees.{stx, from_stxs}
 use Rattle.things.specs.Rep.{Rep, RepP}
-use Rattle.forms.specs.declared.One.{One}
-use Rattle.forms.specs.declared.One.TheVariants as one
-use Rattle.forms.specs.declared.Two.{Two}
-use Rattle.forms.specs.declared.Two.TheVariants as two
-use Rattle.forms.specs.declared.Three.{Three}
-use Rattle.forms.specs.declared.Three.TheVariants as three
 
 -- exactly so many parts, and where each lies
 pub record OneAt (l : List ℕ) (top i : ℕ) (ps : Stxs) : Type 0 where
@@ -33,35 +27,35 @@ pub record ThreeAt (l : List ℕ) (top i j k : ℕ) (ps : Stxs) : Type 0 where
   pub shown-third : Rep l top k (stx third)
 
 -- what each case says of the parts
-unfoldable pub OneAs : List ℕ → ℕ → One → Stxs → Type 0
-OneAs l top (one.Is i) ps = OneAt l top i ps
-OneAs l top one.Not ps = ¬ (count ps ≡ 1)
+unfoldable pub OneAs : List ℕ → ℕ → Option ℕ → Stxs → Type 0
+OneAs l top (Some i) ps = OneAt l top i ps
+OneAs l top None ps = ¬ (count ps ≡ 1)
 
-unfoldable pub TwoAs : List ℕ → ℕ → Two → Stxs → Type 0
-TwoAs l top (two.Are i j) ps = TwoAt l top i j ps
-TwoAs l top two.Not ps = ¬ (count ps ≡ 2)
+unfoldable pub TwoAs : List ℕ → ℕ → Option (ℕ × ℕ) → Stxs → Type 0
+TwoAs l top (Some p) ps = TwoAt l top p.0 p.1 ps
+TwoAs l top None ps = ¬ (count ps ≡ 2)
 
-unfoldable pub ThreeAs : List ℕ → ℕ → Three → Stxs → Type 0
-ThreeAs l top (three.Are i j k) ps = ThreeAt l top i j k ps
-ThreeAs l top three.Not ps = ¬ (count ps ≡ 3)
+unfoldable pub ThreeAs : List ℕ → ℕ → Option (ℕ × ℕ × ℕ) → Stxs → Type 0
+ThreeAs l top (Some p) ps = ThreeAt l top p.0 p.1 p.2 ps
+ThreeAs l top None ps = ¬ (count ps ≡ 3)
 
-pub record OneIs (l : List ℕ) (top : ℕ) (ps : Stxs) (r : One) : Type 0 where
+pub record OneIs (l : List ℕ) (top : ℕ) (ps : Stxs) (r : Option ℕ) : Type 0 where
   pub told : OneAs l top r ps
 
-pub record TwoAre (l : List ℕ) (top : ℕ) (ps : Stxs) (r : Two) : Type 0 where
+pub record TwoAre (l : List ℕ) (top : ℕ) (ps : Stxs) (r : Option (ℕ × ℕ)) : Type 0 where
   pub told : TwoAs l top r ps
 
-pub record ThreeAre (l : List ℕ) (top : ℕ) (ps : Stxs) (r : Three) : Type 0 where
+pub record ThreeAre (l : List ℕ) (top : ℕ) (ps : Stxs) (r : Option (ℕ × ℕ × ℕ)) : Type 0 where
   pub told : ThreeAs l top r ps
 
 -- of the parts that the chain c stands for
-pub record Single (l : List ℕ) (c : ℕ) (r : One) : Type 0 where
+pub record Single (l : List ℕ) (c : ℕ) (r : Option ℕ) : Type 0 where
   pub means : (top : ℕ) (ps : Stxs) → RepP l top c (from_stxs ps) → OneIs l top ps r
 
-pub record Double (l : List ℕ) (c : ℕ) (r : Two) : Type 0 where
+pub record Double (l : List ℕ) (c : ℕ) (r : Option (ℕ × ℕ)) : Type 0 where
   pub means : (top : ℕ) (ps : Stxs) → RepP l top c (from_stxs ps) → TwoAre l top ps r
 
-pub record Triple (l : List ℕ) (c : ℕ) (r : Three) : Type 0 where
+pub record Triple (l : List ℕ) (c : ℕ) (r : Option (ℕ × ℕ × ℕ)) : Type 0 where
   pub means : (top : ℕ) (ps : Stxs) → RepP l top c (from_stxs ps) → ThreeAre l top ps r
 
 unfoldable pub is_identifier : Stx → Bool

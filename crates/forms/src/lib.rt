@@ -1,5 +1,5 @@
 // What a form looks like: how many parts it has, whether a part is an identifier, and which name that has.
-#![tactic(auto)]
+#![tactic(auto, using(crate::proofs::Shapes::laws))]
 
 ghost use Rattle.std.specs.Prelude.{◌≡◌, ℕ, ◌*◌, ◌≤◌, length};
 ghost use Rattle.model.specs.Objects.{set_at};
@@ -13,70 +13,44 @@ ghost use Rattle.store.specs.Sizes.{binding_size};
 
 use scopes::{Name, ScopeSet, Symbol};
 use store::resolving;
-use store::resolving::Found;
 use store::rivals::Rivals;
 use table::{Node, Sets};
 
 // ---- a chain of exactly so many parts, or not
 
-#[derive(Clone, Copy)]
-pub enum One {
-    Is(u32),
-    Not,
-}
-
-#[derive(Clone, Copy)]
-pub enum Two {
-    Are(u32, u32),
-    Not,
-}
-
-#[derive(Clone, Copy)]
-pub enum Three {
-    Are(u32, u32, u32),
-    Not,
-}
-
-pub fn one_part(table: &[u32], c: u32) -> One
+pub fn one_part(table: &[u32], c: u32) -> Option<u32>
     requires { SeenP table.now c }
     ensures { Single table.now c result }
 {
     if c == 0 {
-        return One::Not;
+        return None;
     }
     let x = table::get_cell(table, c);
-    if x.tail == 0 {
-        return One::Is(x.head);
-    }
-    One::Not
+    if x.tail == 0 { Some(x.head) } else { None }
 }
 
-pub fn two_parts(table: &[u32], c: u32) -> Two
+pub fn two_parts(table: &[u32], c: u32) -> Option<(u32, u32)>
     requires { SeenP table.now c }
     ensures { Double table.now c result }
 {
     if c == 0 {
-        return Two::Not;
+        return None;
     }
     let x = table::get_cell(table, c);
-    match one_part(table, x.tail) {
-        One::Not => Two::Not,
-        One::Is(b) => Two::Are(x.head, b),
-    }
+    let b = one_part(table, x.tail)?;
+    Some((x.head, b))
 }
 
-pub fn three_parts(table: &[u32], c: u32) -> Three
+pub fn three_parts(table: &[u32], c: u32) -> Option<(u32, u32, u32)>
     requires { SeenP table.now c }
     ensures { Triple table.now c result }
 {
     if c == 0 {
-        return Three::Not;
+        return None;
     }
     let x = table::get_cell(table, c);
-    match two_parts(table, x.tail) {
-        Two::Not => Three::Not,
-        Two::Are(a, b) => Three::Are(x.head, a, b),
-    }
+    let (a, b) = two_parts(table, x.tail)?;
+    Some((x.head, a, b))
 }
 
 // ---- identifiers
@@ -85,20 +59,18 @@ pub fn is_identifier(table: &[u32], i: u32) -> bool
     requires { Seen table.now i }
     ensures { Identifies table.now i result }
 {
-    let n = table::get_node(table, i);
-    n.tag == Node::SYMBOL
+    table::get_node(table, i).tag == Node::SYMBOL
 }
 
+#[tactic(auto, using(crate::proofs::Names::laws))]
 pub fn set_at(sets: Sets, phase: u32) -> ScopeSet
     ensures { scopes_of result ≡ set_at phase (sets_of sets) }
 {
-    if phase == 0 {
-        return sets.at0;
+    match phase {
+        0 => sets.at0,
+        1 => sets.at1,
+        _ => sets.at2,
     }
-    if phase == 1 {
-        return sets.at1;
-    }
-    sets.at2
 }
 
 #[derive(Clone, Copy)]
@@ -111,6 +83,7 @@ pub enum Naming {
 }
 
 // The name at a phase, by the first count bindings of the store.
+#[tactic(auto, using(crate::proofs::Names::laws))]
 pub fn name_of(table: &[u32], store: &[u64], count: u32, i: u32, phase: u32) -> Naming
     requires { Seen table.now i × (count * binding_size ≤ length store.now) }
     ensures { Names phase store.now count table.now i result }
@@ -119,11 +92,10 @@ pub fn name_of(table: &[u32], store: &[u64], count: u32, i: u32, phase: u32) -> 
     if n.tag != Node::SYMBOL {
         return Naming::Unnamed;
     }
-    let sets = table::get_sets(table, i);
-    let set = set_at(sets, phase);
+    let set = set_at(table::get_sets(table, i), phase);
     match resolving::resolve(store, count, Symbol(n.content), set) {
-        Found::Means(name) => Naming::Named(name),
-        Found::Several(rivals) => Naming::Unclear(rivals),
+        Ok(name) => Naming::Named(name),
+        Err(rivals) => Naming::Unclear(rivals),
     }
 }
 
@@ -139,11 +111,11 @@ pub enum Form {
     Other,
 }
 
+#[tactic(auto, using(crate::proofs::Names::laws))]
 pub fn form_of(name: Name) -> Form
     ensures { formed result ≡ form_of name.0 }
 {
-    let n = name.0;
-    match n {
+    match name.0 {
         0 => Form::Lambda,
         1 => Form::LetSyntax,
         2 => Form::Quote,
