@@ -16,7 +16,7 @@ use Rattle.table.specs.declared.Cell.{Cell}
 use Rattle.table.proofs.Laws.{same_refl, same_trans}
 use Rattle.things.specs.Rep.{Rep, RepP, is_none, sets_of}
 use Rattle.things.proofs.Frame.{below, carry_p}
-use Rattle.things.proofs.ByTag.{atom-at, list_at, stx-tag, ConsAt, cons-at, cons-some, same_object, nil-at}
+use Rattle.things.proofs.ByTag.{atom-at, list_at, stx-tag, ConsAt, cons-at, same_object, nil-at}
 use Rattle.copying.specs.Reaching.{Reached, ReachedP, Copying, CopiedBy, Puttable, Put}
 use Rattle.copying.specs.Rows.{Laid, laid_none, laid_one, CopiedEach, Row, Chained}
 use Rattle.copying.proofs.Sizes.{nesting_pos, size-atom, size-list, nesting-list, sizes-cons, nestings-cons}

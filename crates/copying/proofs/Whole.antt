@@ -18,7 +18,7 @@ use Rattle.things.specs.Measuring.{Seen, Measured}
 use Rattle.things.specs.declared.Extent.{Extent}
 use Rattle.things.proofs.Weighing.{nest_stx, weights-from}
 use Rattle.things.proofs.ByTag.{tag-low}
-use Rattle.copying.specs.Working.{sound-add, sound-flip, sound-prune, sound-strip, strips, set_change_by, copying_of}
+use Rattle.copying.specs.Working.{sound-add, sound-flip, sound-prune, sound-strip, strips, set_change, copying_of}
 use Rattle.copying.specs.Copying.{Copyable, Copied}
 use Rattle.copying.specs.Reaching.{Reached, Copying, copy_of, CopiedBy}
 use Rattle.copying.specs.declared.Act.TheVariants.{Add, Flip, Prune, Strip}
@@ -61,23 +61,23 @@ module _ {l l1 : List ℕ} {top i at top1 : ℕ} (r : Copyable l top i) where
             record { shown = k.shown; room = omega (arith, k.room) };
       }
 
-  pub scope_added : (k : Scope) (p : ScopeSet) (ph : ℕ) → CopiedBy (copying_of (record { act = Add k; prunable = p; phase = ph })) l l1 top i at top1
+  pub scope_added : (k : Scope) (ph : ℕ) → CopiedBy (copying_of (record { act = Add k; phase = ph })) l l1 top i at top1
       → Copied (λ x. stx (add_scope k.0 ph x)) l l1 top i at top1
-  unfolding copy_of copying_of strips set_change_by add_scope
-  scope_added k p ph m = whole-copied _ m
+  unfolding copy_of copying_of strips set_change add_scope
+  scope_added k ph m = whole-copied _ m
 
-  pub scope_flipped : (k : Scope) (p : ScopeSet) (ph : ℕ) → CopiedBy (copying_of (record { act = Flip k; prunable = p; phase = ph })) l l1 top i at top1
+  pub scope_flipped : (k : Scope) (ph : ℕ) → CopiedBy (copying_of (record { act = Flip k; phase = ph })) l l1 top i at top1
       → Copied (λ x. stx (flip_scope k.0 ph x)) l l1 top i at top1
-  unfolding copy_of copying_of strips set_change_by flip_scope
-  scope_flipped k p ph m = whole-copied _ m
+  unfolding copy_of copying_of strips set_change flip_scope
+  scope_flipped k ph m = whole-copied _ m
 
-  pub scopes_pruned : (p : ScopeSet) (ph : ℕ) → CopiedBy (copying_of (record { act = Prune; prunable = p; phase = ph })) l l1 top i at top1
+  pub scopes_pruned : (p : ScopeSet) (ph : ℕ) → CopiedBy (copying_of (record { act = Prune p; phase = ph })) l l1 top i at top1
       → Copied (λ x. stx (prune_scopes (scopes_of p) ph x)) l l1 top i at top1
-  unfolding copy_of copying_of strips set_change_by prune_scopes
+  unfolding copy_of copying_of strips set_change prune_scopes
   scopes_pruned p ph m = whole-copied _ m
 
-  pub object_stripped : (p : ScopeSet) (ph : ℕ) → CopiedBy (copying_of (record { act = Strip; prunable = p; phase = ph })) l l1 top i at top1 → Copied strip l l1 top i at top1
+  pub object_stripped : (ph : ℕ) → CopiedBy (copying_of (record { act = Strip; phase = ph })) l l1 top i at top1 → Copied strip l l1 top i at top1
   unfolding copy_of copying_of strips
-  object_stripped p ph m = whole-copied _ m
+  object_stripped ph m = whole-copied _ m
 
 pub ruleset laws = (whole-seen, whole-reached, sound-add, sound-flip, sound-prune, sound-strip, scope_added, scope_flipped, scopes_pruned, object_stripped)

@@ -1,6 +1,6 @@
 -- The work on one object's node and sets: one law for each way out.
 use mathlib.Core.Path.{◌≡◌, refl, ap, sym, ◌∙◌}
-use mathlib.Core.Bool.{Bool, true, false}
+use mathlib.Core.Bool.{true, false}
 use mathlib.Core.List.{List}
 use Prim.Native.Nat.{ℕ, zero, suc, ◌+◌, ◌<◌, ◌^◌}
 use native.Mathlib.Omega.{arith}
@@ -19,7 +19,7 @@ use Rattle.things.specs.Making.{Roomy, Stored, StoredObject}
 use Rattle.things.proofs.ByTag.{tag-low}
 use Rattle.things.proofs.Making.{made-atom, made_list, made-datum, made-lst}
 use Rattle.copying.specs.Reaching.{changing, stripping, copy_of, copies_of, Puttable, Put, PutStripped}
-use Rattle.copying.specs.Working.{Sound, sound-add, sound-flip, strips, set_change_by, set_change, sets_change, copying_of}
+use Rattle.copying.specs.Working.{Sound, sound-add, sound-flip, strips, set_change, sets_change, copying_of}
 use Rattle.copying.specs.declared.Act.{Act}
 use Rattle.copying.specs.declared.Act.TheVariants.{Add, Flip, Prune, Strip}
 use Rattle.copying.specs.declared.Work.{Work}
@@ -40,38 +40,39 @@ module _ {a : Act} {k : Scope} where
   pub flip-declared : Sound a → a ≡ Flip k → Declared k
   flip-declared s e = scope_flipped (rw e at s)
 
-  pub add-keeps : a ≡ Add k → false ≡ strips a
+-- ---- of the four, one strips
+
+module _ {a : Act} where
+  pub strip-strips : a ≡ Strip → true ≡ strips a
   unfolding strips
-  add-keeps e = rw e
+  strip-strips e = rw e
 
-  pub flip-keeps : a ≡ Flip k → false ≡ strips a
+  pub others-keep : ¬ (a ≡ Strip) → false ≡ strips a
   unfolding strips
-  flip-keeps e = rw e
+  others-keep h = by a h
+    where
+      by : (x : Act) → ¬ (x ≡ Strip) → false ≡ strips x
+      by (Add k) n = refl
+      by (Flip k) n = refl
+      by (Prune p) n = refl
+      by Strip n = absurd (n refl)
 
-pub prune-keeps : {a : Act} → a ≡ Prune → false ≡ strips a
-unfolding strips
-prune-keeps e = rw e
-
-pub strip-strips : {a : Act} → a ≡ Strip → true ≡ strips a
-unfolding strips
-strip-strips e = rw e
-
-module _ {a : Act} {n : Scopes} (p m : Scopes) where
-  pub set_added : {k : Scope} → a ≡ Add k → n ≡ add k.0 m → n ≡ set_change_by a p m
-  unfolding set_change_by
+module _ {a : Act} {n : Scopes} (m : Scopes) where
+  pub set_added : {k : Scope} → a ≡ Add k → n ≡ add k.0 m → n ≡ set_change a m
+  unfolding set_change
   set_added e q = rw e q
 
-  pub set_flipped : {k : Scope} → a ≡ Flip k → n ≡ flip k.0 m → n ≡ set_change_by a p m
-  unfolding set_change_by
+  pub set_flipped : {k : Scope} → a ≡ Flip k → n ≡ flip k.0 m → n ≡ set_change a m
+  unfolding set_change
   set_flipped e q = rw e q
 
-  pub set_pruned : a ≡ Prune → n ≡ prune p m → n ≡ set_change_by a p m
-  unfolding set_change_by
+  pub set_pruned : {p : ScopeSet} → a ≡ Prune p → n ≡ prune (scopes_of p) m → n ≡ set_change a m
+  unfolding set_change
   set_pruned e q = rw e q
 
-pub set-left : {a : Act} (p m : Scopes) → a ≡ Strip → m ≡ set_change_by a p m
-unfolding set_change_by
-set-left p m e = rw e
+pub set-left : {a : Act} (m : Scopes) → a ≡ Strip → m ≡ set_change a m
+unfolding set_change
+set-left m e = rw e
 
 -- ---- the set of the phase, among three
 
@@ -82,19 +83,19 @@ at_last f (suc zero) c a b = absurd (b refl)
 at_last f (suc (suc n)) c a b = refl
 
 module _ (w : Work) (s : Sets) {r : Scopes} where
-  pub sets_changed0 : w.phase ≡ 0 → r ≡ set_change w (scopes_of s.at0)
+  pub sets_changed0 : w.phase ≡ 0 → r ≡ set_change w.act (scopes_of s.at0)
       → ◌≡◌ {A = m.Sets} (record { at0 = r; at1 = scopes_of s.at1; at2 = scopes_of s.at2 }) (sets_change w (sets_of s))
   unfolding change_at
   sets_changed0 h e = rw h (λ j. record { at0 = e j; at1 = scopes_of s.at1; at2 = scopes_of s.at2 })
 
-  pub sets_changed1 : w.phase ≡ 1 → r ≡ set_change w (scopes_of s.at1)
+  pub sets_changed1 : w.phase ≡ 1 → r ≡ set_change w.act (scopes_of s.at1)
       → ◌≡◌ {A = m.Sets} (record { at0 = scopes_of s.at0; at1 = r; at2 = scopes_of s.at2 }) (sets_change w (sets_of s))
   unfolding change_at
   sets_changed1 h e = rw h (λ j. record { at0 = scopes_of s.at0; at1 = e j; at2 = scopes_of s.at2 })
 
-  pub sets_changed2 : ¬ (w.phase ≡ 0) → ¬ (w.phase ≡ 1) → r ≡ set_change w (scopes_of s.at2)
+  pub sets_changed2 : ¬ (w.phase ≡ 0) → ¬ (w.phase ≡ 1) → r ≡ set_change w.act (scopes_of s.at2)
       → ◌≡◌ {A = m.Sets} (record { at0 = scopes_of s.at0; at1 = scopes_of s.at1; at2 = r }) (sets_change w (sets_of s))
-  sets_changed2 a b e = (λ j. record { at0 = scopes_of s.at0; at1 = scopes_of s.at1; at2 = e j }) ∙ sym (at_last (set_change w) w.phase (sets_of s) a b)
+  sets_changed2 a b e = (λ j. record { at0 = scopes_of s.at0; at1 = scopes_of s.at1; at2 = e j }) ∙ sym (at_last (set_change w.act) w.phase (sets_of s) a b)
 
 -- ---- the node of a copy
 
@@ -150,13 +151,13 @@ module _ {l l1 : List ℕ} {top at top1 : ℕ} {n : Node} where
   pub atom_stripped : ¬ (n.tag ≡ list_tag) → Stored l l1 top (record { tag = atom_value_tag + n.tag; content = n.content }) at top1 → PutStripped l l1 top n at top1
   atom_stripped h s = record { means = λ c. atom-gone h s }
 
-  module _ (w : Work) {b : Bool} (e : b ≡ strips w.act) {c : Sets} where
-    pub put_stripped : b ≡ true → PutStripped l l1 top n at top1 → Put (copying_of w) l l1 top n c at top1
+  module _ (w : Work) {c : Sets} where
+    pub put_stripped : w.act ≡ Strip → PutStripped l l1 top n at top1 → Put (copying_of w) l l1 top n c at top1
     unfolding copying_of
-    put_stripped h s = rw (sym e ∙ h) (s.means c)
+    put_stripped h s = rw (sym (strip-strips h)) (s.means c)
 
-    pub put_changed : {d : Sets} → b ≡ false → sets_of d ≡ sets_change w (sets_of c) → StoredObject l l1 top n d at top1 → Put (copying_of w) l l1 top n c at top1
+    pub put_changed : {d : Sets} → ¬ (w.act ≡ Strip) → sets_of d ≡ sets_change w (sets_of c) → StoredObject l l1 top n d at top1 → Put (copying_of w) l l1 top n c at top1
     unfolding copying_of
-    put_changed h q s = rw (sym e ∙ h) (node-changed (sets_change w) q s)
+    put_changed h q s = rw (sym (others-keep h)) (node-changed (sets_change w) q s)
 
-pub ruleset laws = (add-declared, flip-declared, add-keeps, flip-keeps, prune-keeps, strip-strips, set_added, set_flipped, set_pruned, set-left, sets_changed0, sets_changed1, sets_changed2, put_roomy, tag_fits, list_stripped, atom_stripped, put_stripped, put_changed)
+pub ruleset laws = (add-declared, flip-declared, set_added, set_flipped, set_pruned, set-left, sets_changed0, sets_changed1, sets_changed2, put_roomy, tag_fits, list_stripped, atom_stripped, put_stripped, put_changed)

@@ -7,7 +7,7 @@ ghost use Rattle.model.specs.Trees.{stx, strip};
 ghost use Rattle.scopes.specs.Sets.{scopes_of, Declared};
 ghost use Rattle.things.specs.Rep.{sets_of};
 ghost use Rattle.things.specs.Measuring.{Seen};
-ghost use Rattle.copying.specs.Working.{Sound, strips, set_change, sets_change, copying_of};
+ghost use Rattle.copying.specs.Working.{Sound, set_change, sets_change, copying_of};
 ghost use Rattle.copying.specs.Copying.{Copyable, Copied};
 ghost use Rattle.copying.specs.Reaching.{Reached, ReachedP, CopiedBy, Puttable, Put, PutStripped};
 ghost use Rattle.copying.specs.Rows.{CopiedEach, Sized, Row, Chained};
@@ -18,98 +18,66 @@ use things::Made;
 
 // ---- what is done to an object and every part of it
 
+// An enum stays: a type for each act, with an impl of a trait for what is done to a node, is no plainer than a match of four arms.
 #[derive(Clone, Copy)]
 enum Act {
     Add(Scope),
     Flip(Scope),
-    Prune,
+    Prune(ScopeSet),
     Strip,
 }
 
-// The sets of one phase are changed, or all are stripped away. The prunable set stands beside the enum, since no enum is to hold a set: a
-// set may become an array.
+// The sets of one phase are changed, or all are stripped away.
 #[derive(Clone, Copy)]
 struct Work {
     act: Act,
-    prunable: ScopeSet,
     phase: u32,
 }
 
-fn strips(act: Act) -> bool
-    ensures { result ≡ strips act }
+#[tactic(auto, using(crate::proofs::Working::laws))]
+fn change_set(act: Act, set: ScopeSet) -> ScopeSet
+    requires { Sound act }
+    ensures { scopes_of result ≡ set_change act (scopes_of set) }
 {
-    match act {
-        Act::Add(_) => false,
-        Act::Flip(_) => false,
-        Act::Prune => false,
-        Act::Strip => true,
-    }
-}
-
-fn change_set(work: Work, set: ScopeSet) -> ScopeSet
-    requires { Sound work.act }
-    ensures { scopes_of result ≡ set_change work (scopes_of set) }
-{
-    let act = work.act;
     match act {
         Act::Add(k) => set.add(k),
         Act::Flip(k) => set.flip(k),
-        Act::Prune => set.prune(work.prunable),
+        Act::Prune(prunable) => set.prune(prunable),
         Act::Strip => set,
     }
 }
 
+#[tactic(auto, using(crate::proofs::Working::laws))]
 fn change_sets(work: Work, sets: Sets) -> Sets
     requires { Sound work.act }
     ensures { sets_of result ≡ sets_change work (sets_of sets) }
 {
-    let at0 = sets.at0;
-    let at1 = sets.at1;
-    let at2 = sets.at2;
-    if work.phase == 0 {
-        return Sets {
-            at0: change_set(work, at0),
-            at1,
-            at2,
-        };
-    }
-    if work.phase == 1 {
-        return Sets {
-            at0,
-            at1: change_set(work, at1),
-            at2,
-        };
-    }
-    Sets {
-        at0,
-        at1,
-        at2: change_set(work, at2),
+    match work.phase {
+        0 => Sets {
+            at0: change_set(work.act, sets.at0),
+            ..sets
+        },
+        1 => Sets {
+            at1: change_set(work.act, sets.at1),
+            ..sets
+        },
+        _ => Sets {
+            at2: change_set(work.act, sets.at2),
+            ..sets
+        },
     }
 }
 
+#[tactic(auto, using(crate::proofs::Working::laws))]
 fn put_stripped(table: &mut [u32], top: u32, node: Node) -> Made
     requires { Puttable table.old top node }
     ensures { PutStripped table.old table.new top node result.at result.top }
 {
-    let content = node.content;
-    if node.tag == Node::LIST {
-        return things::make(
-            table,
-            top,
-            Node {
-                tag: Node::LIST_VALUE,
-                content,
-            },
-        );
-    }
-    things::make(
-        table,
-        top,
-        Node {
-            tag: Node::ATOM_VALUE + node.tag,
-            content,
-        },
-    )
+    let tag = match node.tag {
+        Node::LIST => Node::LIST_VALUE,
+        atom => Node::ATOM_VALUE + atom,
+    };
+    things::make(table, top, Node { tag, ..node })
 }
 
 // The copy of an atom, or of a list whose parts are copied already.
@@ -117,17 +85,16 @@ fn put_copy(table: &mut [u32], top: u32, node: Node, sets: Sets, work: Work) -> 
     requires { Puttable table.old top node × Sound work.act }
     ensures { Put (copying_of work) table.old table.new top node sets result.at result.top }
 {
-    let act = work.act;
-    if strips(act) {
-        return put_stripped(table, top, node);
+    match work.act {
+        Act::Strip => put_stripped(table, top, node),
+        _ => things::make_object(table, top, node, change_sets(work, sets)),
     }
-    let changed = change_sets(work, sets);
-    things::make_object(table, top, node, changed)
 }
 
 // ---- copies in a row
 
 // What was copied: an object has its size as its weight, stripped data as its size, and neither has more of the other.
+#[tactic(auto, using(crate::proofs::Rows::laws))]
 fn copied_size(table: &[u32], i: u32) -> u32
     requires { Seen table.now i }
     ensures { Sized table.now i result }
@@ -182,7 +149,8 @@ fn copy_object(table: &mut [u32], top: u32, i: u32, levels: u32, work: Work) -> 
     )
 }
 
-// The copies of a chain's parts in a row: the first free word after them.
+// The copies of a chain's parts in a row: the first free word after them. The table that holds the chain is written meanwhile, so no
+// iterator goes over it.
 #[cycle(copying_objects)]
 fn copy_each(table: &mut [u32], top: u32, c: u32, levels: u32, work: Work) -> u32
     requires { ReachedP levels table.old top c × Sound work.act }
@@ -203,58 +171,32 @@ fn copy_all(table: &mut [u32], top: u32, i: u32, work: Work) -> Made
     requires { Copyable table.old top i × Sound work.act }
     ensures { CopiedBy (copying_of work) table.old table.new top i result.at result.top }
 {
-    let m = things::measure(table, i);
-    copy_object(table, top, i, m.nesting, work)
+    let levels = things::measure(table, i).nesting;
+    copy_object(table, top, i, levels, work)
 }
 
 pub fn add_scope(table: &mut [u32], top: u32, i: u32, phase: u32, k: Scope) -> Made
     requires { Copyable table.old top i × Declared k }
     ensures { Copied (λ x. stx (add_scope k.0 phase x)) table.old table.new top i result.at result.top }
 {
-    let prunable = ScopeSet::empty();
-    copy_all(
-        table,
-        top,
-        i,
-        Work {
-            act: Act::Add(k),
-            prunable,
-            phase,
-        },
-    )
+    let act = Act::Add(k);
+    copy_all(table, top, i, Work { act, phase })
 }
 
 pub fn flip_scope(table: &mut [u32], top: u32, i: u32, phase: u32, k: Scope) -> Made
     requires { Copyable table.old top i × Declared k }
     ensures { Copied (λ x. stx (flip_scope k.0 phase x)) table.old table.new top i result.at result.top }
 {
-    let prunable = ScopeSet::empty();
-    copy_all(
-        table,
-        top,
-        i,
-        Work {
-            act: Act::Flip(k),
-            prunable,
-            phase,
-        },
-    )
+    let act = Act::Flip(k);
+    copy_all(table, top, i, Work { act, phase })
 }
 
 pub fn prune_scopes(table: &mut [u32], top: u32, i: u32, phase: u32, prunable: ScopeSet) -> Made
     requires { Copyable table.old top i }
     ensures { Copied (λ x. stx (prune_scopes (scopes_of prunable) phase x)) table.old table.new top i result.at result.top }
 {
-    copy_all(
-        table,
-        top,
-        i,
-        Work {
-            act: Act::Prune,
-            prunable,
-            phase,
-        },
-    )
+    let act = Act::Prune(prunable);
+    copy_all(table, top, i, Work { act, phase })
 }
 
 // The stripped data of an object, as a tree.
@@ -262,15 +204,6 @@ pub fn strip(table: &mut [u32], top: u32, i: u32) -> Made
     requires { Copyable table.old top i }
     ensures { Copied strip table.old table.new top i result.at result.top }
 {
-    let prunable = ScopeSet::empty();
-    copy_all(
-        table,
-        top,
-        i,
-        Work {
-            act: Act::Strip,
-            prunable,
-            phase: 0,
-        },
-    )
+    let act = Act::Strip;
+    copy_all(table, top, i, Work { act, phase: 0 })
 }

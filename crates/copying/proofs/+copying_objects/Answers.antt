@@ -1,4 +1,4 @@
-use Rattle.std.proofs.Common.{rules, ◌-◌}
+use Rattle.std.proofs.Common.{rules}
 use Rattle.copying.proofs.+copying_objects.Goals as goal
 use Rattle.copying.proofs.Reaching.{laws}
 

@@ -1,4 +1,4 @@
-use Rattle.std.proofs.Common.{◌+◌, ◌-◌, ◌*◌}
+use Rattle.std.proofs.Common.{◌+◌, ◌*◌}
 use Rattle.copying.specs.Working.{copying_of}
 use Rattle.copying.proofs.+copying_objects.Given as goal
 use Rattle.copying.proofs.Reaching.{Passing}

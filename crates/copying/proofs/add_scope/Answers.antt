@@ -1,4 +1,4 @@
-use Rattle.std.proofs.Common.{rules, ◌-◌}
+use Rattle.std.proofs.Common.{rules}
 use Rattle.copying.proofs.add_scope.Goals as goal
 use Rattle.copying.proofs.Whole.{laws, scope_added}
 
@@ -6,4 +6,4 @@ pub copy_all-requires : goal.copy_all-requires
 copy_all-requires c = search (laws, rules)
 
 pub returns : goal.returns
-returns c = scope_added c.requires.0 _ _ _ c.copy_all.ensures
+returns c = scope_added c.requires.0 _ _ c.copy_all.ensures

@@ -1,4 +1,4 @@
-use Rattle.std.proofs.Common.{rules, ◌-◌}
+use Rattle.std.proofs.Common.{rules}
 use Rattle.copying.proofs.link_each.Goals as goal
 use Rattle.copying.proofs.Rows.{laws}
 

@@ -1,4 +1,3 @@
-use Rattle.std.proofs.Common.{◌-◌}
 use Rattle.copying.proofs.link_each.Given as goal
 use Rattle.copying.proofs.Rows.{Tying}
 

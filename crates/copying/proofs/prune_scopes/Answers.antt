@@ -1,4 +1,4 @@
-use Rattle.std.proofs.Common.{rules, ◌-◌}
+use Rattle.std.proofs.Common.{rules}
 use Rattle.copying.proofs.prune_scopes.Goals as goal
 use Rattle.copying.proofs.Whole.{laws, scopes_pruned}
 
