@@ -4,19 +4,18 @@ use mathlib.Core.List.{List}
 use Prim.Native.Nat.{ℕ, ◌+◌, ◌*◌, ◌≤◌, ◌<◌}
 use native.Mathlib.Omega.{arith}
 use lib.ListN.{length}
+use Rattle.std.specs.Prelude.{Result, Ok, Err}
 use Rattle.store.specs.Sizes.{most_bindings}
-use Rattle.model.specs.Objects.{Stx, Stxs, nil, cons}
+use Rattle.model.specs.Objects.{Stx, Stxs}
 use Rattle.model.specs.Trees.{Tree, Trees, tnil, tcons, stx, from_stxs}
 use Rattle.model.specs.Steps as m
 use Rattle.model.specs.Steps.{ok, after}
 use Rattle.model.specs.Parsing.{parse_all, parse}
 use Rattle.steps.specs.States.{store_of, state_of, raised_to, end, Room}
-use Rattle.steps.specs.Agreement.{Later, ended, Gave, gives, stops}
+use Rattle.steps.specs.Agreement.{Later, Gave, gives, stops}
 use Rattle.steps.specs.declared.State.{State}
 use Rattle.steps.specs.declared.Stop.{Stop}
 use Rattle.steps.specs.declared.Out.{Out}
-use Rattle.steps.specs.declared.Answer.{Answer}
-use Rattle.steps.specs.declared.Answer.TheVariants.{Done, Refused}
 use Rattle.steps.proofs.Laws.{then_ok, then_no, after-after, after-done, on_done, on_refused}
 use Rattle.table.specs.Sizes.{cell_size, two_cells}
 use Rattle.table.specs.Words.{get_cell, Same}
@@ -114,20 +113,20 @@ module _ {entries ph : ℕ} {st l : List ℕ} {s : State} {c : ℕ} (r : ReadyPa
       pub part_falls : x.tail < from
       part_falls = (first-at half.rest half.shown n e).cell.low.1
 
-      module _ {l2 : List ℕ} {a : Answer} (v : Parsed entries ph st l1 l2 t x.head a) where
-        pub part-refused : {f : Stop} → a ≡ Refused f → ParsedParts entries ph st l l2 s c (Refused f)
+      module _ {l2 : List ℕ} {a : Result Out Stop} (v : Parsed entries ph st l1 l2 t x.head a) where
+        pub part-refused : {f : Stop} → a ≡ Err f → ParsedParts entries ph st l l2 s c (Err f)
         unfolding parse_all
         part-refused k = record {
           means = λ ps w.
               let h = g.means ps w in
               let q = first-at h.rest h.shown n e in
               stops _ (h.whole ∙ ap (λ (z : Stxs). after (parse_all (λ y. parse entries ph y) z (state_of t (store_of st))) (handed_on h.done)) q.is
-              ∙ then_no _ (then_no _ (on_refused (v.means q.first q.cell.shown) (ap ended k))));
+              ∙ then_no _ (then_no _ (on_refused (v.means q.first q.cell.shown) k)));
         }
 
-        module _ {o : Out} (k : a ≡ Done o) where
+        module _ {o : Out} (k : a ≡ Ok o) where
           gave : (x1 : Stx) → Rep l1 t.top x.head (stx x1) → Gave trees 1 two_cells l1 l2 t (store_of st) (parse entries ph x1 (state_of t (store_of st))) o
-          gave x1 w = on_done (v.means x1 w) (ap ended k)
+          gave x1 w = on_done (v.means x1 w) k
 
           pub part_linkable : length l2 ≡ length l1 → Linkable l2 o.state.top o.at turned
           part_linkable len =
@@ -169,7 +168,7 @@ module _ {entries ph : ℕ} {st l : List ℕ} {s : State} {c : ℕ} (r : ReadyPa
   parts_turnable z = turnable room half.fits (omega (arith, r.room.fits, g.long)) half.made
 
 pub parts_turned : {entries ph : ℕ} {st l : List ℕ} {s : State} {c : ℕ} {l1 : List ℕ} {t : State} {from turned : ℕ} → Going entries ph st l s c l1 t from turned → from ≡ 0
-    → {l2 : List ℕ} {d : Made} {u : State} → Turned l1 l2 t.top turned d.at d.top → u ≡ raised_to d.top t → ParsedParts entries ph st l l2 s c (Done (record { at = d.at; state = u }))
+    → {l2 : List ℕ} {d : Made} {u : State} → Turned l1 l2 t.top turned d.at d.top → u ≡ raised_to d.top t → ParsedParts entries ph st l l2 s c (Ok (record { at = d.at; state = u }))
 unfolding parse_all
 parts_turned {entries} {ph} {st} {l} {s} {c} {l1} {t} {from} {turned} g z {l2} {d} {u} y e =
     record {

@@ -1,50 +1,41 @@
 -- One law for each way through the functions of parsing.
 use mathlib.Core.Path.{◌≡◌, refl, sym, ap, ◌∙◌}
 use mathlib.Core.List.{List}
-use mathlib.Core.Option.{Option, none, some}
-use Prim.Native.Nat.{ℕ, zero, suc, ◌+◌, ◌-◌, ◌*◌, ◌^◌, ◌≤◌, ◌<◌}
+use Prim.Native.Nat.{ℕ, ◌+◌, ◌-◌, ◌*◌, ◌^◌, ◌≤◌, ◌<◌}
 use native.Mathlib.Omega.{arith}
 use lib.ListN.{length}
+use Rattle.std.specs.Prelude.{Result, Ok, Err, Option, Some, None}
 use Rattle.model.specs.Objects as ob
-use Rattle.model.specs.Steps as m
 use Rattle.model.specs.Objects.{Atom, symbol, tag_of, content_of, Stx, atom, list, Stxs, nil, cons, size, count}
-use Rattle.model.specs.Trees.{Tree, var, app, fun, datum, stx, Trees, tnil, tcons, from_stxs, strip}
-use Rattle.model.specs.Steps.{ok, no, charge, parts1, parts2, identifier}
+use Rattle.model.specs.Trees.{var, app, fun, datum, stx, tcons, from_stxs, strip}
+use Rattle.model.specs.Steps.{ok, parts1, parts2}
 use Rattle.model.specs.Meanings.{form_of}
-use Rattle.model.specs.Parsing.{parse_all, parse_form, parse_entry, parse}
+use Rattle.model.specs.Parsing.{parse_entry, parse}
 use Rattle.refusals.specs.declared.Refusal.TheVariants.{NoRule}
 use Rattle.scopes.specs.declared.Name.{Name}
 use Rattle.store.specs.declared.rivals.Rivals.{Rivals}
-use Rattle.steps.specs.States.{Store, store_of, state_of, stop_of, ambiguous_of, paid, raised_to, charge_of, enter_of, end, Room}
-use Rattle.steps.specs.Agreement.{Later, Ended, ended, done, refused, Gave, Agrees, gives, stops}
+use Rattle.steps.specs.States.{store_of, state_of, stop_of, ambiguous_of, paid, raised_to, charge_of, enter_of}
+use Rattle.steps.specs.Agreement.{Later, Gave, Agrees, gives, stops}
 use Rattle.steps.specs.declared.State.{State}
 use Rattle.steps.specs.declared.Stop.{Stop}
 use Rattle.steps.specs.declared.Out.{Out}
-use Rattle.steps.specs.declared.Answer.{Answer}
-use Rattle.steps.specs.declared.Answer.TheVariants.{Done, Refused}
-use Rattle.steps.specs.declared.Charged.{Charged}
-use Rattle.steps.specs.declared.Charged.TheVariants as charged
-use Rattle.steps.proofs.Laws.{Went, charge_went, charge_failed, enter_spare, enter_went, entry_refused, entry_goes, charge-ok, charge-no, then_ok, then_no, later_refl, later_trans, later-paid, room-later, on_done, on_refused, since}
+use Rattle.steps.proofs.Laws.{Went, charge_went, charge_failed, enter_spare, enter_went, entry_refused, entry_goes, charge-ok, charge-no, then_ok, then_no, later_refl, on_done, on_refused}
 use Rattle.table.specs.Tags.{list_tag, variable_tag, application_tag, atom_value_tag}
 use Rattle.table.specs.Words.{get_node, get_cell, Same}
 use Rattle.table.specs.declared.Node.{Node}
 use Rattle.table.specs.declared.Cell.{Cell}
 use Rattle.table.proofs.Laws.{same_trans}
-use Rattle.things.specs.Rep.{Rep, RepP, is_none, is-atom, is-list}
-use Rattle.things.specs.Measuring.{Seen, SeenP, Extends, Measured}
-use Rattle.things.specs.Making.{Roomy, Stored, Closable, Closed, Linkable, Linked}
+use Rattle.things.specs.Rep.{Rep, RepP, is-atom, is-list}
+use Rattle.things.specs.Measuring.{Seen, SeenP, Measured}
+use Rattle.things.specs.Making.{Roomy, Stored, Closable, Closed}
 use Rattle.things.specs.declared.Extent.{Extent}
 use Rattle.things.specs.declared.Made.{Made}
-use Rattle.things.proofs.Frame.{below, below_p, carry, carry_p}
-use Rattle.things.proofs.ByTag.{tag_is, tag-low, atom-at, list_at, stx-tag, cons-at, same_object}
+use Rattle.things.proofs.Frame.{below}
+use Rattle.things.proofs.ByTag.{tag_is, atom-at, list_at, stx-tag, same_object}
 use Rattle.things.proofs.Making.{made-var, made-app, made-datum}
 use Rattle.things.proofs.Measuring.{charged-size, covered_size}
 use Rattle.forms.specs.Shapes.{Single, Double}
 use Rattle.forms.specs.Names.{Names, formed}
-use Rattle.forms.specs.declared.One.{One}
-use Rattle.forms.specs.declared.One.TheVariants as one
-use Rattle.forms.specs.declared.Two.{Two}
-use Rattle.forms.specs.declared.Two.TheVariants as two
 use Rattle.forms.specs.declared.Form.{Form}
 use Rattle.forms.specs.declared.Form.TheVariants as form
 use Rattle.forms.specs.declared.Naming.{Naming}
@@ -52,10 +43,10 @@ use Rattle.forms.specs.declared.Naming.TheVariants.{Named, Unclear, Unnamed}
 use Rattle.forms.proofs.Shapes.{nil-at, first-at, on_one, on_not_one, on_two, on_not_two, not-parts1, not-parts2}
 use Rattle.forms.proofs.Names.{on_named, on_unclear, on_unnamed, identifier-named, identifier-unclear, identifier_unnamed}
 use Rattle.copying.specs.Copying.{Copyable, Copied}
-use Rattle.parse.specs.Shown.{ShownTree, ShownChain, trees, chains}
-use Rattle.parse.specs.Parsing.{unpaid, ReadyToParse, ReadyParts, ReadyForm, ReadyChain, ReadyData, name_rule, function_rule, lambda_rule, data_rule, quote_rule, syntax_rule, application_rule, Parsed, ParsedEntry, ParsedName, ParsedList, ParsedForm, ParsedLambda, ParsedFunction, ParsedQuote, ParsedData, ParsedSyntax, ParsedApplication, ParsedParts}
+use Rattle.parse.specs.Shown.{trees}
+use Rattle.parse.specs.Parsing.{unpaid, ReadyToParse, ReadyParts, ReadyForm, ReadyChain, ReadyData, name_rule, function_rule, lambda_rule, data_rule, quote_rule, syntax_rule, Parsed, ParsedEntry, ParsedName, ParsedList, ParsedForm, ParsedLambda, ParsedFunction, ParsedQuote, ParsedData, ParsedSyntax, ParsedApplication, ParsedParts}
 use Rattle.parse.proofs.Rules.{parse_entry_lem, entry_atom, entry_symbol, entry_empty, list-named, list-unclear, list_unnamed, form_lambda, form_let_syntax, form_quote, form_syntax, form_other, application_is, application_no}
-use Rattle.table.specs.Sizes.{cell_size, two_cells, node_size, unit_size, most_size}
+use Rattle.table.specs.Sizes.{cell_size, two_cells, node_size, most_size}
 use Rattle.store.specs.Sizes.{binding_size}
 
 -- ---- the state before the entry was charged
@@ -94,7 +85,7 @@ node_roomy s r = record { fits = omega (arith, r.room.fits); small = r.room.smal
 
 -- ---- parse
 
-module _ (entries : ℕ) (s : State) {u : State} {x : Charged} (h : x ≡ enter_of entries s) (e : x ≡ charged.Paid u) where
+module _ (entries : ℕ) (s : State) {u : State} {x : Result State Stop} (h : x ≡ enter_of entries s) (e : x ≡ Ok u) where
   pub enter_one : 1 ≤ entries
   enter_one = enter_spare entries s h e
 
@@ -104,18 +95,18 @@ module _ (entries : ℕ) (s : State) {u : State} {x : Charged} (h : x ≡ enter_
   pub enter_ready : {l st : List ℕ} {i : ℕ} → ReadyToParse l st s i → ReadyToParse l st (unpaid u) i
   enter_ready r = rw (unpaid-is (enter_went entries s h e)) r
 
-  pub enter_goes : {ph : ℕ} {st l l1 : List ℕ} {i : ℕ} {r : Answer} → ParsedEntry (entries - 1) ph st l l1 u i r → Parsed entries ph st l l1 s i r
+  pub enter_goes : {ph : ℕ} {st l l1 : List ℕ} {i : ℕ} {r : Result Out Stop} → ParsedEntry (entries - 1) ph st l l1 u i r → Parsed entries ph st l l1 s i r
   enter_goes {ph} {st} {l} {l1} {i} {r} f =
       let w = enter_went entries s h e in
       record {
         means = λ y q.
             let a = f.means y (rw (top-is w) q) in
-            let d : Agrees trees 1 two_cells l l1 s (store_of st) (parse_entry (λ z. parse (entries - 1) ph z) ph y (state_of u (store_of st))) (ended r) = rw (unpaid-is w) at a in
+            let d : Agrees trees 1 two_cells l l1 s (store_of st) (parse_entry (λ z. parse (entries - 1) ph z) ph y (state_of u (store_of st))) r = rw (unpaid-is w) at a in
             rw (entry_goes (parse_entry_lem ph y) entries s (store_of st) h e) d;
       }
 
-pub enter_stops : {entries ph : ℕ} {st : List ℕ} {s : State} {x : Charged} {f : Stop} {l : List ℕ} {i : ℕ} → x ≡ enter_of entries s → x ≡ charged.Refused f
-    → Parsed entries ph st l l s i (Refused f)
+pub enter_stops : {entries ph : ℕ} {st : List ℕ} {s : State} {x : Result State Stop} {f : Stop} {l : List ℕ} {i : ℕ} → x ≡ enter_of entries s → x ≡ Err f
+    → Parsed entries ph st l l s i (Err f)
 enter_stops {entries} {ph} {st} {s} {f = f} h e = record { means = λ y q. stops f (entry_refused (parse_entry_lem ph y) entries s (store_of st) h e) }
 
 -- ---- an entry by its tag
@@ -133,10 +124,10 @@ module _ {st l : List ℕ} (s : State) {i : ℕ} {o : Node} (e : o ≡ get_node 
   pub entry_list_ready : ReadyToParse l st (unpaid s) i → o.tag ≡ list_tag → ReadyParts l st (unpaid s) o.content
   entry_list_ready r h = let q = list_at r.shown e h in record { thing = q.parts; shown = q.shown; room = r.room; held = r.held }
 
-  pub entry_list : {entries ph : ℕ} {l1 : List ℕ} {r : Answer} → o.tag ≡ list_tag → ParsedList entries ph st l l1 s o.content r → ParsedEntry entries ph st l l1 s i r
+  pub entry_list : {entries ph : ℕ} {l1 : List ℕ} {r : Result Out Stop} → o.tag ≡ list_tag → ParsedList entries ph st l l1 s o.content r → ParsedEntry entries ph st l l1 s i r
   entry_list h a = record { means = λ x w. let q = list_at w e h in rw (same_object q.is) (a.means q.sets q.parts q.shown) }
 
-  pub entry_name : {entries ph : ℕ} {l1 : List ℕ} {r : Answer} → o.tag ≡ 0 → ParsedName ph st l l1 s i r → ParsedEntry entries ph st l l1 s i r
+  pub entry_name : {entries ph : ℕ} {l1 : List ℕ} {r : Result Out Stop} → o.tag ≡ 0 → ParsedName ph st l l1 s i r → ParsedEntry entries ph st l l1 s i r
   entry_name {entries} {ph} h a =
       record {
         means = λ x w.
@@ -151,7 +142,7 @@ module _ {st l : List ℕ} (s : State) {i : ℕ} {o : Node} (e : o ≡ get_node 
 
   pub entry_value : {entries ph : ℕ} {l1 : List ℕ} {k : Made} {z : State} → ReadyToParse l st (unpaid s) i → ¬ (o.tag ≡ list_tag) → ¬ (o.tag ≡ 0)
       → Stored l l1 s.top (record { tag = atom_value_tag + o.tag; content = o.content }) k.at k.top → z ≡ raised_to k.top s
-      → ParsedEntry entries ph st l l1 s i (Done (record { at = k.at; state = z }))
+      → ParsedEntry entries ph st l l1 s i (Ok (record { at = k.at; state = z }))
   unfolding unpaid
   entry_value {entries} {ph} {l1} {k} {z} r n5 n0 d g =
       record {
@@ -174,17 +165,17 @@ module _ {st l : List ℕ} (s : State) {i : ℕ} {o : Node} (e : o ≡ get_node 
 -- ---- a variable
 
 module _ {ph : ℕ} {st l : List ℕ} (s : State) {i : ℕ} {n : Naming} (p : Names ph st s.bindings l i n) where
-  pub name_unnamed : {r : Answer} → n ≡ Unnamed → r ≡ Refused (stop_of NoRule s) → ParsedName ph st l l s i r
+  pub name_unnamed : {r : Result Out Stop} → n ≡ Unnamed → r ≡ Err (stop_of NoRule s) → ParsedName ph st l l s i r
   unfolding name_rule
   name_unnamed e same = rw same (record { means = λ x w. stops _ (identifier_unnamed ph (state_of s (store_of st)) x _ (on_unnamed p w e)) })
 
-  pub name-unclear : {r : Answer} {k : Rivals} → n ≡ Unclear k → r ≡ Refused (ambiguous_of k s) → ParsedName ph st l l s i r
+  pub name-unclear : {r : Result Out Stop} {k : Rivals} → n ≡ Unclear k → r ≡ Err (ambiguous_of k s) → ParsedName ph st l l s i r
   unfolding name_rule
   name-unclear e same = rw same (record { means = λ x w. stops _ (identifier-unclear ph (state_of s (store_of st)) (λ k. λ z. ok (var k) z) x (on_unclear p w e)) })
 
   pub name-var : {v : Name} {l1 : List ℕ} {k : Made} {z : State} → ReadyToParse l st (unpaid s) i → n ≡ Named v
       → Stored l l1 s.top (record { tag = variable_tag; content = v.0 }) k.at k.top → z ≡ raised_to k.top s
-      → ParsedName ph st l l1 s i (Done (record { at = k.at; state = z }))
+      → ParsedName ph st l l1 s i (Ok (record { at = k.at; state = z }))
   unfolding name_rule unpaid
   name-var {v} {l1} {k} {z} r e d g =
       record {
@@ -199,7 +190,7 @@ module _ {ph : ℕ} {st l : List ℕ} (s : State) {i : ℕ} {n : Naming} (p : Na
 
 -- ---- a list
 
-pub list-empty : {entries ph : ℕ} {st l : List ℕ} {s : State} {c : ℕ} {r : Answer} → c ≡ 0 → r ≡ Refused (stop_of NoRule s) → ParsedList entries ph st l l s c r
+pub list-empty : {entries ph : ℕ} {st l : List ℕ} {s : State} {c : ℕ} {r : Result Out Stop} → c ≡ 0 → r ≡ Err (stop_of NoRule s) → ParsedList entries ph st l l s c r
 list-empty {entries} {ph} {st} {l} {s} h same =
     rw same
     (record { means = λ k ps w. rw (nil-at ps w h) (stops _ (entry_empty (λ y. parse entries ph y) ph (state_of s (store_of st)) k)) })
@@ -223,7 +214,7 @@ module _ {st l : List ℕ} (s : State) {c : ℕ} {x : Cell} (h : ¬ (c ≡ 0)) (
       record { first = q.first; others = q.others; shown = all; shown-others = q.cell.shown-others; room = r.room; held = r.held }
 
   module _ {entries ph : ℕ} {n : Naming} (p : Names ph st s.bindings l x.head n) where
-    pub list_is_unclear : {r : Answer} {k : Rivals} → n ≡ Unclear k → r ≡ Refused (ambiguous_of k s) → ParsedList entries ph st l l s c r
+    pub list_is_unclear : {r : Result Out Stop} {k : Rivals} → n ≡ Unclear k → r ≡ Err (ambiguous_of k s) → ParsedList entries ph st l l s c r
     list_is_unclear z same =
         rw same
         (record {
@@ -232,7 +223,7 @@ module _ {st l : List ℕ} (s : State) {c : ℕ} {x : Cell} (h : ¬ (c ≡ 0)) (
               rw q.is (stops _ (list-unclear (λ y. parse entries ph y) ph (state_of s (store_of st)) k q.first q.others (on_unclear p q.cell.shown z)));
         })
 
-    pub list_applied : {l1 : List ℕ} {r : Answer} → n ≡ Unnamed → ParsedApplication entries ph st l l1 s c r → ParsedList entries ph st l l1 s c r
+    pub list_applied : {l1 : List ℕ} {r : Result Out Stop} → n ≡ Unnamed → ParsedApplication entries ph st l l1 s c r → ParsedList entries ph st l l1 s c r
     unfolding from_stxs
     list_applied z a =
         record {
@@ -243,7 +234,7 @@ module _ {st l : List ℕ} (s : State) {c : ℕ} {x : Cell} (h : ¬ (c ≡ 0)) (
               (a.means q.first q.others all);
         }
 
-    pub list-formed : {v : Name} {l1 : List ℕ} {r : Answer} → n ≡ Named v → ParsedForm entries ph st l l1 s v.0 c x.tail r → ParsedList entries ph st l l1 s c r
+    pub list-formed : {v : Name} {l1 : List ℕ} {r : Result Out Stop} → n ≡ Named v → ParsedForm entries ph st l l1 s v.0 c x.tail r → ParsedList entries ph st l l1 s c r
     unfolding from_stxs
     list-formed z a =
         record {
@@ -257,22 +248,22 @@ module _ {st l : List ℕ} (s : State) {c : ℕ} {x : Cell} (h : ¬ (c ≡ 0)) (
 -- ---- forms
 
 module _ {entries ph : ℕ} {st l : List ℕ} {s : State} {n : ℕ} {c tail : ℕ} {f : Form} (h : formed f ≡ form_of n) where
-  pub form_is_lambda : {l1 : List ℕ} {r : Answer} → f ≡ form.Lambda → ParsedLambda entries ph st l l1 s tail r → ParsedForm entries ph st l l1 s n c tail r
+  pub form_is_lambda : {l1 : List ℕ} {r : Result Out Stop} → f ≡ form.Lambda → ParsedLambda entries ph st l l1 s tail r → ParsedForm entries ph st l l1 s n c tail r
   form_is_lambda z a =
       record { means = λ x ps u w. rw (form_lambda (λ y. parse entries ph y) ph (state_of s (store_of st)) x ps (sym (ap formed z) ∙ h)) (a.means ps w) }
 
-  pub form_is_let_syntax : {r : Answer} → f ≡ form.LetSyntax → r ≡ Refused (stop_of NoRule s) → ParsedForm entries ph st l l s n c tail r
+  pub form_is_let_syntax : {r : Result Out Stop} → f ≡ form.LetSyntax → r ≡ Err (stop_of NoRule s) → ParsedForm entries ph st l l s n c tail r
   form_is_let_syntax z same = rw same (record { means = λ x ps u w. stops _ (form_let_syntax (λ y. parse entries ph y) ph (state_of s (store_of st)) x ps (sym (ap formed z) ∙ h)) })
 
-  pub form_is_quote : {l1 : List ℕ} {r : Answer} → f ≡ form.Quote → ParsedQuote l l1 s tail r → ParsedForm entries ph st l l1 s n c tail r
+  pub form_is_quote : {l1 : List ℕ} {r : Result Out Stop} → f ≡ form.Quote → ParsedQuote l l1 s tail r → ParsedForm entries ph st l l1 s n c tail r
   form_is_quote z a =
       record { means = λ x ps u w. rw (form_quote (λ y. parse entries ph y) ph (state_of s (store_of st)) x ps (sym (ap formed z) ∙ h)) (a.means (store_of st) ps w) }
 
-  pub form_is_syntax : {r : Answer} → f ≡ form.Syntax → ParsedSyntax l s tail r → ParsedForm entries ph st l l s n c tail r
+  pub form_is_syntax : {r : Result Out Stop} → f ≡ form.Syntax → ParsedSyntax l s tail r → ParsedForm entries ph st l l s n c tail r
   form_is_syntax z a =
       record { means = λ x ps u w. rw (form_syntax (λ y. parse entries ph y) ph (state_of s (store_of st)) x ps (sym (ap formed z) ∙ h)) (a.means (store_of st) ps w) }
 
-  pub form_is_other : {l1 : List ℕ} {r : Answer} → f ≡ form.Other → ParsedApplication entries ph st l l1 s c r → ParsedForm entries ph st l l1 s n c tail r
+  pub form_is_other : {l1 : List ℕ} {r : Result Out Stop} → f ≡ form.Other → ParsedApplication entries ph st l l1 s c r → ParsedForm entries ph st l l1 s n c tail r
   form_is_other z a =
       record { means = λ x ps u w. rw (form_other (λ y. parse entries ph y) ph (state_of s (store_of st)) x ps (sym (ap formed z) ∙ h)) (a.means x ps u) }
 
@@ -297,12 +288,12 @@ pub parts_held : {l st : List ℕ} (s : State) {c : ℕ} → ReadyParts l st (un
 unfolding unpaid
 parts_held s r = omega (arith, r.held.few, r.held.wide)
 
-module _ {st l : List ℕ} (s : State) {c : ℕ} {d : Two} (h : Double l c d) where
-  pub lambda_shape : {entries ph : ℕ} {r : Answer} → d ≡ two.Not → r ≡ Refused (stop_of NoRule s) → ParsedLambda entries ph st l l s c r
+module _ {st l : List ℕ} (s : State) {c : ℕ} {d : Option (ℕ × ℕ)} (h : Double l c d) where
+  pub lambda_shape : {entries ph : ℕ} {r : Result Out Stop} → d ≡ None → r ≡ Err (stop_of NoRule s) → ParsedLambda entries ph st l l s c r
   unfolding lambda_rule
   lambda_shape e same = rw same (record { means = λ ps w. stops _ (not-parts2 ps _ (state_of s (store_of st)) (on_not_two (h.means s.top ps w) e)) })
 
-  module _ {i j : ℕ} (e : d ≡ two.Are i j) where
+  module _ {i j : ℕ} (e : d ≡ Some (i, j)) where
     pub lambda_id_seen : ReadyParts l st (unpaid s) c → Seen l i
     unfolding unpaid
     lambda_id_seen r =
@@ -313,7 +304,7 @@ module _ {st l : List ℕ} (s : State) {c : ℕ} {d : Two} (h : Double l c d) wh
     lambda_body_ready r = let q = on_two (h.means (unpaid s).top r.thing r.shown) e in record { thing = q.second; shown = q.shown-second; room = r.room; held = r.held }
 
     module _ {entries ph : ℕ} {n : Naming} (p : Names ph st s.bindings l i n) where
-      pub lambda_unnamed : {r : Answer} → n ≡ Unnamed → r ≡ Refused (stop_of NoRule s) → ParsedLambda entries ph st l l s c r
+      pub lambda_unnamed : {r : Result Out Stop} → n ≡ Unnamed → r ≡ Err (stop_of NoRule s) → ParsedLambda entries ph st l l s c r
       unfolding lambda_rule parts2
       lambda_unnamed z same =
           rw same
@@ -323,7 +314,7 @@ module _ {st l : List ℕ} (s : State) {c : ℕ} {d : Two} (h : Double l c d) wh
                 rw q.is (stops _ (identifier_unnamed ph (state_of s (store_of st)) q.first _ (on_unnamed p q.shown z)));
           })
 
-      pub lambda-unclear : {r : Answer} {k : Rivals} → n ≡ Unclear k → r ≡ Refused (ambiguous_of k s) → ParsedLambda entries ph st l l s c r
+      pub lambda-unclear : {r : Result Out Stop} {k : Rivals} → n ≡ Unclear k → r ≡ Err (ambiguous_of k s) → ParsedLambda entries ph st l l s c r
       unfolding lambda_rule parts2
       lambda-unclear z same =
           rw same
@@ -333,7 +324,7 @@ module _ {st l : List ℕ} (s : State) {c : ℕ} {d : Two} (h : Double l c d) wh
                 rw q.is (stops _ (identifier-unclear ph (state_of s (store_of st)) (λ k. function_rule (λ y. parse entries ph y) k q.second) q.first (on_unclear p q.shown z)));
           })
 
-      pub lambda_function : {v : Name} {l1 : List ℕ} {r : Answer} → n ≡ Named v → ParsedFunction entries ph st l l1 s v.0 j r → ParsedLambda entries ph st l l1 s c r
+      pub lambda_function : {v : Name} {l1 : List ℕ} {r : Result Out Stop} → n ≡ Named v → ParsedFunction entries ph st l l1 s v.0 j r → ParsedLambda entries ph st l l1 s c r
       unfolding lambda_rule parts2
       lambda_function z a =
           record {
@@ -350,14 +341,14 @@ pub later-ready : {l st : List ℕ} (s : State) {i : ℕ} → ReadyToParse l st 
 unfolding unpaid
 later-ready s r = record { thing = r.thing; shown = r.shown; room = record { fits = omega (arith, r.room.fits); small = r.room.small; low = r.room.low }; held = record { few = r.held.few; wide = r.held.wide } }
 
-module _ {entries ph : ℕ} {st l l1 : List ℕ} (s : State) {body : ℕ} {a : Answer} (v : Parsed entries ph st l l1 s body a) where
-  pub function_refused : {n : ℕ} {f : Stop} → a ≡ Refused f → ParsedFunction entries ph st l l1 s n body (Refused f)
+module _ {entries ph : ℕ} {st l l1 : List ℕ} (s : State) {body : ℕ} {a : Result Out Stop} (v : Parsed entries ph st l l1 s body a) where
+  pub function_refused : {n : ℕ} {f : Stop} → a ≡ Err f → ParsedFunction entries ph st l l1 s n body (Err f)
   unfolding function_rule
-  function_refused e = record { means = λ x w. stops _ (then_no _ (on_refused (v.means x w) (ap ended e))) }
+  function_refused e = record { means = λ x w. stops _ (then_no _ (on_refused (v.means x w) e)) }
 
-  module _ {o : Out} (e : a ≡ Done o) where
+  module _ {o : Out} (e : a ≡ Ok o) where
     function_gave : (x : Stx) → Rep l s.top body (stx x) → Gave trees 1 two_cells l l1 s (store_of st) (parse entries ph x (state_of s (store_of st))) o
-    function_gave x w = on_done (v.means x w) (ap ended e)
+    function_gave x w = on_done (v.means x w) e
 
     pub function_ready : ReadyToParse l st (unpaid s) body → length l1 ≡ length l → Closable l1 o.state.top o.at
     unfolding unpaid
@@ -370,7 +361,7 @@ module _ {entries ph : ℕ} {st l l1 : List ℕ} (s : State) {body : ℕ} {a : A
         }
 
     pub function_made : {n : ℕ} {l2 : List ℕ} {k : Made} {z : State} → Closed l1 l2 o.state.top n o.at k.at k.top → z ≡ raised_to k.top o.state
-        → ParsedFunction entries ph st l l2 s n body (Done (record { at = k.at; state = z }))
+        → ParsedFunction entries ph st l l2 s n body (Ok (record { at = k.at; state = z }))
     unfolding function_rule unpaid
     function_made {n} {l2} {k} d g =
         record {
@@ -395,17 +386,17 @@ pub chain-seen : {l : List ℕ} (s : State) {c : ℕ} → ReadyChain l (unpaid s
 unfolding unpaid
 chain-seen s r = record { top = s.top; thing = from_stxs r.thing; shown = r.shown; inside = omega (arith, r.room.fits); small = r.room.small }
 
-module _ {l : List ℕ} (s : State) {c : ℕ} {d : One} (h : Single l c d) where
-  pub syntax_shape : {r : Answer} → d ≡ one.Not → r ≡ Refused (stop_of NoRule s) → ParsedSyntax l s c r
+module _ {l : List ℕ} (s : State) {c : ℕ} {d : Option ℕ} (h : Single l c d) where
+  pub syntax_shape : {r : Result Out Stop} → d ≡ None → r ≡ Err (stop_of NoRule s) → ParsedSyntax l s c r
   unfolding syntax_rule
   syntax_shape e same = rw same (record { means = λ b ps w. stops _ (not-parts1 ps _ (state_of s b) (on_not_one (h.means s.top ps w) e)) })
 
-  pub quote_shape : {r : Answer} → d ≡ one.Not → r ≡ Refused (stop_of NoRule s) → ParsedQuote l l s c r
+  pub quote_shape : {r : Result Out Stop} → d ≡ None → r ≡ Err (stop_of NoRule s) → ParsedQuote l l s c r
   unfolding quote_rule
   quote_shape e same = rw same (record { means = λ b ps w. stops _ (not-parts1 ps _ (state_of s b) (on_not_one (h.means s.top ps w) e)) })
 
-  module _ {i : ℕ} (e : d ≡ one.Is i) where
-    pub syntax-is : ReadyChain l (unpaid s) c → ParsedSyntax l s c (Done (record { at = i; state = s }))
+  module _ {i : ℕ} (e : d ≡ Some i) where
+    pub syntax-is : ReadyChain l (unpaid s) c → ParsedSyntax l s c (Ok (record { at = i; state = s }))
     unfolding syntax_rule parts1 unpaid
     syntax-is r =
         record {
@@ -422,7 +413,7 @@ module _ {l : List ℕ} (s : State) {c : ℕ} {d : One} (h : Single l c d) where
     pub quote-ready : ReadyChain l (unpaid s) c → ReadyData l (unpaid s) i
     quote-ready r = let q = on_one (h.means (unpaid s).top r.thing r.shown) e in record { thing = q.first; shown = q.shown; room = r.room; few = r.few }
 
-    pub quote-is : {l1 : List ℕ} {r : Answer} → ParsedData l l1 s i r → ParsedQuote l l1 s c r
+    pub quote-is : {l1 : List ℕ} {r : Result Out Stop} → ParsedData l l1 s i r → ParsedQuote l l1 s c r
     unfolding quote_rule parts1
     quote-is a = record { means = λ b ps w. let q = on_one (h.means s.top ps w) e in rw q.is (a.means b q.first q.shown) }
 
@@ -430,18 +421,18 @@ pub data-seen : {l : List ℕ} (s : State) {i : ℕ} → ReadyData l (unpaid s) 
 unfolding unpaid
 data-seen s r = record { top = s.top; thing = stx r.thing; shown = r.shown; inside = omega (arith, r.room.fits); small = r.room.small }
 
-module _ {l : List ℕ} (s : State) {i : ℕ} {ex : Extent} (k : Measured l i ex) {y : Charged} (f : y ≡ charge_of ex.weight s) (r : ReadyData l (unpaid s) i) where
+module _ {l : List ℕ} (s : State) {i : ℕ} {ex : Extent} (k : Measured l i ex) {y : Result State Stop} (f : y ≡ charge_of ex.weight s) (r : ReadyData l (unpaid s) i) where
   few-left : s.left < most_size
   unfolding unpaid
   few-left = omega (arith, r.room.fits, r.room.small)
 
-  pub data-short : {t : Stop} → y ≡ charged.Refused t → ParsedData l l s i (Refused t)
+  pub data-short : {t : Stop} → y ≡ Err t → ParsedData l l s i (Err t)
   unfolding data_rule
   data-short {t} g =
       let q = charge_failed ex.weight s f g in
       record { means = λ b x w. rw q.is (stops _ (then_no _ (charge-no (size x) s b (omega (arith, q.short, few-left, charged-size k x w))))) }
 
-  module _ {u : State} (g : y ≡ charged.Paid u) where
+  module _ {u : State} (g : y ≡ Ok u) where
     went : Went ex.weight s u
     went = charge_went ex.weight s f g
 
@@ -452,7 +443,7 @@ module _ {l : List ℕ} (s : State) {i : ℕ} {ex : Extent} (k : Measured l i ex
         rw went.is (record { thing = r.thing; shown = r.shown; charged = omega (arith, n, went.enough, few-left); room = omega (arith, r.room.fits, went.enough, n); small = r.room.small; low = r.room.low })
 
     pub data-made : {l1 : List ℕ} {at : Made} {z : State} → Copied strip l l1 u.top i at.at at.top → z ≡ raised_to at.top u
-        → ParsedData l l1 s i (Done (record { at = at.at; state = z }))
+        → ParsedData l l1 s i (Ok (record { at = at.at; state = z }))
     unfolding data_rule unpaid
     data-made {l1} {at} {z} v j =
         let ut : u.top ≡ s.top = ap (λ (y : State). y.top) went.is in
@@ -478,26 +469,26 @@ pub parts-ready : {l st : List ℕ} (s : State) {c : ℕ} → ReadyParts l st (u
 unfolding unpaid
 parts-ready s r = record { thing = r.thing; shown = r.shown; room = record { fits = omega (arith, r.room.fits); small = r.room.small; low = r.room.low }; held = record { few = r.held.few; wide = r.held.wide } }
 
-module _ {entries ph : ℕ} {st l l1 : List ℕ} (s : State) {c : ℕ} {a : Answer} (v : ParsedParts entries ph st l l1 s c a) where
-  pub application_refused : {f : Stop} → a ≡ Refused f → ParsedApplication entries ph st l l1 s c (Refused f)
+module _ {entries ph : ℕ} {st l l1 : List ℕ} (s : State) {c : ℕ} {a : Result Out Stop} (v : ParsedParts entries ph st l l1 s c a) where
+  pub application_refused : {f : Stop} → a ≡ Err f → ParsedApplication entries ph st l l1 s c (Err f)
   unfolding from_stxs
   application_refused e =
-      record { means = λ h ps w. stops _ (application_no (λ y. parse entries ph y) h ps (state_of s (store_of st)) (on_refused (v.means (cons h ps) w) (ap ended e))) }
+      record { means = λ h ps w. stops _ (application_no (λ y. parse entries ph y) h ps (state_of s (store_of st)) (on_refused (v.means (cons h ps) w) e)) }
 
-  module _ {o : Out} (e : a ≡ Done o) where
+  module _ {o : Out} (e : a ≡ Ok o) where
     pub application_roomy : ReadyParts l st (unpaid s) c → length l1 ≡ length l → Roomy l1 o.state.top node_size
     unfolding unpaid
     application_roomy r len =
-        let g = on_done (v.means r.thing r.shown) (ap ended e) in
+        let g = on_done (v.means r.thing r.shown) e in
         record { fits = omega (arith, g.later.fits, r.room.fits, len); small = omega (arith, r.room.small, len); low = omega (arith, r.room.low, g.later.grows) }
 
     pub application_made : {l2 : List ℕ} {k : Made} {z : State} → Stored l1 l2 o.state.top (record { tag = application_tag; content = o.at }) k.at k.top
-        → z ≡ raised_to k.top o.state → ParsedApplication entries ph st l l2 s c (Done (record { at = k.at; state = z }))
+        → z ≡ raised_to k.top o.state → ParsedApplication entries ph st l l2 s c (Ok (record { at = k.at; state = z }))
     unfolding from_stxs unpaid
     application_made {l2} {k} d g =
         record {
           means = λ h ps w.
-              let q = on_done (v.means (cons h ps) w) (ap ended e) in
+              let q = on_done (v.means (cons h ps) w) e in
               let f = application_is (λ y. parse entries ph y) h ps (state_of s (store_of st)) q.is in
               let shown : RepP l1 o.state.top o.at (tcons f.first f.others) = rw f.is at q.shown.rep in
               rw g (gives (record { at = k.at; state = raised_to k.top o.state }) (record {

@@ -1,12 +1,11 @@
 -- The rules of parsing, each in the shape that a way out of the code asks for.
-use mathlib.Core.Path.{◌≡◌, refl, sym, ap, ◌∙◌}
-use mathlib.Core.List.{List}
+use mathlib.Core.Path.{◌≡◌, refl, sym, ap}
 use mathlib.Core.Option.{Option, none, some}
-use Prim.Native.Nat.{ℕ, zero, suc, ◌+◌, ◌≤◌, ◌<◌}
+use Prim.Native.Nat.{ℕ}
 use native.Mathlib.Omega.{arith}
 use Rattle.model.specs.Refusals.{Refusal, ambiguous, no_rule}
 use Rattle.model.specs.Objects.{Atom, symbol, number, point, prim, rung, tag_of, Sets, Stx, atom, list, Stxs, nil, cons}
-use Rattle.model.specs.Trees.{Tree, var, app, fun, datum, stx, Trees, tnil, tcons}
+use Rattle.model.specs.Trees.{Tree, app, datum, Trees, tcons}
 use Rattle.model.specs.Competing.{Rivals, no_rivals}
 use Rattle.model.specs.Steps.{State, Out, ok, no, after, Step, identifier}
 use Rattle.model.specs.Meanings as p

@@ -1,16 +1,17 @@
 -- What the functions of parsing ask and give. An entry's own functions are told of the state before the entry was charged: its unit pays
 -- for what they make.
-use Rattle.std.specs.Prelude.{List, ℕ, ◌+◌, ◌≤◌, length}
+use Rattle.std.specs.Prelude.{List, ℕ, ◌+◌, ◌≤◌, Result}
 use Rattle.store.specs.Sizes.{most_bindings}
 use Rattle.model.specs.Objects.{Sets, Stx, list, Stxs, size}
-use Rattle.model.specs.Trees.{Tree, var, app, fun, stx, Trees, tcons, from_stxs, strip}
+use Rattle.model.specs.Trees.{Tree, var, app, fun, stx, tcons, from_stxs, strip}
 use Rattle.model.specs.Steps.{Step, ◌>>=◌, ◌>>◌, done, charge, resolve_at, parts1, parts2, identifier}
 use Rattle.model.specs.Meanings.{form_of}
 use Rattle.model.specs.Parsing.{parse_all, parse_form, parse_entry, parse}
-use Rattle.steps.specs.States.{Store, store_of, Held, state_of, end, Room}
-use Rattle.steps.specs.Agreement.{ended, Agrees}
+use Rattle.steps.specs.States.{Store, store_of, Held, state_of, Room}
+use Rattle.steps.specs.Agreement.{Agrees}
 use Rattle.steps.specs.declared.State.{State}
-use Rattle.steps.specs.declared.Answer.{Answer}
+use Rattle.steps.specs.declared.Stop.{Stop}
+use Rattle.steps.specs.declared.Out.{Out}
 use Rattle.things.specs.Rep.{Rep, RepP}
 use Rattle.parse.specs.Shown.{trees, chains}
 use Rattle.table.specs.Sizes.{two_cells}
@@ -96,45 +97,45 @@ application_rule self h l = do
 
 -- ---- what is given
 
-pub record Parsed (entries ph : ℕ) (st l l' : List ℕ) (s : State) (i : ℕ) (r : Answer) : Type 0 where
-  pub means : (x : Stx) → Rep l s.top i (stx x) → Agrees trees 1 two_cells l l' s (store_of st) (parse entries ph x (state_of s (store_of st))) (ended r)
+pub record Parsed (entries ph : ℕ) (st l l' : List ℕ) (s : State) (i : ℕ) (r : Result Out Stop) : Type 0 where
+  pub means : (x : Stx) → Rep l s.top i (stx x) → Agrees trees 1 two_cells l l' s (store_of st) (parse entries ph x (state_of s (store_of st))) r
 
-pub record ParsedEntry (entries ph : ℕ) (st l l' : List ℕ) (s : State) (i : ℕ) (r : Answer) : Type 0 where
+pub record ParsedEntry (entries ph : ℕ) (st l l' : List ℕ) (s : State) (i : ℕ) (r : Result Out Stop) : Type 0 where
   pub means : (x : Stx) → Rep l s.top i (stx x)
-      → Agrees trees 1 two_cells l l' (unpaid s) (store_of st) (parse_entry (λ y. parse entries ph y) ph x (state_of s (store_of st))) (ended r)
+      → Agrees trees 1 two_cells l l' (unpaid s) (store_of st) (parse_entry (λ y. parse entries ph y) ph x (state_of s (store_of st))) r
 
-pub record ParsedName (ph : ℕ) (st l l' : List ℕ) (s : State) (i : ℕ) (r : Answer) : Type 0 where
-  pub means : (x : Stx) → Rep l s.top i (stx x) → Agrees trees 1 two_cells l l' (unpaid s) (store_of st) (name_rule ph x (state_of s (store_of st))) (ended r)
+pub record ParsedName (ph : ℕ) (st l l' : List ℕ) (s : State) (i : ℕ) (r : Result Out Stop) : Type 0 where
+  pub means : (x : Stx) → Rep l s.top i (stx x) → Agrees trees 1 two_cells l l' (unpaid s) (store_of st) (name_rule ph x (state_of s (store_of st))) r
 
-pub record ParsedList (entries ph : ℕ) (st l l' : List ℕ) (s : State) (c : ℕ) (r : Answer) : Type 0 where
+pub record ParsedList (entries ph : ℕ) (st l l' : List ℕ) (s : State) (c : ℕ) (r : Result Out Stop) : Type 0 where
   pub means : (k : Sets) (ps : Stxs) → RepP l s.top c (from_stxs ps)
-      → Agrees trees 1 two_cells l l' (unpaid s) (store_of st) (parse_entry (λ y. parse entries ph y) ph (list k ps) (state_of s (store_of st))) (ended r)
+      → Agrees trees 1 two_cells l l' (unpaid s) (store_of st) (parse_entry (λ y. parse entries ph y) ph (list k ps) (state_of s (store_of st))) r
 
-pub record ParsedForm (entries ph : ℕ) (st l l' : List ℕ) (s : State) (head c tail : ℕ) (r : Answer) : Type 0 where
+pub record ParsedForm (entries ph : ℕ) (st l l' : List ℕ) (s : State) (head c tail : ℕ) (r : Result Out Stop) : Type 0 where
   pub means : (h : Stx) (ps : Stxs) → RepP l s.top c (tcons (stx h) (from_stxs ps)) → RepP l s.top tail (from_stxs ps)
-      → Agrees trees 1 two_cells l l' (unpaid s) (store_of st) (parse_form (λ y. parse entries ph y) ph (form_of head) h ps (state_of s (store_of st))) (ended r)
+      → Agrees trees 1 two_cells l l' (unpaid s) (store_of st) (parse_form (λ y. parse entries ph y) ph (form_of head) h ps (state_of s (store_of st))) r
 
-pub record ParsedLambda (entries ph : ℕ) (st l l' : List ℕ) (s : State) (c : ℕ) (r : Answer) : Type 0 where
+pub record ParsedLambda (entries ph : ℕ) (st l l' : List ℕ) (s : State) (c : ℕ) (r : Result Out Stop) : Type 0 where
   pub means : (ps : Stxs) → RepP l s.top c (from_stxs ps)
-      → Agrees trees 1 two_cells l l' (unpaid s) (store_of st) (lambda_rule (λ y. parse entries ph y) ph ps (state_of s (store_of st))) (ended r)
+      → Agrees trees 1 two_cells l l' (unpaid s) (store_of st) (lambda_rule (λ y. parse entries ph y) ph ps (state_of s (store_of st))) r
 
-pub record ParsedFunction (entries ph : ℕ) (st l l' : List ℕ) (s : State) (n body : ℕ) (r : Answer) : Type 0 where
+pub record ParsedFunction (entries ph : ℕ) (st l l' : List ℕ) (s : State) (n body : ℕ) (r : Result Out Stop) : Type 0 where
   pub means : (x : Stx) → Rep l s.top body (stx x)
-      → Agrees trees 1 two_cells l l' (unpaid s) (store_of st) (function_rule (λ y. parse entries ph y) n x (state_of s (store_of st))) (ended r)
+      → Agrees trees 1 two_cells l l' (unpaid s) (store_of st) (function_rule (λ y. parse entries ph y) n x (state_of s (store_of st))) r
 
-pub record ParsedQuote (l l' : List ℕ) (s : State) (c : ℕ) (r : Answer) : Type 0 where
-  pub means : (b : Store) (ps : Stxs) → RepP l s.top c (from_stxs ps) → Agrees trees 1 two_cells l l' (unpaid s) b (quote_rule ps (state_of s b)) (ended r)
+pub record ParsedQuote (l l' : List ℕ) (s : State) (c : ℕ) (r : Result Out Stop) : Type 0 where
+  pub means : (b : Store) (ps : Stxs) → RepP l s.top c (from_stxs ps) → Agrees trees 1 two_cells l l' (unpaid s) b (quote_rule ps (state_of s b)) r
 
-pub record ParsedData (l l' : List ℕ) (s : State) (i : ℕ) (r : Answer) : Type 0 where
-  pub means : (b : Store) (x : Stx) → Rep l s.top i (stx x) → Agrees trees 1 two_cells l l' (unpaid s) b (data_rule x (state_of s b)) (ended r)
+pub record ParsedData (l l' : List ℕ) (s : State) (i : ℕ) (r : Result Out Stop) : Type 0 where
+  pub means : (b : Store) (x : Stx) → Rep l s.top i (stx x) → Agrees trees 1 two_cells l l' (unpaid s) b (data_rule x (state_of s b)) r
 
-pub record ParsedSyntax (l : List ℕ) (s : State) (c : ℕ) (r : Answer) : Type 0 where
-  pub means : (b : Store) (ps : Stxs) → RepP l s.top c (from_stxs ps) → Agrees trees 1 two_cells l l (unpaid s) b (syntax_rule ps (state_of s b)) (ended r)
+pub record ParsedSyntax (l : List ℕ) (s : State) (c : ℕ) (r : Result Out Stop) : Type 0 where
+  pub means : (b : Store) (ps : Stxs) → RepP l s.top c (from_stxs ps) → Agrees trees 1 two_cells l l (unpaid s) b (syntax_rule ps (state_of s b)) r
 
-pub record ParsedApplication (entries ph : ℕ) (st l l' : List ℕ) (s : State) (c : ℕ) (r : Answer) : Type 0 where
+pub record ParsedApplication (entries ph : ℕ) (st l l' : List ℕ) (s : State) (c : ℕ) (r : Result Out Stop) : Type 0 where
   pub means : (h : Stx) (ps : Stxs) → RepP l s.top c (tcons (stx h) (from_stxs ps))
-      → Agrees trees 1 two_cells l l' (unpaid s) (store_of st) (application_rule (λ y. parse entries ph y) h ps (state_of s (store_of st))) (ended r)
+      → Agrees trees 1 two_cells l l' (unpaid s) (store_of st) (application_rule (λ y. parse entries ph y) h ps (state_of s (store_of st))) r
 
-pub record ParsedParts (entries ph : ℕ) (st l l' : List ℕ) (s : State) (c : ℕ) (r : Answer) : Type 0 where
+pub record ParsedParts (entries ph : ℕ) (st l l' : List ℕ) (s : State) (c : ℕ) (r : Result Out Stop) : Type 0 where
   pub means : (ps : Stxs) → RepP l s.top c (from_stxs ps)
-      → Agrees chains 0 0 l l' s (store_of st) (parse_all (λ y. parse entries ph y) ps (state_of s (store_of st))) (ended r)
+      → Agrees chains 0 0 l l' s (store_of st) (parse_all (λ y. parse entries ph y) ps (state_of s (store_of st))) r

@@ -2,7 +2,6 @@
 use Rattle.std.specs.Prelude.{List, ℕ, ◌≤◌}
 use Rattle.model.specs.Trees.{Tree, Trees}
 use Rattle.steps.specs.Agreement.{Shape}
-use Rattle.steps.specs.declared.State.{State}
 use Rattle.steps.specs.declared.Out.{Out}
 use Rattle.things.specs.Rep.{Rep, RepP}
 use Rattle.store.specs.Sizes.{most_bindings}

@@ -5,52 +5,62 @@
 ghost use Rattle.std.specs.Prelude.{◌≡◌};
 ghost use Rattle.parse.specs.Parsing.{unpaid, ReadyToParse, ReadyParts, ReadyForm, ReadyChain, ReadyData, Parsed, ParsedEntry, ParsedName, ParsedList, ParsedForm, ParsedLambda, ParsedFunction, ParsedQuote, ParsedData, ParsedSyntax, ParsedApplication, ParsedParts};
 
-use forms::{Form, Naming, One, Two};
+use forms::{Form, Naming};
 use refusals::Refusal;
 use scopes::Name;
-use steps::{Answer, Charged, Out, State};
+use steps::{Out, State, Stop};
 use table::Node;
 
 // One entry.
 #[cycle(parsing)]
-pub fn parse(table: &mut [u32], store: &[u64], s: State, i: u32, phase: u32, entries: u32) -> Answer
+pub fn parse(
+    table: &mut [u32],
+    store: &[u64],
+    s: State,
+    i: u32,
+    phase: u32,
+    entries: u32,
+) -> Result<Out, Stop>
     requires { ReadyToParse table.old store.now s i }
     ensures { Parsed entries phase store.now table.old table.new s i result }
 {
-    match s.enter(entries) {
-        Charged::Refused(f) => Answer::Refused(f),
-        Charged::Paid(t) => entry(table, store, t, i, phase, entries - 1),
-    }
+    let t = s.enter(entries)?;
+    entry(table, store, t, i, phase, entries - 1)
 }
 
 // The entry charged.
 #[cycle(parsing)]
-fn entry(table: &mut [u32], store: &[u64], s: State, i: u32, phase: u32, entries: u32) -> Answer
+fn entry(
+    table: &mut [u32],
+    store: &[u64],
+    s: State,
+    i: u32,
+    phase: u32,
+    entries: u32,
+) -> Result<Out, Stop>
     requires { ReadyToParse table.old store.now (unpaid s) i }
     ensures { ParsedEntry entries phase store.now table.old table.new s i result }
 {
     let n = table::get_node(table, i);
-    let tag = n.tag;
-    if tag == Node::LIST {
-        return list(table, store, s, n.content, phase, entries);
+    match n.tag {
+        Node::LIST => list(table, store, s, n.content, phase, entries),
+        Node::SYMBOL => variable(table, store, s, i, phase),
+        tag => {
+            let value = Node {
+                tag: Node::ATOM_VALUE + tag,
+                ..n
+            };
+            let m = things::make(table, s.top, value);
+            Ok(Out {
+                at: m.at,
+                state: s.raised(m.top),
+            })
+        }
     }
-    if tag == Node::SYMBOL {
-        return variable(table, store, s, i, phase);
-    }
-    let m = things::make(
-        table,
-        s.top,
-        Node {
-            tag: Node::ATOM_VALUE + tag,
-            content: n.content,
-        },
-    );
-    let state = s.raised(m.top);
-    Answer::Done(Out { at: m.at, state })
 }
 
 // The variable of an identifier's name.
-fn variable(table: &mut [u32], store: &[u64], s: State, i: u32, phase: u32) -> Answer
+fn variable(table: &mut [u32], store: &[u64], s: State, i: u32, phase: u32) -> Result<Out, Stop>
     requires { ReadyToParse table.old store.now (unpaid s) i }
     ensures { ParsedName phase store.now table.old table.new s i result }
 {
@@ -66,15 +76,24 @@ fn variable(table: &mut [u32], store: &[u64], s: State, i: u32, phase: u32) -> A
                     content: n.0,
                 },
             );
-            let state = s.raised(m.top);
-            Answer::Done(Out { at: m.at, state })
+            Ok(Out {
+                at: m.at,
+                state: s.raised(m.top),
+            })
         }
     }
 }
 
 // The list of the chain c, by its head's name.
 #[cycle(parsing)]
-fn list(table: &mut [u32], store: &[u64], s: State, c: u32, phase: u32, entries: u32) -> Answer
+fn list(
+    table: &mut [u32],
+    store: &[u64],
+    s: State,
+    c: u32,
+    phase: u32,
+    entries: u32,
+) -> Result<Out, Stop>
     requires { ReadyParts table.old store.now (unpaid s) c }
     ensures { ParsedList entries phase store.now table.old table.new s c result }
 {
@@ -100,7 +119,7 @@ fn form(
     tail: u32,
     phase: u32,
     entries: u32,
-) -> Answer
+) -> Result<Out, Stop>
     requires { ReadyForm table.old store.now (unpaid s) c tail }
     ensures { ParsedForm entries phase store.now table.old table.new s head.0 c tail result }
 {
@@ -115,17 +134,24 @@ fn form(
 
 // (lambda id body), without its head.
 #[cycle(parsing)]
-fn lambda(table: &mut [u32], store: &[u64], s: State, c: u32, phase: u32, entries: u32) -> Answer
+fn lambda(
+    table: &mut [u32],
+    store: &[u64],
+    s: State,
+    c: u32,
+    phase: u32,
+    entries: u32,
+) -> Result<Out, Stop>
     requires { ReadyParts table.old store.now (unpaid s) c }
     ensures { ParsedLambda entries phase store.now table.old table.new s c result }
 {
-    match forms::two_parts(table, c) {
-        Two::Not => s.refuse(Refusal::NoRule),
-        Two::Are(id, body) => match forms::name_of(table, store, s.bindings, id, phase) {
-            Naming::Unnamed => s.refuse(Refusal::NoRule),
-            Naming::Unclear(rivals) => s.ambiguous(rivals),
-            Naming::Named(n) => function(table, store, s, n, body, phase, entries),
-        },
+    let Some((id, body)) = forms::two_parts(table, c) else {
+        return s.refuse(Refusal::NoRule);
+    };
+    match forms::name_of(table, store, s.bindings, id, phase) {
+        Naming::Unnamed => s.refuse(Refusal::NoRule),
+        Naming::Unclear(rivals) => s.ambiguous(rivals),
+        Naming::Named(n) => function(table, store, s, n, body, phase, entries),
     }
 }
 
@@ -139,57 +165,51 @@ fn function(
     body: u32,
     phase: u32,
     entries: u32,
-) -> Answer
+) -> Result<Out, Stop>
     requires { ReadyToParse table.old store.now (unpaid s) body }
     ensures { ParsedFunction entries phase store.now table.old table.new s name.0 body result }
 {
-    match parse(table, store, s, body, phase, entries) {
-        Answer::Refused(f) => Answer::Refused(f),
-        Answer::Done(o) => {
-            let s1 = o.state;
-            let m = things::make_function(table, s1.top, name, o.at);
-            let state = s1.raised(m.top);
-            Answer::Done(Out { at: m.at, state })
-        }
-    }
+    let o = parse(table, store, s, body, phase, entries)?;
+    let m = things::make_function(table, o.state.top, name, o.at);
+    Ok(Out {
+        at: m.at,
+        state: o.state.raised(m.top),
+    })
 }
 
 // (quote d), without its head: the stripped data.
-fn quote(table: &mut [u32], s: State, c: u32) -> Answer
+fn quote(table: &mut [u32], s: State, c: u32) -> Result<Out, Stop>
     requires { ReadyChain table.old (unpaid s) c }
     ensures { ParsedQuote table.old table.new s c result }
 {
-    match forms::one_part(table, c) {
-        One::Not => s.refuse(Refusal::NoRule),
-        One::Is(i) => data(table, s, i),
-    }
+    let Some(i) = forms::one_part(table, c) else {
+        return s.refuse(Refusal::NoRule);
+    };
+    data(table, s, i)
 }
 
 // The object stripped, charged its size.
-fn data(table: &mut [u32], s: State, i: u32) -> Answer
+fn data(table: &mut [u32], s: State, i: u32) -> Result<Out, Stop>
     requires { ReadyData table.old (unpaid s) i }
     ensures { ParsedData table.old table.new s i result }
 {
-    let x = things::measure(table, i);
-    match s.charge(x.weight) {
-        Charged::Refused(f) => Answer::Refused(f),
-        Charged::Paid(t) => {
-            let m = copying::strip(table, t.top, i);
-            let state = t.raised(m.top);
-            Answer::Done(Out { at: m.at, state })
-        }
-    }
+    let t = s.charge(things::measure(table, i).weight)?;
+    let m = copying::strip(table, t.top, i);
+    Ok(Out {
+        at: m.at,
+        state: t.raised(m.top),
+    })
 }
 
 // (syntax s), without its head: the object itself.
-fn syntax_value(table: &[u32], s: State, c: u32) -> Answer
+fn syntax_value(table: &[u32], s: State, c: u32) -> Result<Out, Stop>
     requires { ReadyChain table.now (unpaid s) c }
     ensures { ParsedSyntax table.now s c result }
 {
-    match forms::one_part(table, c) {
-        One::Not => s.refuse(Refusal::NoRule),
-        One::Is(i) => Answer::Done(Out { at: i, state: s }),
-    }
+    let Some(i) = forms::one_part(table, c) else {
+        return s.refuse(Refusal::NoRule);
+    };
+    Ok(Out { at: i, state: s })
 }
 
 // The application whose head and arguments are the chain c.
@@ -201,31 +221,33 @@ fn application(
     c: u32,
     phase: u32,
     entries: u32,
-) -> Answer
+) -> Result<Out, Stop>
     requires { ReadyParts table.old store.now (unpaid s) c }
     ensures { ParsedApplication entries phase store.now table.old table.new s c result }
 {
-    match parts(table, store, s, c, phase, entries) {
-        Answer::Refused(f) => Answer::Refused(f),
-        Answer::Done(o) => {
-            let s1 = o.state;
-            let m = things::make(
-                table,
-                s1.top,
-                Node {
-                    tag: Node::APPLICATION,
-                    content: o.at,
-                },
-            );
-            let state = s1.raised(m.top);
-            Answer::Done(Out { at: m.at, state })
-        }
-    }
+    let o = parts(table, store, s, c, phase, entries)?;
+    let whole = Node {
+        tag: Node::APPLICATION,
+        content: o.at,
+    };
+    let m = things::make(table, o.state.top, whole);
+    Ok(Out {
+        at: m.at,
+        state: o.state.raised(m.top),
+    })
 }
 
-// The parts of the chain c in turn: their trees as a chain, made with the last first, and turned round.
+// The parts of the chain c in turn: their trees as a chain, made with the last first, and turned round. The table that holds the chain is
+// written meanwhile, so no iterator goes over it.
 #[cycle(parsing)]
-fn parts(table: &mut [u32], store: &[u64], s: State, c: u32, phase: u32, entries: u32) -> Answer
+fn parts(
+    table: &mut [u32],
+    store: &[u64],
+    s: State,
+    c: u32,
+    phase: u32,
+    entries: u32,
+) -> Result<Out, Stop>
     requires { ReadyParts table.old store.now s c }
     ensures { ParsedParts entries phase store.now table.old table.new s c result }
 {
@@ -234,21 +256,15 @@ fn parts(table: &mut [u32], store: &[u64], s: State, c: u32, phase: u32, entries
     let mut turned: u32 = 0;
     while from != 0 {
         let x = table::get_cell(table, from);
-        match parse(table, store, t, x.head, phase, entries) {
-            Answer::Refused(f) => return Answer::Refused(f),
-            Answer::Done(o) => {
-                let s1 = o.state;
-                let m = things::link(table, s1.top, o.at, turned);
-                t = s1.raised(m.top);
-                from = x.tail;
-                turned = m.at;
-            }
-        }
+        let o = parse(table, store, t, x.head, phase, entries)?;
+        let m = things::link(table, o.state.top, o.at, turned);
+        t = o.state.raised(m.top);
+        from = x.tail;
+        turned = m.at;
     }
     let chain = things::turn(table, t.top, turned);
-    let state = t.raised(chain.top);
-    Answer::Done(Out {
+    Ok(Out {
         at: chain.at,
-        state,
+        state: t.raised(chain.top),
     })
 }

@@ -1,4 +1,4 @@
-use Rattle.std.proofs.Common.{◌+◌, ◌-◌, ◌*◌}
+use Rattle.std.proofs.Common.{◌+◌, ◌*◌}
 use Rattle.parse.proofs.+parsing.Given as goal
 use Rattle.parse.proofs.InTurn.{Going}
 

@@ -1,9 +1,9 @@
-use Rattle.std.proofs.Common.{rules, ◌-◌}
+use Rattle.std.proofs.Common.{rules}
 use Rattle.parse.proofs.syntax_value.Goals as goal
 use Rattle.parse.proofs.Laws.{laws}
 
-pub returns-in-Not : goal.returns-in-Not
-returns-in-Not c = search (laws, rules)
+pub returns-in_default : goal.returns-in_default
+returns-in_default c = search (laws, rules)
 
-pub returns-in-Is : goal.returns-in-Is
-returns-in-Is c = search (laws, rules)
+pub returns : goal.returns
+returns c = search (laws, rules)

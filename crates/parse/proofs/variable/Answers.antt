@@ -1,4 +1,4 @@
-use Rattle.std.proofs.Common.{rules, ◌-◌}
+use Rattle.std.proofs.Common.{rules}
 use Rattle.parse.proofs.variable.Goals as goal
 use Rattle.parse.proofs.Laws.{laws}
 
