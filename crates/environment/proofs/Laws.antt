@@ -2,16 +2,15 @@
 use mathlib.Core.Path.{◌≡◌, refl, sym, ap, ◌∙◌}
 use mathlib.Core.List.{List}
 use mathlib.Core.Bool.{Bool, true, false}
-use mathlib.Core.Option.{Option, none, some}
-use Prim.Native.Nat.{ℕ, zero, suc, ◌+◌, ◌*◌, ◌^◌, ◌≤◌, ◌<◌}
+use mathlib.Core.Option.{some}
+use Prim.Native.Nat.{ℕ, zero, suc, ◌+◌, ◌≤◌, ◌<◌}
 use native.Mathlib.Omega.{arith}
 use borrow.Author.Tests.{eq-eqb, ne_eqb, eqb-true}
 use lib.ListN.{length}
 use lib.Dec.{eqb}
 use Rattle.model.specs.Choice.{when◌then◌else◌}
 use Rattle.model.specs.Refusals.{ambiguous}
-use Rattle.model.specs.Objects.{Atom, symbol, number, point, prim, rung, Sets, set_at, Stx, atom, list}
-use Rattle.model.specs.Trees.{Tree, stx}
+use Rattle.model.specs.Objects.{symbol, number, point, prim, rung, Sets, set_at, Stx, atom, list}
 use Rattle.model.specs.Competing as k
 use Rattle.model.specs.Steps.{State, ok, no}
 use Rattle.model.specs.Meanings as m
@@ -21,15 +20,11 @@ use Rattle.table.specs.Words.{get_entry, put_entry, Same}
 use Rattle.table.specs.declared.Entry.{Entry}
 use Rattle.table.proofs.Laws.{put_entry-below, get_put_entry}
 use Rattle.scopes.specs.declared.Name.{Name}
-use Rattle.store.specs.Words.{binds_of}
 use Rattle.store.specs.Rivalry as d
 use Rattle.store.specs.Rivalry.{Decision, several, rivals_of, decided}
 use Rattle.store.specs.declared.rivals.Rivals.{Rivals}
 use Rattle.store.proofs.Competing.{resolve_at-decided}
-use Rattle.things.specs.Rep.{Rep}
 use Rattle.things.specs.Making.{Roomy}
-use Rattle.things.specs.Measuring.{Seen}
-use Rattle.things.proofs.Frame.{up}
 use Rattle.things.proofs.Making.{room-add, room_fits}
 use Rattle.forms.specs.Names.{name_found, Names, formed}
 use Rattle.forms.specs.declared.Form.{Form}

@@ -1,6 +1,6 @@
 // Document 01, 'Expanding': the meanings that names have beyond the core, the last first, as a chain in the table. A form's meanings are
 // known by the index of an entry, 0 for the core alone, so that leaving a scope takes nothing.
-#![tactic(auto)]
+#![tactic(auto, using(crate::proofs::Laws::laws))]
 
 ghost use Rattle.std.specs.Prelude.{◌≡◌, ℕ, ◌*◌, ◌≤◌, length};
 ghost use Rattle.things.specs.Measuring.{Seen};
@@ -35,7 +35,7 @@ pub enum Meaning {
 }
 
 impl Meaning {
-    // The kinds of entries.
+    // The kinds of entries, which are words of the table: any word is read.
     pub const VARIABLE: u32 = 0;
 
     pub const MACRO: u32 = 1;
@@ -83,13 +83,14 @@ pub fn lookup(table: &[u32], e: u32, name: Name) -> Meaning
         return core_meaning(name);
     }
     let x = table::get_entry(table, e);
-    if x.name.0 == name.0 {
-        if x.kind == Meaning::VARIABLE {
-            return Meaning::Variable(x.at);
-        }
-        return Meaning::Macro(x.at);
+    if x.name != name {
+        return lookup(table, x.next, name);
     }
-    lookup(table, x.next, name)
+    if x.kind == Meaning::VARIABLE {
+        Meaning::Variable(x.at)
+    } else {
+        Meaning::Macro(x.at)
+    }
 }
 
 // The same with the stops z.

@@ -1,4 +1,3 @@
-use Rattle.std.proofs.Common.{◌-◌}
 use Rattle.environment.proofs.+lookup.Given as goal
 
 abbrev pub decreases-lookup : goal.decreases-lookup
