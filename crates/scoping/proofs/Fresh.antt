@@ -1,23 +1,22 @@
 -- Fresh names and scopes, binders and marks: one law for each way out.
 use mathlib.Core.Path.{◌≡◌, refl, sym, ap, ◌∙◌}
-use mathlib.Core.List.{List, [], ◌∷◌}
-use mathlib.Core.Bool.{Bool, true, false}
-use Prim.Native.Nat.{ℕ, zero, suc, ◌+◌, ◌-◌, ◌*◌, ◌^◌, ◌≤◌, ◌<◌}
+use mathlib.Core.List.{List, []}
+use mathlib.Core.Bool.{true}
+use Prim.Native.Nat.{ℕ, ◌+◌, ◌-◌, ◌*◌, ◌≤◌, ◌<◌}
 use native.Mathlib.Omega.{arith}
 use borrow.Author.Tests.{le-leb, lt-leb, lt-ltb, le-ltb, leb-true, leb-false}
 use lib.ListN.{length}
 use lib.Dec.{leb, ltb}
-use Rattle.model.specs.Choice.{when◌then◌else◌}
+use Rattle.std.specs.Prelude.{Result, Ok, Err}
 use Rattle.model.specs.Limits.{most_names, most_scopes, most_bindings}
 use Rattle.model.specs.Refusals as ref
 use Rattle.model.specs.Scopes.{add}
-use Rattle.model.specs.Objects.{size, Sets, set_at, change_at, Atom, symbol, number, point, prim, rung, tag_of, content_of, Stx, atom, list, add_scope, flip_scope, on_sets}
+use Rattle.model.specs.Objects.{size, Sets, set_at, change_at, symbol, content_of, Stx, atom, add_scope, flip_scope, on_sets}
 use Rattle.model.specs.Trees.{stx}
 use Rattle.model.specs.Resolving.{Bind}
 use Rattle.model.specs.Competing.{no_rivals}
 use Rattle.model.specs.Steps as ms
 use Rattle.model.specs.Steps.{ok, no, after, charge, fresh_name, fresh_scope, bind}
-use Rattle.model.specs.Expanding as m
 use Rattle.model.specs.Expanding.{bind_fresh}
 use Rattle.refusals.specs.declared.Refusal.TheVariants.{NoNameLeft, NoScopeLeft, NoBindingLeft}
 use Rattle.scopes.specs.Sets.{scopes_of, Declared}
@@ -28,17 +27,13 @@ use Rattle.store.specs.Words.{bind_of, binds_of, Inserts}
 use Rattle.store.specs.declared.bindings.Binding.{Binding}
 pub use Rattle.store.proofs.Runs.{binds-length}
 use Rattle.store.proofs.Carrying.{prunable-kept, uses-kept}
-use Rattle.steps.specs.States.{Store, store_of, no_store, state_of, stop_of, paid, raised_to, charge_of, Room}
-use Rattle.steps.specs.Agreement.{Later, Ended, ended, Gave, Agrees, gives, stops}
+use Rattle.steps.specs.States.{Store, store_of, no_store, state_of, stop_of, raised_to, charge_of}
+use Rattle.steps.specs.Agreement.{Later, Gave, Agrees, gives, stops}
 use Rattle.steps.specs.declared.State.{State}
 use Rattle.steps.specs.declared.Stop.{Stop}
 use Rattle.steps.specs.declared.Out.{Out}
-use Rattle.steps.specs.declared.Answer.{Answer}
-use Rattle.steps.specs.declared.Answer.TheVariants.{Done, Refused}
-use Rattle.steps.specs.declared.Charged.{Charged}
-use Rattle.steps.specs.declared.Charged.TheVariants as charged
-use Rattle.steps.proofs.Laws.{Went, charge_went, charge_failed, charge-ok, charge-no, then_ok, then_no, on_test, later_refl, later_trans, room-later, on_done, on_refused, since}
-use Rattle.table.specs.Words.{get_node, get_sets, Same}
+use Rattle.steps.proofs.Laws.{charge_went, charge_failed, charge-ok, charge-no, then_ok, then_no, on_test, later_refl, later_trans, room-later, on_done, on_refused, since}
+use Rattle.table.specs.Words.{get_node, get_sets}
 use Rattle.table.specs.declared.Node.{Node}
 use Rattle.table.specs.declared.Sets as tb
 use Rattle.things.specs.Rep.{Rep, is-atom, sets_of}
@@ -49,14 +44,10 @@ use Rattle.things.proofs.ByTag.{content-is}
 use Rattle.things.proofs.Measuring.{node-inside}
 use Rattle.copying.specs.Copying.{Copyable, Copied}
 use Rattle.parse.specs.Parsing.{unpaid}
-use Rattle.scoping.specs.Changing.{ShownObject, objects, ReadyObject, change_rule, Changes}
-use Rattle.scoping.specs.Fresh.{paid_of, Taken, take_rule, ShownTaken, taken, Takes, Keys, Few, puts, Puts, ShownPut, puts_binder, PutsBinder, ReadyBinder, ShownBinder, binders, bound_of, bind_rule, Binds, BindsFresh, Added, fresh_scope_of, Marked, marks_rule, mark_rule, ShownMark, marks, marking_of, Marks, MarksFresh}
+use Rattle.scoping.specs.Changing.{objects, ReadyObject, change_rule, Changes}
+use Rattle.scoping.specs.Fresh.{take_rule, taken, Takes, Keys, Puts, puts_binder, PutsBinder, ReadyBinder, binders, bind_rule, Binds, BindsFresh, Added, fresh_scope_of, marks_rule, mark_rule, Marks, MarksFresh}
 use Rattle.scoping.specs.declared.Binder.{Binder}
-use Rattle.scoping.specs.declared.Bound.{Bound}
-use Rattle.scoping.specs.declared.Bound.TheVariants as bounds
 use Rattle.scoping.specs.declared.Mark.{Mark}
-use Rattle.scoping.specs.declared.Marking.{Marking}
-use Rattle.scoping.specs.declared.Marking.TheVariants as marking
 use Rattle.steps.proofs.Laws.{after-after}
 use Rattle.table.specs.Sizes.{node_spare, unit_size}
 use Rattle.store.specs.Sizes.{binding_size, held_size}
@@ -86,18 +77,18 @@ after-name : State → Store → ms.State
 after-name s b = record { left = s.left; names = s.names + 1; scopes = s.scopes; binds = b.bindings s.bindings; prunable = b.prunable; uses = b.uses }
 
 module _ (s : State) where
-  pub take_no_name : {f : Stop} → 1024 ≤ s.names → f ≡ stop_of NoNameLeft s → Takes s (charged.Refused f)
+  pub take_no_name : {f : Stop} → 1024 ≤ s.names → f ≡ stop_of NoNameLeft s → Takes s (Err f)
   unfolding take_rule
   take_no_name h same = rw same (record { means = λ l b. stops _ (then_no _ (name-no (state_of s b) h)) })
 
   module _ (h : s.names < 1024) where
-    pub take_no_scope : {f : Stop} → 256 ≤ s.scopes → f ≡ stop_of NoScopeLeft s → Takes s (charged.Refused f)
+    pub take_no_scope : {f : Stop} → 256 ≤ s.scopes → f ≡ stop_of NoScopeLeft s → Takes s (Err f)
     unfolding take_rule after-name
     take_no_scope k same = rw same (record { means = λ l b. stops _ (then_ok _ (name-ok (state_of s b) h) ∙ then_no _ (scope-no (after-name s b) k)) })
 
-    pub take_by : s.scopes < 256 → s.bindings ≤ 512 → (y : Charged) → y ≡ charge_of 1 (takes s) → Takes s y
+    pub take_by : s.scopes < 256 → s.bindings ≤ 512 → (y : Result State Stop) → y ≡ charge_of 1 (takes s) → Takes s y
     unfolding take_rule after-name
-    take_by k few (charged.Paid u) f =
+    take_by k few (Ok u) f =
         let q = charge_went 1 (takes s) f refl in
         let us : u.scopes ≡ s.scopes + 1 = ap (λ (y : State). y.scopes) q.is in
         let ub : u.bindings ≡ s.bindings = ap (λ (y : State). y.bindings) q.is in
@@ -115,7 +106,7 @@ module _ (s : State) where
             later = record { kept = (later_refl l s).kept; grows = omega (arith, ut); fits = omega (arith, ut, uu, q.enough); spent = omega (arith, uu, q.enough) };
           });
         }
-    take_by k few (charged.Refused g) f =
+    take_by k few (Err g) f =
         let q = charge_failed 1 (takes s) f refl in
         record {
           means = λ l b. rw q.is (stops _ (
@@ -138,7 +129,7 @@ module _ {l : List ℕ} {i ph : ℕ} {o : Node} (e : o ≡ get_node l i) {c : tb
           λ j. record { symb = symb j; target = n.0; set = same j }
 
 module _ (st : List ℕ) (s : State) (b : Binding) where
-  pub put_full : {f : Stop} → 512 ≤ s.bindings → f ≡ stop_of NoBindingLeft s → Puts st st s b (charged.Refused f)
+  pub put_full : {f : Stop} → 512 ≤ s.bindings → f ≡ stop_of NoBindingLeft s → Puts st st s b (Err f)
   unfolding bind most_bindings
   put_full h same = rw same (record { means = λ l. stops (stop_of NoBindingLeft s) (rw (le-ltb (length (binds_of st s.bindings)) 512 (omega (arith, binds-length st s.bindings))) refl) })
 
@@ -153,7 +144,7 @@ module _ (st : List ℕ) (s : State) (b : Binding) where
     put_fits w = omega arith
 
     pub put_done : {st1 : List ℕ} → Inserts (bind_of b) s.bindings st st1
-        → Puts st st1 s b (charged.Paid (record { top = s.top; left = s.left; names = s.names; scopes = s.scopes; bindings = s.bindings + 1 }))
+        → Puts st st1 s b (Ok (record { top = s.top; left = s.left; names = s.names; scopes = s.scopes; bindings = s.bindings + 1 }))
     unfolding bind most_bindings
     put_done {st1} f =
         let t : State = record { top = s.top; left = s.left; names = s.names; scopes = s.scopes; bindings = s.bindings + 1 } in
@@ -194,7 +185,7 @@ module _ {l st : List ℕ} (s : State) {i : ℕ} (r : ReadyBinder l st (unpaid s
         let q = v.means (atom r.sets (symbol r.symb)) r.shown in
         record { top = m.top; thing = stx (add_scope d.0 ph (atom r.sets (symbol r.symb))); shown = q.shown; inside = omega (arith, q.room, r.room.fits, len); small = omega (arith, r.room.small, len) }
 
-    module _ {n : Name} {b : Binding} (k : Keys l1 m.at n.0 ph b) {t : State} (e : t ≡ raised_to m.top s) {st1 : List ℕ} {z : Bound} (p : PutsBinder n d m.at st st1 t b z) where
+    module _ {n : Name} {b : Binding} (k : Keys l1 m.at n.0 ph b) {t : State} (e : t ≡ raised_to m.top s) {st1 : List ℕ} {z : Result Binder Stop} (p : PutsBinder n d m.at st st1 t b z) where
       copied : (c : Sets) (x : ℕ) → Rep l s.top i (stx (atom c (symbol x))) → Rep l1 m.top m.at (stx (atom (change_at (add d.0) ph c) (symbol x)))
       copied c x w = rw (binder-is d.0 ph x c) at (v.means (atom c (symbol x)) w).shown
 
@@ -202,14 +193,14 @@ module _ {l st : List ℕ} (s : State) {i : ℕ} (r : ReadyBinder l st (unpaid s
       key_of c x = record { symb = x; target = n.0; set = set_at ph (change_at (add d.0) ph c) }
 
       put_as : (c : Sets) (x : ℕ) → Rep l s.top i (stx (atom c (symbol x)))
-          → Agrees (puts_binder n d m.at) 0 0 l1 l1 (raised_to m.top s) (store_of st1) (bind (key_of c x) (state_of s (store_of st))) (bound_of z)
+          → Agrees (puts_binder n d m.at) 0 0 l1 l1 (raised_to m.top s) (store_of st1) (bind (key_of c x) (state_of s (store_of st))) z
       unfolding key_of
       put_as c x w =
           let p2 : PutsBinder n d m.at st st1 (raised_to m.top s) b z = rw e at p in
           let a = p2.means l1 in
           rw (k.means m.top (change_at (add d.0) ph c) x (copied c x w)) at a
 
-      as_bound : Declared d → n.0 < 1024 → (c : Sets) (x : ℕ) → Rep l s.top i (stx (atom c (symbol x))) → {q : Ended Binder} → Agrees (puts_binder n d m.at) 0 0 l1 l1 (raised_to m.top s) (store_of st1) (bind (key_of c x) (state_of s (store_of st))) q
+      as_bound : Declared d → n.0 < 1024 → (c : Sets) (x : ℕ) → Rep l s.top i (stx (atom c (symbol x))) → {q : Result Binder Stop} → Agrees (puts_binder n d m.at) 0 0 l1 l1 (raised_to m.top s) (store_of st1) (bind (key_of c x) (state_of s (store_of st))) q
           → Agrees (binders x) 1 node_spare l l1 (unpaid s) (store_of st1) (bind_rule n.0 d.0 ph c x (state_of s (store_of st))) q
       unfolding bind_rule unpaid size key_of
       as_bound known few c x w (gives o g) =
@@ -232,15 +223,15 @@ module _ {l st : List ℕ} (s : State) {i : ℕ} (r : ReadyBinder l st (unpaid s
       pub bind_all : Declared d → n.0 < 1024 → Binds ph st st1 l l1 s n.0 d.0 i z
       bind_all known few = record { means = λ c x w. as_bound known few c x w (put_as c x w) }
 
-module _ {st st1 : List ℕ} {s : State} {b : Binding} {n : Name} {k : Scope} {at : ℕ} {y : Charged} (p : Puts st st1 s b y) where
-  pub put_binder_refused : {f : Stop} → y ≡ charged.Refused f → PutsBinder n k at st st1 s b (bounds.Refused f)
-  put_binder_refused z = record { means = λ l. stops _ (on_refused (p.means l) (ap paid_of z)) }
+module _ {st st1 : List ℕ} {s : State} {b : Binding} {n : Name} {k : Scope} {at : ℕ} {y : Result State Stop} (p : Puts st st1 s b y) where
+  pub put_binder_refused : {f : Stop} → y ≡ Err f → PutsBinder n k at st st1 s b (Err f)
+  put_binder_refused z = record { means = λ l. stops _ (on_refused (p.means l) z) }
 
-  pub put_binder_done : {u : State} → y ≡ charged.Paid u → PutsBinder n k at st st1 s b (bounds.Done (record { name = n; scope = k; at = at; state = u }))
+  pub put_binder_done : {u : State} → y ≡ Ok u → PutsBinder n k at st st1 s b (Ok (record { name = n; scope = k; at = at; state = u }))
   put_binder_done {u} z =
       record {
         means = λ l.
-            let g = on_done (p.means l) (ap paid_of z) in
+            let g = on_done (p.means l) z in
             gives (record { name = n; scope = k; at = at; state = u }) (record {
               value = tt;
               is = g.is;
@@ -255,14 +246,14 @@ bind_split : (ph : ℕ) (c : Sets) (x : ℕ) (y : ms.State) → bind_fresh ph c 
 unfolding bind_fresh take_rule bind_rule
 bind_split ph c x y = simp after-after
 
-module _ {s : State} {y : Charged} (p : Takes s y) where
-  pub fresh-refused : {ph : ℕ} {st l : List ℕ} {i : ℕ} {f : Stop} → y ≡ charged.Refused f → BindsFresh ph st st l l s i (bounds.Refused f)
+module _ {s : State} {y : Result State Stop} (p : Takes s y) where
+  pub fresh-refused : {ph : ℕ} {st l : List ℕ} {i : ℕ} {f : Stop} → y ≡ Err f → BindsFresh ph st st l l s i (Err f)
   fresh-refused {ph} {st} {l} z =
-      record { means = λ c x w. stops _ (bind_split ph c x (state_of s (store_of st)) ∙ then_no _ (on_refused (p.means l (store_of st)) (ap paid_of z))) }
+      record { means = λ c x w. stops _ (bind_split ph c x (state_of s (store_of st)) ∙ then_no _ (on_refused (p.means l (store_of st)) z)) }
 
-  module _ {t : State} (z : y ≡ charged.Paid t) where
+  module _ {t : State} (z : y ≡ Ok t) where
     took : (l : List ℕ) (b : Store) → Gave (taken s.names) 1 unit_size l l s b (take_rule (state_of s b)) t
-    took l b = on_done (p.means l b) (ap paid_of z)
+    took l b = on_done (p.means l b) z
 
     later_took : (l : List ℕ) (b : Store) → Later 0 0 l l s (unpaid t)
     unfolding unpaid
@@ -288,7 +279,7 @@ module _ {s : State} {y : Charged} (p : Takes s y) where
           held = record { few = g.shown.few; wide = r.held.wide };
         }
 
-    pub fresh_bound : {ph : ℕ} {st st1 l l1 : List ℕ} {i : ℕ} {r : Bound} → Binds ph st st1 l l1 t s.names t.scopes i r → BindsFresh ph st st1 l l1 s i r
+    pub fresh_bound : {ph : ℕ} {st st1 l l1 : List ℕ} {i : ℕ} {r : Result Binder Stop} → Binds ph st st1 l l1 t s.names t.scopes i r → BindsFresh ph st st1 l l1 s i r
     fresh_bound {ph} {st} {st1} {l} {l1} {i} {r} a =
         record {
           means = λ c x w.
@@ -300,9 +291,9 @@ module _ {s : State} {y : Charged} (p : Takes s y) where
               (a.means c x (up w g.later.grows));
         }
 
-pub bound_to : {ph : ℕ} {st st1 l l1 : List ℕ} {s : State} {i : ℕ} {z : Bound} {b : Binder} → BindsFresh ph st st1 l l1 s i z → z ≡ bounds.Done b
+pub bound_to : {ph : ℕ} {st st1 l l1 : List ℕ} {s : State} {i : ℕ} {z : Result Binder Stop} {b : Binder} → BindsFresh ph st st1 l l1 s i z → z ≡ Ok b
     → (c : Sets) (x : ℕ) → Rep l s.top i (stx (atom c (symbol x))) → Gave (binders x) 1 node_spare l l1 s (store_of st1) (bind_fresh ph c x (state_of s (store_of st))) b
-bound_to v e c x w = on_done (v.means c x w) (ap bound_of e)
+bound_to v e c x w = on_done (v.means c x w) e
 
 -- ---- marks
 
@@ -314,59 +305,59 @@ record ScopeFailed (s : State) (f : Stop) : Type 0 where
   none : 256 ≤ s.scopes
   is : f ≡ stop_of NoScopeLeft s
 
-scope_went : (s : State) {x : Charged} {t : State} → x ≡ fresh_scope_of s → x ≡ charged.Paid t → ScopeWent s t
+scope_went : (s : State) {x : Result State Stop} {t : State} → x ≡ fresh_scope_of s → x ≡ Ok t → ScopeWent s t
 unfolding fresh_scope_of
 scope_went s {x} {t} h e =
-    on_test (leb 256 s.scopes) (charged.Refused (stop_of NoScopeLeft s)) (charged.Paid (record { top = s.top; left = s.left; names = s.names; scopes = s.scopes + 1; bindings = s.bindings }))
-    (λ (y : Charged). y ≡ charged.Paid t → ScopeWent s t)
+    on_test (leb 256 s.scopes) (Err (stop_of NoScopeLeft s)) (Ok (record { top = s.top; left = s.left; names = s.names; scopes = s.scopes + 1; bindings = s.bindings }))
+    (λ (y : Result State Stop). y ≡ Ok t → ScopeWent s t)
     (λ b h'. let z : ◌≡◌ {A = ℕ} 0 1 = cc in absurd (omega arith))
     (λ b h'. let z : t ≡ record { top = s.top; left = s.left; names = s.names; scopes = s.scopes + 1; bindings = s.bindings } = cc in record { some = leb-false 256 s.scopes b; is = z })
     (sym h ∙ e)
 
-scope_failed : (s : State) {x : Charged} {f : Stop} → x ≡ fresh_scope_of s → x ≡ charged.Refused f → ScopeFailed s f
+scope_failed : (s : State) {x : Result State Stop} {f : Stop} → x ≡ fresh_scope_of s → x ≡ Err f → ScopeFailed s f
 unfolding fresh_scope_of
 scope_failed s {x} {f} h e =
-    on_test (leb 256 s.scopes) (charged.Refused (stop_of NoScopeLeft s)) (charged.Paid (record { top = s.top; left = s.left; names = s.names; scopes = s.scopes + 1; bindings = s.bindings }))
-    (λ (y : Charged). y ≡ charged.Refused f → ScopeFailed s f)
+    on_test (leb 256 s.scopes) (Err (stop_of NoScopeLeft s)) (Ok (record { top = s.top; left = s.left; names = s.names; scopes = s.scopes + 1; bindings = s.bindings }))
+    (λ (y : Result State Stop). y ≡ Err f → ScopeFailed s f)
     (λ b h'. let z : f ≡ stop_of NoScopeLeft s = cc in record { none = leb-true 256 s.scopes b; is = z })
     (λ b h'. let z : ◌≡◌ {A = ℕ} 0 1 = cc in absurd (omega arith))
     (sym h ∙ e)
 
-pub scope-none : (s : State) {f : Stop} → 256 ≤ s.scopes → f ≡ stop_of NoScopeLeft s → charged.Refused f ≡ fresh_scope_of s
+pub scope-none : (s : State) {f : Stop} → 256 ≤ s.scopes → f ≡ stop_of NoScopeLeft s → Err f ≡ fresh_scope_of s
 unfolding fresh_scope_of
 scope-none s h same = rw (same, le-leb 256 s.scopes h) refl
 
-pub scope-some : (s : State) → s.scopes < 256 → charged.Paid (record { top = s.top; left = s.left; names = s.names; scopes = s.scopes + 1; bindings = s.bindings }) ≡ fresh_scope_of s
+pub scope-some : (s : State) → s.scopes < 256 → Ok (record { top = s.top; left = s.left; names = s.names; scopes = s.scopes + 1; bindings = s.bindings }) ≡ fresh_scope_of s
 unfolding fresh_scope_of
 scope-some s h = rw (lt-leb 256 s.scopes h) refl
 
-module _ (ph u k : ℕ) {l l1 : List ℕ} {s : State} {i : ℕ} {a : Answer} (v : Changes (add_scope u ph) l l1 s i a) where
-  pub mark_use_refused : {f : Stop} → a ≡ Refused f → Marks ph u k l l1 s i (marking.Refused f)
+module _ (ph u k : ℕ) {l l1 : List ℕ} {s : State} {i : ℕ} {a : Result Out Stop} (v : Changes (add_scope u ph) l l1 s i a) where
+  pub mark_use_refused : {f : Stop} → a ≡ Err f → Marks ph u k l l1 s i (Err f)
   unfolding marks_rule
-  mark_use_refused e = record { means = λ b x w. stops _ (then_no _ (on_refused (v.means b x w) (ap ended e))) }
+  mark_use_refused e = record { means = λ b x w. stops _ (then_no _ (on_refused (v.means b x w) e)) }
 
-  module _ {o : Out} (e : a ≡ Done o) where
+  module _ {o : Out} (e : a ≡ Ok o) where
     used : (b : Store) (x : Stx) → Rep l s.top i (stx x) → Gave objects 1 node_spare l l1 s b (change_rule (add_scope u ph) x (state_of s b)) o
-    used b x w = on_done (v.means b x w) (ap ended e)
+    used b x w = on_done (v.means b x w) e
 
     pub mark_ready : ReadyObject l s i → length l1 ≡ length l → ReadyObject l1 o.state o.at
     mark_ready r len =
         let g = used no_store r.thing r.shown in
         record { thing = g.value; shown = g.shown.rep; room = room-later r.room g.later len; few = g.shown.few }
 
-    module _ {l2 : List ℕ} {d : Answer} (q : Changes (flip_scope k ph) l1 l2 o.state o.at d) where
-      pub mark_intro_refused : {f : Stop} → d ≡ Refused f → Marks ph u k l l2 s i (marking.Refused f)
+    module _ {l2 : List ℕ} {d : Result Out Stop} (q : Changes (flip_scope k ph) l1 l2 o.state o.at d) where
+      pub mark_intro_refused : {f : Stop} → d ≡ Err f → Marks ph u k l l2 s i (Err f)
       unfolding marks_rule
       mark_intro_refused z =
-          record { means = λ b x w. let g = used b x w in stops _ (then_ok _ g.is ∙ then_no _ (on_refused (q.means b g.value g.shown.rep) (ap ended z))) }
+          record { means = λ b x w. let g = used b x w in stops _ (then_ok _ g.is ∙ then_no _ (on_refused (q.means b g.value g.shown.rep) z)) }
 
-      pub mark_done : {p : Out} {m n : Scope} → Declared m → Declared n → m.0 ≡ u → n.0 ≡ k → d ≡ Done p → Marks ph u k l l2 s i (marking.Done (record { at = p.at; uses = m; intro = n; state = p.state }))
+      pub mark_done : {p : Out} {m n : Scope} → Declared m → Declared n → m.0 ≡ u → n.0 ≡ k → d ≡ Ok p → Marks ph u k l l2 s i (Ok (record { at = p.at; uses = m; intro = n; state = p.state }))
       unfolding marks_rule
       mark_done {p} {m} {n} used-known known used-same same z =
           record {
             means = λ b x w.
                 let g = used b x w in
-                let h = on_done (q.means b g.value g.shown.rep) (ap ended z) in
+                let h = on_done (q.means b g.value g.shown.rep) z in
                 gives (record { at = p.at; uses = m; intro = n; state = p.state }) (record {
                   value = record { object = h.value; uses = u; intro = k };
                   is = then_ok _ g.is ∙ then_ok _ h.is;
@@ -375,16 +366,16 @@ module _ (ph u k : ℕ) {l l1 : List ℕ} {s : State} {i : ℕ} {a : Answer} (v 
                 });
           }
 
-module _ (s : State) {x : Charged} (h : x ≡ fresh_scope_of s) where
-  pub mark_no_use : {ph : ℕ} {l : List ℕ} {i : ℕ} {f : Stop} → x ≡ charged.Refused f → MarksFresh ph l l s i (marking.Refused f)
+module _ (s : State) {x : Result State Stop} (h : x ≡ fresh_scope_of s) where
+  pub mark_no_use : {ph : ℕ} {l : List ℕ} {i : ℕ} {f : Stop} → x ≡ Err f → MarksFresh ph l l s i (Err f)
   unfolding mark_rule
   mark_no_use e = let q = scope_failed s h e in record { means = λ b y w. rw q.is (stops _ (then_no _ (scope-no (state_of s b) q.none))) }
 
-  module _ {t : State} (e : x ≡ charged.Paid t) {y : Charged} (j : y ≡ fresh_scope_of t) where
+  module _ {t : State} (e : x ≡ Ok t) {y : Result State Stop} (j : y ≡ fresh_scope_of t) where
     first : ScopeWent s t
     first = scope_went s h e
 
-    pub mark_no_intro : {ph : ℕ} {l : List ℕ} {i : ℕ} {f : Stop} → y ≡ charged.Refused f → MarksFresh ph l l s i (marking.Refused f)
+    pub mark_no_intro : {ph : ℕ} {l : List ℕ} {i : ℕ} {f : Stop} → y ≡ Err f → MarksFresh ph l l s i (Err f)
     unfolding mark_rule
     mark_no_intro z =
         let q = scope_failed t j z in
@@ -396,7 +387,7 @@ module _ (s : State) {x : Charged} (h : x ≡ fresh_scope_of s) where
               ∙ then_no _ (scope-no (record { left = s.left; names = s.names; scopes = s.scopes + 1; binds = b.bindings s.bindings; prunable = b.prunable; uses = b.uses }) (omega (arith, q.none, ts)))));
         }
 
-    module _ {u : State} (z : y ≡ charged.Paid u) where
+    module _ {u : State} (z : y ≡ Ok u) where
       second : ScopeWent t u
       second = scope_went t j z
 
@@ -415,7 +406,7 @@ module _ (s : State) {x : Charged} (h : x ≡ fresh_scope_of s) where
       pub mark_by_ready : {l : List ℕ} {i : ℕ} → ReadyObject l s i → ReadyObject l u i
       mark_by_ready r = rw (second.is, first.is) (record { thing = r.thing; shown = r.shown; room = record { fits = r.room.fits; small = r.room.small; low = r.room.low }; few = r.few })
 
-      pub mark_marked : {ph : ℕ} {l l1 : List ℕ} {i : ℕ} {r : Marking} → Marks ph t.scopes u.scopes l l1 u i r → MarksFresh ph l l1 s i r
+      pub mark_marked : {ph : ℕ} {l l1 : List ℕ} {i : ℕ} {r : Result Mark Stop} → Marks ph t.scopes u.scopes l l1 u i r → MarksFresh ph l l1 s i r
       unfolding mark_rule
       mark_marked {ph} {l} {l1} {i} {r} a =
           let ts : t.scopes ≡ s.scopes + 1 = ap (λ (y : State). y.scopes) first.is in

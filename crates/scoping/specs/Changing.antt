@@ -1,14 +1,14 @@
 -- A change of an object, charged its size.
-use Rattle.std.specs.Prelude.{List, ℕ, ◌≤◌}
+use Rattle.std.specs.Prelude.{List, ℕ, ◌≤◌, Result}
 use Rattle.store.specs.Sizes.{most_bindings}
 use Rattle.model.specs.Objects.{Stx, size}
 use Rattle.model.specs.Trees.{stx}
 use Rattle.model.specs.Steps.{Step, ◌>>◌, done, charge}
 use Rattle.steps.specs.States.{Store, state_of, Room}
-use Rattle.steps.specs.Agreement.{Shape, ended, Agrees}
+use Rattle.steps.specs.Agreement.{Shape, Agrees}
 use Rattle.steps.specs.declared.State.{State}
+use Rattle.steps.specs.declared.Stop.{Stop}
 use Rattle.steps.specs.declared.Out.{Out}
-use Rattle.steps.specs.declared.Answer.{Answer}
 use Rattle.things.specs.Rep.{Rep}
 use Rattle.table.specs.Sizes.{node_spare}
 
@@ -32,5 +32,5 @@ change_rule g x = do
   done (g x)
 
 -- a unit pays for a node and the cell in its whole, and leaves 3 words; the whole object has no cell
-pub record Changes (g : Stx → Stx) (l l' : List ℕ) (s : State) (i : ℕ) (r : Answer) : Type 0 where
-  pub means : (b : Store) (x : Stx) → Rep l s.top i (stx x) → Agrees objects 1 node_spare l l' s b (change_rule g x (state_of s b)) (ended r)
+pub record Changes (g : Stx → Stx) (l l' : List ℕ) (s : State) (i : ℕ) (r : Result Out Stop) : Type 0 where
+  pub means : (b : Store) (x : Stx) → Rep l s.top i (stx x) → Agrees objects 1 node_spare l l' s b (change_rule g x (state_of s b)) r

@@ -1,11 +1,10 @@
 -- Fresh names and scopes, binders, and the marks of a macro's use.
-use Rattle.std.specs.Prelude.{◌≡◌, List, Bool, true, false, ℕ, ◌+◌, ◌≤◌, ◌<◌, length, leb}
+use Rattle.std.specs.Prelude.{◌≡◌, List, ℕ, ◌+◌, ◌≤◌, ◌<◌, leb, Result, Ok, Err}
 use Rattle.store.specs.Sizes.{most_bindings}
 use Rattle.model.specs.Choice.{when◌then◌else◌}
 use Rattle.model.specs.Scopes.{add}
 use Rattle.model.specs.Objects.{Sets, set_at, change_at, symbol, Stx, atom, add_scope, flip_scope}
 use Rattle.model.specs.Trees.{stx}
-use Rattle.model.specs.Resolving.{Bind}
 use Rattle.model.specs.Steps.{Step, ◌>>=◌, ◌>>◌, done, charge, fresh_name, fresh_scope, bind}
 use Rattle.model.specs.Expanding as m
 use Rattle.model.specs.Expanding.{bind_fresh}
@@ -16,26 +15,16 @@ use Rattle.scopes.specs.declared.Scope.{Scope}
 use Rattle.store.specs.Words.{bind_of}
 use Rattle.store.specs.declared.bindings.Binding.{Binding}
 use Rattle.steps.specs.States.{Store, store_of, Held, state_of, stop_of, Room}
-use Rattle.steps.specs.Agreement.{Shape, Ended, done as ends, refused, Agrees}
+use Rattle.steps.specs.Agreement.{Shape, Agrees}
 use Rattle.steps.specs.declared.State.{State}
-use Rattle.steps.specs.declared.Charged.{Charged}
-use Rattle.steps.specs.declared.Charged.TheVariants as charged
+use Rattle.steps.specs.declared.Stop.{Stop}
 use Rattle.things.specs.Rep.{Rep}
 use Rattle.copying.specs.Copying.{Copied}
 use Rattle.parse.specs.Parsing.{unpaid}
 use Rattle.scoping.specs.Changing.{change_rule}
 use Rattle.scoping.specs.declared.Binder.{Binder}
-use Rattle.scoping.specs.declared.Bound.{Bound}
-use Rattle.scoping.specs.declared.Bound.TheVariants as bound
 use Rattle.scoping.specs.declared.Mark.{Mark}
-use Rattle.scoping.specs.declared.Marking.{Marking}
-use Rattle.scoping.specs.declared.Marking.TheVariants as marking
 use Rattle.table.specs.Sizes.{node_spare, unit_size}
-
--- an answer that is a state alone
-abbrev pub paid_of : Charged → Ended State
-paid_of (charged.Paid s) = ends s
-paid_of (charged.Refused f) = refused f
 
 -- ---- the next name and scope
 
@@ -63,8 +52,8 @@ pub record ShownTaken (o : State) (k : Taken) (next : ℕ) : Type 0 where
 abbrev pub taken : ℕ → Shape Taken State
 taken next = record { shows = λ l o k. ShownTaken o k next; state = λ o. o }
 
-pub record Takes (s : State) (r : Charged) : Type 0 where
-  pub means : (l : List ℕ) (b : Store) → Agrees (taken s.names) 1 unit_size l l s b (take_rule (state_of s b)) (paid_of r)
+pub record Takes (s : State) (r : Result State Stop) : Type 0 where
+  pub means : (l : List ℕ) (b : Store) → Agrees (taken s.names) 1 unit_size l l s b (take_rule (state_of s b)) r
 
 -- ---- a binding put into the store
 
@@ -77,8 +66,8 @@ pub record Few (o : State) : Type 0 where
 abbrev pub puts : Shape (Unit {0}) State
 puts = record { shows = λ l o k. Few o; state = λ o. o }
 
-pub record Puts (st st' : List ℕ) (s : State) (b : Binding) (r : Charged) : Type 0 where
-  pub means : (l : List ℕ) → Agrees puts 0 0 l l s (store_of st') (bind (bind_of b) (state_of s (store_of st))) (paid_of r)
+pub record Puts (st st' : List ℕ) (s : State) (b : Binding) (r : Result State Stop) : Type 0 where
+  pub means : (l : List ℕ) → Agrees puts 0 0 l l s (store_of st') (bind (bind_of b) (state_of s (store_of st))) r
 
 -- with the binder that it is for
 pub record ShownPut (n : Name) (k : Scope) (at : ℕ) (o : Binder) : Type 0 where
@@ -90,12 +79,8 @@ pub record ShownPut (n : Name) (k : Scope) (at : ℕ) (o : Binder) : Type 0 wher
 abbrev pub puts_binder : Name → Scope → ℕ → Shape (Unit {0}) Binder
 puts_binder n k at = record { shows = λ l o w. ShownPut n k at o; state = λ o. o.state }
 
-abbrev pub bound_of : Bound → Ended Binder
-bound_of (bound.Done o) = ends o
-bound_of (bound.Refused f) = refused f
-
-pub record PutsBinder (n : Name) (k : Scope) (at : ℕ) (st st' : List ℕ) (s : State) (b : Binding) (r : Bound) : Type 0 where
-  pub means : (l : List ℕ) → Agrees (puts_binder n k at) 0 0 l l s (store_of st') (bind (bind_of b) (state_of s (store_of st))) (bound_of r)
+pub record PutsBinder (n : Name) (k : Scope) (at : ℕ) (st st' : List ℕ) (s : State) (b : Binding) (r : Result Binder Stop) : Type 0 where
+  pub means : (l : List ℕ) → Agrees (puts_binder n k at) 0 0 l l s (store_of st') (bind (bind_of b) (state_of s (store_of st))) r
 
 -- ---- a binder
 
@@ -129,21 +114,21 @@ pub record Added (ph k : ℕ) (l l' : List ℕ) (top i at top' : ℕ) : Type 0 w
   pub copied : Copied (λ x. stx (add_scope k ph x)) l l' top i at top'
 
 -- the unit charged before pays for the binder
-pub record Binds (ph : ℕ) (st st' l l' : List ℕ) (s : State) (name scope i : ℕ) (r : Bound) : Type 0 where
+pub record Binds (ph : ℕ) (st st' l l' : List ℕ) (s : State) (name scope i : ℕ) (r : Result Binder Stop) : Type 0 where
   pub means : (c : Sets) (x : ℕ) → Rep l s.top i (stx (atom c (symbol x)))
-      → Agrees (binders x) 1 node_spare l l' (unpaid s) (store_of st') (bind_rule name scope ph c x (state_of s (store_of st))) (bound_of r)
+      → Agrees (binders x) 1 node_spare l l' (unpaid s) (store_of st') (bind_rule name scope ph c x (state_of s (store_of st))) r
 
-pub record BindsFresh (ph : ℕ) (st st' l l' : List ℕ) (s : State) (i : ℕ) (r : Bound) : Type 0 where
+pub record BindsFresh (ph : ℕ) (st st' l l' : List ℕ) (s : State) (i : ℕ) (r : Result Binder Stop) : Type 0 where
   pub means : (c : Sets) (x : ℕ) → Rep l s.top i (stx (atom c (symbol x)))
-      → Agrees (binders x) 1 node_spare l l' s (store_of st') (bind_fresh ph c x (state_of s (store_of st))) (bound_of r)
+      → Agrees (binders x) 1 node_spare l l' s (store_of st') (bind_fresh ph c x (state_of s (store_of st))) r
 
 -- ---- the marks of a macro's use
 
-unfoldable pub fresh_scope_of : State → Charged
+unfoldable pub fresh_scope_of : State → Result State Stop
 fresh_scope_of s =
     when leb set_scopes s.scopes
-    then charged.Refused (stop_of NoScopeLeft s)
-    else charged.Paid (record { top = s.top; left = s.left; names = s.names; scopes = s.scopes + 1; bindings = s.bindings })
+    then Err (stop_of NoScopeLeft s)
+    else Ok (record { top = s.top; left = s.left; names = s.names; scopes = s.scopes + 1; bindings = s.bindings })
 
 pub record Marked : Type 0 where
   pub object : Stx
@@ -175,12 +160,8 @@ pub record ShownMark (l : List ℕ) (o : Mark) (k : Marked) : Type 0 where
 abbrev pub marks : Shape Marked Mark
 marks = record { shows = λ l o k. ShownMark l o k; state = λ o. o.state }
 
-abbrev pub marking_of : Marking → Ended Mark
-marking_of (marking.Done o) = ends o
-marking_of (marking.Refused f) = refused f
+pub record Marks (ph u k : ℕ) (l l' : List ℕ) (s : State) (i : ℕ) (r : Result Mark Stop) : Type 0 where
+  pub means : (b : Store) (x : Stx) → Rep l s.top i (stx x) → Agrees marks 1 node_spare l l' s b (marks_rule ph u k x (state_of s b)) r
 
-pub record Marks (ph u k : ℕ) (l l' : List ℕ) (s : State) (i : ℕ) (r : Marking) : Type 0 where
-  pub means : (b : Store) (x : Stx) → Rep l s.top i (stx x) → Agrees marks 1 node_spare l l' s b (marks_rule ph u k x (state_of s b)) (marking_of r)
-
-pub record MarksFresh (ph : ℕ) (l l' : List ℕ) (s : State) (i : ℕ) (r : Marking) : Type 0 where
-  pub means : (b : Store) (x : Stx) → Rep l s.top i (stx x) → Agrees marks 1 node_spare l l' s b (mark_rule ph x (state_of s b)) (marking_of r)
+pub record MarksFresh (ph : ℕ) (l l' : List ℕ) (s : State) (i : ℕ) (r : Result Mark Stop) : Type 0 where
+  pub means : (b : Store) (x : Stx) → Rep l s.top i (stx x) → Agrees marks 1 node_spare l l' s b (mark_rule ph x (state_of s b)) r

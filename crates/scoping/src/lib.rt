@@ -14,57 +14,55 @@ ghost use Rattle.store.specs.Sizes.{held_size, most_bindings};
 
 use refusals::Refusal;
 use scopes::{Name, Scope, ScopeSet, Symbol};
-use steps::{Answer, Charged, Out, State, Stop};
+use steps::{Out, State, Stop};
 use store::bindings;
 use store::bindings::Binding;
 use store::resolving::Resolving;
 use things::Made;
 
-// ---- changes of scopes, charged the object's size
+// ---- changes of scopes, charged the object's size. One function with the change as a closure is no plainer: each is the one call between
+// the charge and the answer.
 
-pub fn add_to(table: &mut [u32], s: State, i: u32, phase: u32, k: Scope) -> Answer
+pub fn add_to(table: &mut [u32], s: State, i: u32, phase: u32, k: Scope) -> Result<Out, Stop>
     requires { ReadyObject table.old s i × Declared k }
     ensures { Changes (add_scope k.0 phase) table.old table.new s i result }
 {
-    let x = things::measure(table, i);
-    match s.charge(x.weight) {
-        Charged::Refused(f) => Answer::Refused(f),
-        Charged::Paid(t) => {
-            let m = copying::add_scope(table, t.top, i, phase, k);
-            let state = t.raised(m.top);
-            Answer::Done(Out { at: m.at, state })
-        }
-    }
+    let t = s.charge(things::measure(table, i).weight)?;
+    let m = copying::add_scope(table, t.top, i, phase, k);
+    Ok(Out {
+        at: m.at,
+        state: t.raised(m.top),
+    })
 }
 
-pub fn flip_in(table: &mut [u32], s: State, i: u32, phase: u32, k: Scope) -> Answer
+pub fn flip_in(table: &mut [u32], s: State, i: u32, phase: u32, k: Scope) -> Result<Out, Stop>
     requires { ReadyObject table.old s i × Declared k }
     ensures { Changes (flip_scope k.0 phase) table.old table.new s i result }
 {
-    let x = things::measure(table, i);
-    match s.charge(x.weight) {
-        Charged::Refused(f) => Answer::Refused(f),
-        Charged::Paid(t) => {
-            let m = copying::flip_scope(table, t.top, i, phase, k);
-            let state = t.raised(m.top);
-            Answer::Done(Out { at: m.at, state })
-        }
-    }
+    let t = s.charge(things::measure(table, i).weight)?;
+    let m = copying::flip_scope(table, t.top, i, phase, k);
+    Ok(Out {
+        at: m.at,
+        state: t.raised(m.top),
+    })
 }
 
-pub fn prune_from(table: &mut [u32], s: State, i: u32, phase: u32, prunable: ScopeSet) -> Answer
+pub fn prune_from(
+    table: &mut [u32],
+    s: State,
+    i: u32,
+    phase: u32,
+    prunable: ScopeSet,
+) -> Result<Out, Stop>
     requires { ReadyObject table.old s i }
     ensures { Changes (prune_scopes (scopes_of prunable) phase) table.old table.new s i result }
 {
-    let x = things::measure(table, i);
-    match s.charge(x.weight) {
-        Charged::Refused(f) => Answer::Refused(f),
-        Charged::Paid(t) => {
-            let m = copying::prune_scopes(table, t.top, i, phase, prunable);
-            let state = t.raised(m.top);
-            Answer::Done(Out { at: m.at, state })
-        }
-    }
+    let t = s.charge(things::measure(table, i).weight)?;
+    let m = copying::prune_scopes(table, t.top, i, phase, prunable);
+    Ok(Out {
+        at: m.at,
+        state: t.raised(m.top),
+    })
 }
 
 // ---- a binder
@@ -78,28 +76,22 @@ pub struct Binder {
     pub state: State,
 }
 
-#[derive(Clone, Copy)]
-pub enum Bound {
-    Done(Binder),
-    Refused(Stop),
-}
-
 // The next name and the next scope, and the charge for the binder: the state's last name and scope are then those.
-fn take(s: State) -> Charged
+fn take(s: State) -> Result<State, Stop>
     requires { s.bindings ≤ most_bindings }
     ensures { Takes s result }
 {
-    let n = s.names;
-    let k = s.scopes;
-    if Name::MOST <= n {
-        return Charged::Refused(s.stop(Refusal::NoNameLeft));
+    if Name::MOST <= s.names {
+        return Err(s.stop(Refusal::NoNameLeft));
     }
-    if Scope::MOST <= k {
-        return Charged::Refused(s.stop(Refusal::NoScopeLeft));
+    if Scope::MOST <= s.scopes {
+        return Err(s.stop(Refusal::NoScopeLeft));
     }
-    let mut t = s;
-    t.names = n + 1;
-    t.scopes = k + 1;
+    let t = State {
+        names: s.names + 1,
+        scopes: s.scopes + 1,
+        ..s
+    };
     t.charge(1)
 }
 
@@ -109,45 +101,47 @@ fn key(table: &[u32], i: u32, name: Name, phase: u32) -> Binding
     ensures { Keys table.now i name.0 phase result }
 {
     let n = table::get_node(table, i);
-    let sets = table::get_sets(table, i);
-    let set = forms::set_at(sets, phase);
-    let symbol = Symbol(n.content);
+    let set = forms::set_at(table::get_sets(table, i), phase);
     Binding {
-        symbol,
+        symbol: Symbol(n.content),
         target: name,
         set,
     }
 }
 
-fn put(store: &mut [u64], s: State, b: Binding) -> Charged
+fn put(store: &mut [u64], s: State, b: Binding) -> Result<State, Stop>
     requires { (s.bindings ≤ most_bindings) × (held_size ≤ length store.old) }
     ensures { Puts store.old store.new s b result }
 {
-    let n = s.bindings;
-    if Resolving::MOST as u32 <= n {
-        return Charged::Refused(s.stop(Refusal::NoBindingLeft));
+    if Resolving::MOST as u32 <= s.bindings {
+        return Err(s.stop(Refusal::NoBindingLeft));
     }
-    let count = n as usize;
-    bindings::insert(store, count, b);
-    let mut t = s;
-    t.bindings = n + 1;
-    Charged::Paid(t)
+    bindings::insert(store, s.bindings as usize, b);
+    Ok(State {
+        bindings: s.bindings + 1,
+        ..s
+    })
 }
 
 // The same with the binder, which lies at the index.
-fn put_binder(store: &mut [u64], s: State, b: Binding, name: Name, scope: Scope, at: u32) -> Bound
+fn put_binder(
+    store: &mut [u64],
+    s: State,
+    b: Binding,
+    name: Name,
+    scope: Scope,
+    at: u32,
+) -> Result<Binder, Stop>
     requires { (s.bindings ≤ most_bindings) × (held_size ≤ length store.old) }
     ensures { PutsBinder name scope at store.old store.new s b result }
 {
-    match put(store, s, b) {
-        Charged::Refused(f) => Bound::Refused(f),
-        Charged::Paid(u) => Bound::Done(Binder {
-            name,
-            scope,
-            at,
-            state: u,
-        }),
-    }
+    let state = put(store, s, b)?;
+    Ok(Binder {
+        name,
+        scope,
+        at,
+        state,
+    })
 }
 
 fn with_scope(table: &mut [u32], top: u32, i: u32, phase: u32, k: Scope) -> Made
@@ -166,7 +160,7 @@ fn bind(
     scope: Scope,
     id: u32,
     phase: u32,
-) -> Bound
+) -> Result<Binder, Stop>
     requires { ReadyBinder table.old store.old (unpaid s) id × Declared scope × (name.0 < 1024) }
     ensures { Binds phase store.old store.new table.old table.new s name.0 scope.0 id result }
 {
@@ -176,15 +170,19 @@ fn bind(
     put_binder(store, t, b, name, scope, m.at)
 }
 
-pub fn bind_fresh(table: &mut [u32], store: &mut [u64], s: State, id: u32, phase: u32) -> Bound
+pub fn bind_fresh(
+    table: &mut [u32],
+    store: &mut [u64],
+    s: State,
+    id: u32,
+    phase: u32,
+) -> Result<Binder, Stop>
     requires { ReadyBinder table.old store.old s id }
     ensures { BindsFresh phase store.old store.new table.old table.new s id result }
 {
     let name = Name(s.names);
-    match take(s) {
-        Charged::Refused(f) => Bound::Refused(f),
-        Charged::Paid(t) => bind(table, store, t, name, Scope(t.scopes), id, phase),
-    }
+    let t = take(s)?;
+    bind(table, store, t, name, Scope(t.scopes), id, phase)
 }
 
 // ---- a macro's use
@@ -199,58 +197,45 @@ pub struct Mark {
     pub state: State,
 }
 
-#[derive(Clone, Copy)]
-pub enum Marking {
-    Done(Mark),
-    Refused(Stop),
-}
-
-fn fresh_scope(s: State) -> Charged
+fn fresh_scope(s: State) -> Result<State, Stop>
     ensures { result ≡ fresh_scope_of s }
 {
-    let k = s.scopes;
-    if Scope::MOST <= k {
-        return Charged::Refused(s.stop(Refusal::NoScopeLeft));
+    if Scope::MOST <= s.scopes {
+        return Err(s.stop(Refusal::NoScopeLeft));
     }
-    let mut t = s;
-    t.scopes = k + 1;
-    Charged::Paid(t)
+    Ok(State {
+        scopes: s.scopes + 1,
+        ..s
+    })
 }
 
 // With the scopes that were taken.
-fn mark_by(table: &mut [u32], s: State, form: u32, phase: u32, uses: Scope, intro: Scope) -> Marking
+fn mark_by(
+    table: &mut [u32],
+    s: State,
+    form: u32,
+    phase: u32,
+    uses: Scope,
+    intro: Scope,
+) -> Result<Mark, Stop>
     requires { ReadyObject table.old s form × Declared uses × Declared intro }
     ensures { Marks phase uses.0 intro.0 table.old table.new s form result }
 {
-    match add_to(table, s, form, phase, uses) {
-        Answer::Refused(f) => Marking::Refused(f),
-        Answer::Done(o) => {
-            let s1 = o.state;
-            match flip_in(table, s1, o.at, phase, intro) {
-                Answer::Refused(f) => Marking::Refused(f),
-                Answer::Done(p) => {
-                    let state = p.state;
-                    Marking::Done(Mark {
-                        at: p.at,
-                        uses,
-                        intro,
-                        state,
-                    })
-                }
-            }
-        }
-    }
+    let o = add_to(table, s, form, phase, uses)?;
+    let p = flip_in(table, o.state, o.at, phase, intro)?;
+    Ok(Mark {
+        at: p.at,
+        uses,
+        intro,
+        state: p.state,
+    })
 }
 
-pub fn mark_form(table: &mut [u32], s: State, form: u32, phase: u32) -> Marking
+pub fn mark_form(table: &mut [u32], s: State, form: u32, phase: u32) -> Result<Mark, Stop>
     requires { ReadyObject table.old s form }
     ensures { MarksFresh phase table.old table.new s form result }
 {
-    match fresh_scope(s) {
-        Charged::Refused(f) => Marking::Refused(f),
-        Charged::Paid(t) => match fresh_scope(t) {
-            Charged::Refused(f) => Marking::Refused(f),
-            Charged::Paid(u) => { mark_by(table, u, form, phase, Scope(t.scopes), Scope(u.scopes)) }
-        },
-    }
+    let t = fresh_scope(s)?;
+    let u = fresh_scope(t)?;
+    mark_by(table, u, form, phase, Scope(t.scopes), Scope(u.scopes))
 }

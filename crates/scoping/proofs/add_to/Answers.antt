@@ -1,21 +1,16 @@
-use Rattle.scoping.proofs.Changing.{laws}
-use Rattle.std.proofs.Common.{rules}
+use Rattle.std.proofs.Common.{rules, refl}
+use Rattle.refusals.proofs.Handing.{handed_on}
 use Rattle.scoping.proofs.add_to.Goals as goal
+use Rattle.scoping.proofs.Changing.{laws, change-short}
 
-pub measure-x-requires : goal.measure-x-requires
-measure-x-requires c = search (laws, rules)
+pub measure-requires : goal.measure-requires
+measure-requires c = search (laws, rules)
 
-pub charge-requires : goal.charge-requires
-charge-requires c = search (laws, rules)
+pub returns-in_err-t : goal.returns-in_err-t
+returns-in_err-t c = rw (handed_on c.from_residual.ensures.1 refl) (change-short c.measure.ensures c.charge.ensures c.requires.0 c.in_err-t.was)
 
 pub add_scope-m-requires : goal.add_scope-m-requires
-add_scope-m-requires c = search (laws, rules)
+add_scope-m-requires c = search (laws, rules, c.in_ok-t.was)
 
-pub raised-state-requires : goal.raised-state-requires
-raised-state-requires c = search (laws, rules)
-
-pub returns-in-Refused : goal.returns-in-Refused
-returns-in-Refused c = search (laws, rules)
-
-pub returns-in-Paid : goal.returns-in-Paid
-returns-in-Paid c = search (laws, rules)
+pub returns : goal.returns
+returns c = search (laws, rules, c.in_ok-t.was)

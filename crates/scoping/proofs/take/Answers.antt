@@ -1,27 +1,12 @@
-use Rattle.scoping.proofs.Fresh.{laws}
 use Rattle.std.proofs.Common.{rules}
 use Rattle.scoping.proofs.take.Goals as goal
+use Rattle.scoping.proofs.Fresh.{laws}
 
-pub stop-requires : goal.stop-requires
-stop-requires c = search (laws, rules)
+pub returns-then-s-ge-MOST : goal.returns-then-s-ge-MOST
+returns-then-s-ge-MOST c = search (laws, rules)
 
-pub returns-then-n-ge-MOST : goal.returns-then-n-ge-MOST
-returns-then-n-ge-MOST c = search (laws, rules)
-
-pub stop-requires-then-k-ge-MOST : goal.stop-requires-then-k-ge-MOST
-stop-requires-then-k-ge-MOST c = search (laws, rules)
-
-pub returns-then-k-ge-MOST : goal.returns-then-k-ge-MOST
-returns-then-k-ge-MOST c = search (laws, rules)
-
-pub overflow_add-t : goal.overflow_add-t
-overflow_add-t c = search (laws, rules)
-
-pub overflow_add-t-2 : goal.overflow_add-t-2
-overflow_add-t-2 c = search (laws, rules)
-
-pub charge-requires : goal.charge-requires
-charge-requires c = search (laws, rules)
+pub returns-then-s-ge-MOST-2 : goal.returns-then-s-ge-MOST-2
+returns-then-s-ge-MOST-2 c = search (laws, rules)
 
 pub returns : goal.returns
 returns c = search (laws, rules)
