@@ -1,8 +1,8 @@
 -- The test for code 28.
-use mathlib.Core.Path.{◌≡◌, refl, sym, ap, ◌∙◌}
+use mathlib.Core.Path.{◌≡◌, refl, sym, ◌∙◌}
 use mathlib.Core.List.{List}
 use mathlib.Core.Bool.{Bool, true, false, not}
-use Prim.Native.Nat.{ℕ, ◌≤◌}
+use Prim.Native.Nat.{ℕ}
 use native.Mathlib.Omega.{arith}
 use Rattle.model.specs.Objects as o
 use Rattle.model.specs.Objects.{tag_of, content_of}
@@ -13,8 +13,7 @@ use Rattle.table.specs.Tags.{primitive_value_tag}
 use Rattle.table.specs.Words.{get_node}
 use Rattle.table.specs.declared.Node.{Node}
 use Rattle.things.specs.Rep.{Rep, is-var, is-app, is-fun, is-lst, is-datum, is-atom, is-list}
-use Rattle.things.specs.Measuring.{Seen}
-use Rattle.things.proofs.ByTag.{tag-low, tag_is, content-is}
+use Rattle.things.proofs.ByTag.{tag_is}
 use Rattle.things.proofs.Measuring.{node-inside}
 use Rattle.environment.specs.declared.Place.{Place}
 use Rattle.environment.specs.Places.{RepPlace, is-nowhere, is_use_lem}

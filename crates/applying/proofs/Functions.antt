@@ -1,16 +1,14 @@
 -- substituted: the charge, the substitution, and the test of its nesting.
 use mathlib.Core.Path.{◌≡◌, ap, ◌∙◌}
 use mathlib.Core.List.{List}
-use Prim.Native.Nat.{ℕ, ◌+◌, ◌-◌, ◌*◌, ◌≤◌, ◌<◌, min}
+use Prim.Native.Nat.{ℕ, ◌-◌, ◌≤◌, ◌<◌, min}
 use native.Mathlib.Omega.{arith}
 use lib.ListN.{length}
+use Rattle.std.specs.Prelude.{Result, Ok, Err}
 use Rattle.refusals.specs.declared.Refusal.TheVariants.{TooDeep}
 use Rattle.steps.specs.declared.State.{State}
+use Rattle.steps.specs.declared.Out.{Out}
 use Rattle.steps.specs.declared.Stop.{Stop}
-use Rattle.steps.specs.declared.Answer.{Answer}
-use Rattle.steps.specs.declared.Answer.TheVariants.{Done, Refused}
-use Rattle.steps.specs.declared.Charged.{Charged}
-use Rattle.steps.specs.declared.Charged.TheVariants as charged
 use Rattle.steps.specs.States.{state_of, stop_of, paid, raised_to, charge_of, Room}
 use Rattle.steps.specs.Agreement.{Later, gives, stops}
 use borrow.Author.Tests.{le-leb, lt-leb}
@@ -30,8 +28,8 @@ use Rattle.steps.proofs.Laws.{Went, charge_went, charge_failed, charge-ok, charg
 use Rattle.store.specs.Sizes.{most_bindings}
 use Rattle.applying.specs.Doing.{ReadyFunction, substituted_rule, Substitutes}
 
-pub function_stops : {l : List ℕ} {s : State} {n x : ℕ} {body : Body} {g : Charged} {e : Stop} → g ≡ charge_of body.size s → g ≡ charged.Refused e
-    → Substitutes l l s n body x (Refused e)
+pub function_stops : {l : List ℕ} {s : State} {n x : ℕ} {body : Body} {g : Result State Stop} {e : Stop} → g ≡ charge_of body.size s → g ≡ Err e
+    → Substitutes l l s n body x (Err e)
 unfolding substituted_rule
 function_stops {s = s} {body = body} {e = e} h k =
     let q = charge_failed body.size s h k in
@@ -41,7 +39,7 @@ function_stops {s = s} {body = body} {e = e} h k =
 few : {l : List ℕ} {s : State} → Room l s → s.left < 4097
 few r = omega (arith, r.fits, r.small)
 
-module _ {l : List ℕ} {s u : State} {x : ℕ} {body : Body} {g : Charged} (r : ReadyFunction l s body x) (h : g ≡ charge_of body.size s) (e : g ≡ charged.Paid u) where
+module _ {l : List ℕ} {s u : State} {x : ℕ} {body : Body} {g : Result State Stop} (r : ReadyFunction l s body x) (h : g ≡ charge_of body.size s) (e : g ≡ Ok u) where
   went : Went body.size s u
   went = charge_went body.size s h e
 
@@ -87,7 +85,7 @@ module _ {l : List ℕ} {s u : State} {x : ℕ} {body : Body} {g : Charged} (r :
         }
 
     module _ {ex : Extent} (w : Measured l1 at ex) where
-      pub function_deep : {a : Answer} → 64 < ex.nesting → a ≡ Refused (stop_of TooDeep u) → Substitutes l l1 s n body x a
+      pub function_deep : {a : Result Out Stop} → 64 < ex.nesting → a ≡ Err (stop_of TooDeep u) → Substitutes l l1 s n body x a
       unfolding substituted_rule made_tree most_nesting
       function_deep k same =
           rw same
@@ -102,7 +100,7 @@ module _ {l : List ℕ} {s u : State} {x : ℕ} {body : Body} {g : Charged} (r :
                 ∙ ap (λ (j : ℕ). no too_deep no_rivals j) (omega (arith, went.enough, low, z, left_is)));
           })
 
-      pub function_done : {z : State} → ex.nesting ≤ 64 → z ≡ raised_to top1 u → Substitutes l l1 s n body x (Done (record { at = at; state = z }))
+      pub function_done : {z : State} → ex.nesting ≤ 64 → z ≡ raised_to top1 u → Substitutes l l1 s n body x (Ok (record { at = at; state = z }))
       unfolding substituted_rule made_tree most_nesting
       function_done flat same =
           let low = few r.room in

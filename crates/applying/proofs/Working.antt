@@ -4,13 +4,12 @@ use mathlib.Core.List.{List}
 use Prim.Native.Nat.{ℕ, ◌+◌, ◌-◌, ◌≤◌, ◌<◌}
 use native.Mathlib.Omega.{arith}
 use lib.ListN.{length}
+use Rattle.std.specs.Prelude.{Result, Ok, Err, Some, None}
 use Rattle.refusals.specs.declared.Refusal.TheVariants.{WrongArgument, TooDeep}
+use Rattle.std.specs.Prelude as std
 use Rattle.steps.specs.declared.State.{State}
+use Rattle.steps.specs.declared.Out.{Out}
 use Rattle.steps.specs.declared.Stop.{Stop}
-use Rattle.steps.specs.declared.Answer.{Answer}
-use Rattle.steps.specs.declared.Answer.TheVariants.{Done, Refused}
-use Rattle.steps.specs.declared.Charged.{Charged}
-use Rattle.steps.specs.declared.Charged.TheVariants as charged
 use Rattle.steps.specs.States.{state_of, stop_of, paid, raised_to, charge_of}
 use Rattle.steps.specs.Agreement.{gives, stops}
 use mathlib.Core.Option.{Option, none, some}
@@ -21,15 +20,13 @@ use Rattle.model.specs.Competing.{no_rivals}
 use Rattle.model.specs.Steps as m
 use Rattle.model.specs.Steps.{ok, no, made_tree}
 use Rattle.model.specs.Trees.{Tree, tcount, tnesting}
-use Rattle.model.specs.Evaluating.{primitive_of, takes, wants_use, or_wrong_kind, apply_primitive}
+use Rattle.model.specs.Evaluating.{primitive_of, or_wrong_kind, apply_primitive}
 use Rattle.table.specs.Words.{Same}
 use Rattle.things.specs.Rep.{Rep}
 use Rattle.things.specs.Measuring.{Seen, Measured}
 use Rattle.things.specs.declared.Extent.{Extent}
 use Rattle.things.specs.declared.Made.{Made}
 use Rattle.primitives.specs.Working.{ReadyAll, Pieced, wrong, piece, Works}
-use Rattle.primitives.specs.declared.Part.{Part}
-use Rattle.primitives.specs.declared.Part.TheVariants.{Wrong, Piece}
 use Rattle.primitives.proofs.Choosing.{taken-plain}
 use Rattle.steps.proofs.Laws.{Went, charge_went, charge_failed, charge-ok, charge-no, then_ok, then_no, unless-ok, unless-no}
 use Rattle.applying.specs.Doing.{ReadyPrimitive, DoesPrimitive}
@@ -44,25 +41,25 @@ record PieceAt (l l1 : List ℕ) (top : ℕ) (q : Option Tree) (m : Made) : Type
   grows : top ≤ m.top
   fits : m.top ≤ top + unit_size
 
-on_piece : {l l1 : List ℕ} {top : ℕ} {q : Option Tree} {r : Part} {m : Made} → Pieced l l1 top q r → r ≡ Piece m → PieceAt l l1 top q m
+on_piece : {l l1 : List ℕ} {top : ℕ} {q : Option Tree} {r : std.Option Made} {m : Made} → Pieced l l1 top q r → r ≡ Some m → PieceAt l l1 top q m
 on_piece (wrong a) e = let z : ◌≡◌ {A = ℕ} 0 1 = cc in absurd (omega arith)
 on_piece {l} {l1} {top} {q} {r} {m} (piece n v i s k g f) e =
     let z : n ≡ m = cc in
     let a : PieceAt l l1 top q n = record { value = v; is = i; shown = s; kept = k; grows = g; fits = f } in
     rw z at a
 
-on_wrong : {l l1 : List ℕ} {top : ℕ} {q : Option Tree} {r : Part} → Pieced l l1 top q r → r ≡ Wrong → q ≡ none
+on_wrong : {l l1 : List ℕ} {top : ℕ} {q : Option Tree} {r : std.Option Made} → Pieced l l1 top q r → r ≡ None → q ≡ none
 on_wrong (wrong a) e = a
 on_wrong (piece n v i s k g f) e = let z : ◌≡◌ {A = ℕ} 0 1 = cc in absurd (omega arith)
 
-pub primitive-stops : {l : List ℕ} {s : State} {p x y z : ℕ} {g : Charged} {e : Stop} → g ≡ charge_of 1 s → g ≡ charged.Refused e → DoesPrimitive l l s p x y z (Refused e)
+pub primitive-stops : {l : List ℕ} {s : State} {p x y z : ℕ} {g : Result State Stop} {e : Stop} → g ≡ charge_of 1 s → g ≡ Err e → DoesPrimitive l l s p x y z (Err e)
 unfolding apply_primitive
 primitive-stops {s = s} {p = p} {e = e} h k =
     let q = charge_failed 1 s h k in record {
       means = λ b other place ts a c lo. let o = taken-plain (primitive_of p) (tcount ts) c lo in rw o.is (stops e (rw q.is (then_no _ (charge-no 1 s b q.short))));
     }
 
-module _ {l : List ℕ} {s u : State} {p x y z : ℕ} {g : Charged} (r : ReadyPrimitive l s p x y z) (h : g ≡ charge_of 1 s) (e : g ≡ charged.Paid u) where
+module _ {l : List ℕ} {s u : State} {p x y z : ℕ} {g : Result State Stop} (r : ReadyPrimitive l s p x y z) (h : g ≡ charge_of 1 s) (e : g ≡ Ok u) where
   went : Went 1 s u
   went = charge_went 1 s h e
 
@@ -84,11 +81,11 @@ module _ {l : List ℕ} {s u : State} {p x y z : ℕ} {g : Charged} (r : ReadyPr
         room = record { fits = omega (arith, went.enough, r.room.fits); small = r.room.small; low = r.room.low };
       })
 
-  module _ {l1 : List ℕ} {w : Part} (d : Works l l1 u.top p x y z w) where
+  module _ {l1 : List ℕ} {w : std.Option Made} (d : Works l l1 u.top p x y z w) where
     worked : Works l l1 s.top p x y z w
     worked = rw went.is at d
 
-    pub primitive-wrong : {r : Answer} → w ≡ Wrong → r ≡ Refused (stop_of WrongArgument u) → DoesPrimitive l l1 s p x y z r
+    pub primitive-wrong : {r : Result Out Stop} → w ≡ None → r ≡ Err (stop_of WrongArgument u) → DoesPrimitive l l1 s p x y z r
     unfolding apply_primitive or_wrong_kind made_tree
     primitive-wrong k same =
         rw same
@@ -102,7 +99,7 @@ module _ {l : List ℕ} {s u : State} {p x y z : ℕ} {g : Charged} (r : ReadyPr
               ∙ ap (λ (n : ℕ). no wrong_argument no_rivals n) (sym left_is)));
         })
 
-    module _ {j : Made} (k : w ≡ Piece j) where
+    module _ {j : Made} (k : w ≡ Some j) where
       pub primitive-seen : length l1 ≡ length l → Seen l1 j.at
       primitive-seen len =
           let o = taken-plain (primitive_of p) (tcount r.values) r.able r.plain in
@@ -116,7 +113,7 @@ module _ {l : List ℕ} {s u : State} {p x y z : ℕ} {g : Charged} (r : ReadyPr
           }
 
       module _ {ex : Extent} (f : Measured l1 j.at ex) where
-        pub primitive_deep : {r : Answer} → 64 < ex.nesting → r ≡ Refused (stop_of TooDeep u) → DoesPrimitive l l1 s p x y z r
+        pub primitive_deep : {r : Result Out Stop} → 64 < ex.nesting → r ≡ Err (stop_of TooDeep u) → DoesPrimitive l l1 s p x y z r
         unfolding apply_primitive or_wrong_kind made_tree most_nesting
         primitive_deep n same =
             rw same
@@ -132,7 +129,7 @@ module _ {l : List ℕ} {s u : State} {p x y z : ℕ} {g : Charged} (r : ReadyPr
                   ∙ ap (λ (i : ℕ). no too_deep no_rivals i) (sym left_is)));
             })
 
-        pub primitive-done : ex.nesting ≤ 64 → DoesPrimitive l l1 s p x y z (Done (record { at = j.at; state = raised_to j.top u }))
+        pub primitive-done : ex.nesting ≤ 64 → DoesPrimitive l l1 s p x y z (Ok (record { at = j.at; state = raised_to j.top u }))
         unfolding apply_primitive or_wrong_kind made_tree most_nesting
         primitive-done n =
             record {

@@ -8,10 +8,9 @@ ghost use Rattle.applying.specs.Testing.{Counted, Tested, Sought, TestedP, Permi
 ghost use Rattle.applying.specs.Doing.{ReadyFunction, Substitutes, ReadyPrimitive, DoesPrimitive};
 
 use environment::Place;
-use primitives::Part;
 use refusals::Refusal;
 use scopes::{Name, Scope};
-use steps::{Answer, Charged, Out, State, Stop};
+use steps::{Out, State, Stop};
 use table::{Body, Node};
 
 // The values of up to three arguments, and the state after them. No value takes more.
@@ -21,12 +20,6 @@ pub struct Values {
     pub y: u32,
     pub z: u32,
     pub state: State,
-}
-
-#[derive(Clone, Copy)]
-pub enum Gathered {
-    All(Values),
-    Refused(Stop),
 }
 
 // One more than any value takes.
@@ -55,14 +48,11 @@ fn applicable(table: &[u32], f: u32, n: u32) -> bool
     ensures { Tested table.now f n result }
 {
     let o = table::get_node(table, f);
-    let tag = o.tag;
-    if tag == Node::FUNCTION {
-        return n == 1;
+    match o.tag {
+        Node::FUNCTION => n == 1,
+        Node::PRIMITIVE_VALUE => primitives::takes(o.content, n),
+        _ => false,
     }
-    if tag == Node::PRIMITIVE_VALUE {
-        return primitives::takes(o.content, n);
-    }
-    false
 }
 
 // The value f can be applied to as many arguments as the chain c has.
@@ -70,8 +60,7 @@ pub fn applicable_to(table: &[u32], f: u32, c: u32) -> bool
     requires { Sought table.now f c }
     ensures { TestedP table.now f c result }
 {
-    let n = count(table, c, TOO_MANY);
-    applicable(table, f, n)
+    applicable(table, f, count(table, c, TOO_MANY))
 }
 
 // No macro's use: a right-hand side, or the evaluate job.
@@ -91,57 +80,55 @@ pub fn allowed(table: &[u32], f: u32, place: Place) -> bool
     requires { Seen table.now f }
     ensures { Permitted table.now f place result }
 {
-    if place.intro.0 == 0 {
-        let o = table::get_node(table, f);
-        if o.tag == Node::PRIMITIVE_VALUE {
-            return !primitives::is_local(o.content);
-        }
+    if place.intro.0 != 0 {
+        return true;
     }
-    true
+    let o = table::get_node(table, f);
+    if o.tag != Node::PRIMITIVE_VALUE {
+        return true;
+    }
+    !primitives::is_local(o.content)
 }
 
 // ---- applying
 
 // The body of the function of that name with the value x put in, charged the body's size.
-pub fn substituted(table: &mut [u32], s: State, name: Name, body: Body, x: u32) -> Answer
+pub fn substituted(table: &mut [u32], s: State, name: Name, body: Body, x: u32) -> Result<Out, Stop>
     requires { ReadyFunction table.old s body x }
     ensures { Substitutes table.old table.new s name.0 body x result }
 {
-    match s.charge(body.size) {
-        Charged::Refused(e) => Answer::Refused(e),
-        Charged::Paid(t) => {
-            let m = substitution::substitute(table, t.top, body.at, name, x);
-            let e = things::measure(table, m.at);
-            if State::MOST_NESTING < e.nesting {
-                return t.refuse(Refusal::TooDeep);
-            }
-            let state = t.raised(m.top);
-            Answer::Done(Out { at: m.at, state })
-        }
+    let t = s.charge(body.size)?;
+    let m = substitution::substitute(table, t.top, body.at, name, x);
+    if State::MOST_NESTING < things::measure(table, m.at).nesting {
+        return t.refuse(Refusal::TooDeep);
     }
+    Ok(Out {
+        at: m.at,
+        state: t.raised(m.top),
+    })
 }
 
 // Primitive p, one of 0 to 6, of the values x, y and z.
-pub fn apply_primitive(table: &mut [u32], s: State, p: u32, x: u32, y: u32, z: u32) -> Answer
+pub fn apply_primitive(
+    table: &mut [u32],
+    s: State,
+    p: u32,
+    x: u32,
+    y: u32,
+    z: u32,
+) -> Result<Out, Stop>
     requires { ReadyPrimitive table.old s p x y z }
     ensures { DoesPrimitive table.old table.new s p x y z result }
 {
-    match s.charge(1) {
-        Charged::Refused(e) => Answer::Refused(e),
-        Charged::Paid(u) => match primitives::primitive(table, u.top, p, x, y, z) {
-            Part::Wrong => u.refuse(Refusal::WrongArgument),
-            Part::Piece(m) => {
-                let mut s1 = u;
-                s1.top = m.top;
-                let e = things::measure(table, m.at);
-                if State::MOST_NESTING < e.nesting {
-                    return s1.refuse(Refusal::TooDeep);
-                }
-                Answer::Done(Out {
-                    at: m.at,
-                    state: s1,
-                })
-            }
-        },
+    let u = s.charge(1)?;
+    let Some(m) = primitives::primitive(table, u.top, p, x, y, z) else {
+        return u.refuse(Refusal::WrongArgument);
+    };
+    if State::MOST_NESTING < things::measure(table, m.at).nesting {
+        return u.refuse(Refusal::TooDeep);
     }
+    Ok(Out {
+        at: m.at,
+        state: u.raised(m.top),
+    })
 }

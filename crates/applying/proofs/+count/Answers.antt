@@ -1,4 +1,4 @@
-use Rattle.std.proofs.Common.{rules, ◌-◌}
+use Rattle.std.proofs.Common.{rules}
 use Rattle.applying.proofs.+count.Goals as goal
 use Rattle.applying.proofs.Testing.{testing}
 

@@ -1,4 +1,3 @@
-use Rattle.std.proofs.Common.{◌-◌}
 use Rattle.applying.proofs.+count.Given as goal
 
 abbrev pub decreases-count : goal.decreases-count

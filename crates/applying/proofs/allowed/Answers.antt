@@ -1,12 +1,12 @@
-use Rattle.std.proofs.Common.{rules, ◌-◌}
+use Rattle.std.proofs.Common.{rules}
 use Rattle.applying.proofs.allowed.Goals as goal
 use Rattle.applying.proofs.Allowing.{allowing}
 
-pub returns-then-o-eq-PRIMITIVE_VALUE : goal.returns-then-o-eq-PRIMITIVE_VALUE
-returns-then-o-eq-PRIMITIVE_VALUE c = search (allowing, rules)
+pub returns-then-place-ne0 : goal.returns-then-place-ne0
+returns-then-place-ne0 c = search (allowing, rules)
 
-pub returns-else-o-eq-PRIMITIVE_VALUE : goal.returns-else-o-eq-PRIMITIVE_VALUE
-returns-else-o-eq-PRIMITIVE_VALUE c = search (allowing, rules)
+pub returns-then-o-ne-PRIMITIVE_VALUE : goal.returns-then-o-ne-PRIMITIVE_VALUE
+returns-then-o-ne-PRIMITIVE_VALUE c = search (allowing, rules)
 
-pub returns-else-place-eq0 : goal.returns-else-place-eq0
-returns-else-place-eq0 c = search (allowing, rules)
+pub returns : goal.returns
+returns c = search (allowing, rules)
