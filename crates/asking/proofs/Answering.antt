@@ -2,12 +2,13 @@
 use mathlib.Core.Path.{◌≡◌, refl, sym, ap, ◌∙◌}
 use mathlib.Core.Bool.{Bool, true, false, not}
 use mathlib.Core.List.{List}
-use mathlib.Core.Option.{none, some}
-use Prim.Native.Nat.{ℕ, ◌+◌, ◌-◌, ◌*◌, ◌≤◌, ◌<◌}
+use mathlib.Core.Option.{none}
+use Prim.Native.Nat.{ℕ, ◌*◌, ◌≤◌}
 use native.Mathlib.Omega.{arith}
 use borrow.Author.Tests.{not-true, not-false, eq-eqb, ne_eqb}
 use lib.ListN.{length}
 use lib.Dec.{eqb}
+use Rattle.std.specs.Prelude.{Result, Ok, Err}
 use Rattle.model.specs.Choice.{when◌then◌else◌}
 use Rattle.model.specs.Refusals.{wrong_argument}
 use Rattle.model.specs.Objects.{symbol, Stx, atom, prune_scopes}
@@ -32,15 +33,11 @@ use Rattle.parse.proofs.Laws.{top-is}
 use Rattle.refusals.specs.declared.Refusal.TheVariants.{WrongArgument}
 use Rattle.scopes.specs.Sets.{Declared}
 use Rattle.scoping.specs.Changing.{objects, ReadyObject, change_rule, Changes}
-use Rattle.steps.specs.States.{Store, store_of, Held, state_of, stop_of, ambiguous_of, charge_of, Room}
-use Rattle.steps.specs.Agreement.{Later, Ended, ended, Agrees, gives, stops}
+use Rattle.steps.specs.States.{Store, store_of, state_of, stop_of, ambiguous_of, charge_of}
+use Rattle.steps.specs.Agreement.{Agrees, gives, stops}
 use Rattle.steps.specs.declared.State.{State}
 use Rattle.steps.specs.declared.Stop.{Stop}
 use Rattle.steps.specs.declared.Out.{Out}
-use Rattle.steps.specs.declared.Answer.{Answer}
-use Rattle.steps.specs.declared.Answer.TheVariants.{Done, Refused}
-use Rattle.steps.specs.declared.Charged.{Charged}
-use Rattle.steps.specs.declared.Charged.TheVariants as charged
 use Rattle.steps.proofs.Laws.{charge_went, charge_failed, charge-ok, charge-no, then_ok, then_no, after-after, later_refl, later-paid, room-paid, since}
 use Rattle.stops.specs.Stops.{RepZ, KnownZ}
 use Rattle.store.specs.Sizes.{binding_size, held_size}
@@ -89,7 +86,7 @@ record Wrong (q : HeadMeaning) : Type 0 where
   wrong : (y : ms.State) → macro_value value y ≡ no wrong_argument no_rivals y.left
 
 module _ {l st : List ℕ} {s : State} {i : ℕ} {at : Place} {w : Meaning} (p : MeansAt at.phase st s.bindings l i at.meanings at.stops w) where
-  refused-by : {r : Answer} → r ≡ Refused (stop_of WrongArgument s)
+  refused-by : {r : Result Out Stop} → r ≡ Err (stop_of WrongArgument s)
       → ((d : Id) (e : Env) (zs : List ℕ) → Rep l s.top i (stx (atom d.sets (symbol d.symb))) → RepE l s.top at.meanings e → RepZ l s.top at.stops zs → Wrong (found at st s d e zs))
       → AsksMeaning at st l s i r
   refused-by same f =
@@ -100,36 +97,50 @@ module _ {l st : List ℕ} {s : State} {i : ℕ} {at : Place} {w : Meaning} (p :
             stops _ (value_split (around e zs at) d y ∙ then_ok _ (head-means at.phase e zs y (atom d.sets (symbol d.symb)) q.is) ∙ q.wrong y);
       })
 
-  module _ {r : Answer} (same : r ≡ Refused (stop_of WrongArgument s)) where
-    pub asked-lambda : w ≡ meant.Lambda → AsksMeaning at st l s i r
+  module _ {r : Result Out Stop} (same : r ≡ Err (stop_of WrongArgument s)) where
+    asked-lambda : w ≡ meant.Lambda → AsksMeaning at st l s i r
     unfolding macro_value
     asked-lambda z = refused-by same (λ d e zs a b c. record { value = core m.lambda; is = on_lambda (p.means s.top (atom d.sets (symbol d.symb)) e zs a b c) z; wrong = λ y. refl })
 
-    pub asked_let_syntax : w ≡ meant.LetSyntax → AsksMeaning at st l s i r
+    asked_let_syntax : w ≡ meant.LetSyntax → AsksMeaning at st l s i r
     unfolding macro_value
     asked_let_syntax z = refused-by same (λ d e zs a b c. record { value = core m.let_syntax; is = on_let_syntax (p.means s.top (atom d.sets (symbol d.symb)) e zs a b c) z; wrong = λ y. refl })
 
-    pub asked-quote : w ≡ meant.Quote → AsksMeaning at st l s i r
+    asked-quote : w ≡ meant.Quote → AsksMeaning at st l s i r
     unfolding macro_value
     asked-quote z = refused-by same (λ d e zs a b c. record { value = core m.quote; is = on_quote (p.means s.top (atom d.sets (symbol d.symb)) e zs a b c) z; wrong = λ y. refl })
 
-    pub asked-syntax : w ≡ meant.Syntax → AsksMeaning at st l s i r
+    asked-syntax : w ≡ meant.Syntax → AsksMeaning at st l s i r
     unfolding macro_value
     asked-syntax z = refused-by same (λ d e zs a b c. record { value = core m.syntax; is = on_syntax (p.means s.top (atom d.sets (symbol d.symb)) e zs a b c) z; wrong = λ y. refl })
 
-    pub asked-variable : {v : ℕ} → w ≡ meant.Variable v → AsksMeaning at st l s i r
+    asked-variable : {v : ℕ} → w ≡ meant.Variable v → AsksMeaning at st l s i r
     unfolding macro_value
     asked-variable z = refused-by same (λ d e zs a b c. let q = on_variable (p.means s.top (atom d.sets (symbol d.symb)) e zs a b c) z in record { value = variable q.sets q.symb; is = q.is; wrong = λ y. refl })
 
-    pub asked-stopped : w ≡ meant.Stopped → AsksMeaning at st l s i r
+    asked-stopped : w ≡ meant.Stopped → AsksMeaning at st l s i r
     unfolding macro_value
     asked-stopped z = refused-by same (λ d e zs a b c. record { value = stopped; is = on_stopped (p.means s.top (atom d.sets (symbol d.symb)) e zs a b c) z; wrong = λ y. refl })
 
-    pub asked-unknown : w ≡ meant.Unknown → AsksMeaning at st l s i r
+    asked-unknown : w ≡ meant.Unknown → AsksMeaning at st l s i r
     unfolding macro_value
     asked-unknown z = refused-by same (λ d e zs a b c. record { value = unknown; is = on_unknown (p.means s.top (atom d.sets (symbol d.symb)) e zs a b c) z; wrong = λ y. refl })
 
-  pub asked-unclear : {r : Answer} {v : Rivals} → r ≡ Refused (ambiguous_of v s) → w ≡ meant.Unclear v → AsksMeaning at st l s i r
+    pub asked-other : ((v : ℕ) → w ≡ meant.Macro v → ⊥) → ((v : Rivals) → w ≡ meant.Unclear v → ⊥) → AsksMeaning at st l s i r
+    asked-other h k = by w refl
+      where
+        by : (x : Meaning) → w ≡ x → AsksMeaning at st l s i r
+        by meant.Lambda e = asked-lambda e
+        by meant.LetSyntax e = asked_let_syntax e
+        by meant.Quote e = asked-quote e
+        by meant.Syntax e = asked-syntax e
+        by (meant.Variable v) e = asked-variable e
+        by meant.Stopped e = asked-stopped e
+        by meant.Unknown e = asked-unknown e
+        by (meant.Macro v) e = absurd (h v e)
+        by (meant.Unclear v) e = absurd (k v e)
+
+  pub asked-unclear : {r : Result Out Stop} {v : Rivals} → r ≡ Err (ambiguous_of v s) → w ≡ meant.Unclear v → AsksMeaning at st l s i r
   asked-unclear same z =
       rw same (record {
         means = λ d e zs a b c.
@@ -138,7 +149,7 @@ module _ {l st : List ℕ} {s : State} {i : ℕ} {at : Place} {w : Meaning} (p :
             stops _ (value_split (around e zs at) d y ∙ then_no _ (head-unclear at.phase e zs y x (on_meaning_unclear (p.means s.top x e zs a b c) z)));
       })
 
-  pub asked-macro : {v : ℕ} → ReadyId l st s i at → w ≡ meant.Macro v → AsksMeaning at st l s i (Done (record { at = v; state = s }))
+  pub asked-macro : {v : ℕ} → ReadyId l st s i at → w ≡ meant.Macro v → AsksMeaning at st l s i (Ok (record { at = v; state = s }))
   unfolding macro_value
   asked-macro r z =
       record {
@@ -154,12 +165,12 @@ module _ {l st : List ℕ} {s : State} {i : ℕ} {at : Place} {w : Meaning} (p :
             });
       }
 
-pub ruleset meaning_laws = (id-seen, id-known, id-stops, id-held, asked-lambda, asked_let_syntax, asked-quote, asked-syntax, asked-variable, asked-stopped, asked-unknown, asked-unclear, asked-macro)
+pub ruleset meaning_laws = (id-seen, id-known, id-stops, id-held, asked-unclear, asked-macro)
 
 -- ---- 9: the use scopes taken off
 
 -- an object made is a value
-as_value : {n v : ℕ} {l l1 : List ℕ} {s : State} {b : Store} {q : ms.Out Stx} {q' : ms.Out Tree} {x : Ended Out} → Agrees objects n v l l1 s b q x → q' ≡ after q (λ y z. ok (stx y) z)
+as_value : {n v : ℕ} {l l1 : List ℕ} {s : State} {b : Store} {q : ms.Out Stx} {q' : ms.Out Tree} {x : Result Out Stop} → Agrees objects n v l l1 s b q x → q' ≡ after q (λ y z. ok (stx y) z)
     → Agrees trees 0 0 l l1 s b q' x
 as_value (gives o g) e =
     gives o (record {
@@ -175,7 +186,7 @@ fit_rule : (ph : ℕ) (d : Id) (u : ℕ) (y : ms.State) → u ≡ y.uses
 unfolding fit_to_bind uses_now prune_from change_rule
 fit_rule ph d u y e = rw e refl
 
-pub fit_gives : {ph : ℕ} {st l l1 : List ℕ} {s : State} {i u : ℕ} {r : Answer} → u ≡ uses_of st → Changes (prune_scopes u ph) l l1 s i r → FitsToBind ph st l l1 s i r
+pub fit_gives : {ph : ℕ} {st l l1 : List ℕ} {s : State} {i u : ℕ} {r : Result Out Stop} → u ≡ uses_of st → Changes (prune_scopes u ph) l l1 s i r → FitsToBind ph st l l1 s i r
 fit_gives {ph} {st} {s = s} {u = u} e v =
     record { means = λ d a. as_value (v.means (store_of st) (atom d.sets (symbol d.symb)) a) (fit_rule ph d u (state_of s (store_of st)) e) }
 
@@ -199,7 +210,7 @@ module _ {l st : List ℕ} {s : State} {i : ℕ} {at : Place} (r : ReadyToAsk l 
   ask_wide = r.held.wide
 
   module _ {t : Bool} (k : IsId l i t) where
-    pub ask_wrong : {p : ℕ} {x : Answer} → not t ≡ true → x ≡ Refused (stop_of WrongArgument s) → AnswersPaid p at st l l s i x
+    pub ask_wrong : {p : ℕ} {x : Result Out Stop} → not t ≡ true → x ≡ Err (stop_of WrongArgument s) → AnswersPaid p at st l l s i x
     ask_wrong {p} h same = rw same (record { means = λ u j here a g. stops _ (wrong-is p here u (state_of s (store_of st)) (k.no (not-true t h) s.top u a)) })
 
     module _ (g : not t ≡ false) where
@@ -218,14 +229,14 @@ module _ {l st : List ℕ} {s : State} {i : ℕ} {at : Place} (r : ReadyToAsk l 
           let a : Rep l s.top i (stx (atom d.id.sets (symbol d.id.symb))) = rw d.is at r.shown in
           record { thing = atom d.id.sets (symbol d.id.symb); shown = a; room = r.room; few = r.held.few }
 
-      module _ {p : ℕ} {x : Answer} where
+      module _ {p : ℕ} {x : Result Out Stop} where
         pub ask_meaning : p ≡ 7 → AsksMeaning at st l s i x → AnswersPaid p at st l l s i x
         ask_meaning z v = record {
           means = λ u j here a c.
               let d = found-id u a in
               let a2 : Rep l s.top i (stx (atom d.id.sets (symbol d.id.symb))) = rw d.is at a in
               let y = state_of s (store_of st) in
-              by_use (λ (j : ℕ) (here : m.Surroundings). Agrees trees 0 0 l l s (store_of st) (asked_rule p here u y) (ended x)) c (λ e zs f b h.
+              by_use (λ (j : ℕ) (here : m.Surroundings). Agrees trees 0 0 l l s (store_of st) (asked_rule p here u y) x) c (λ e zs f b h.
               let q : asked_rule p (around e zs at) u y ≡ value_of (around e zs at) d.id y = asked_is p (around e zs at) u d y ∙ ap (λ (t : Bool). (when t then value_of (around e zs at) d.id else fit_to_bind at.phase d.id) y) (eq-eqb p 7 z) in
               since 0 0 (later_refl l s) (omega arith) (omega arith) q (v.means d.id e zs a2 b h));
         }
@@ -236,7 +247,7 @@ module _ {l st : List ℕ} {s : State} {i : ℕ} {at : Place} (r : ReadyToAsk l 
               let d = found-id u a in
               let a2 : Rep l s.top i (stx (atom d.id.sets (symbol d.id.symb))) = rw d.is at a in
               let y = state_of s (store_of st) in
-              by_use (λ (j : ℕ) (here : m.Surroundings). Agrees trees 0 0 l l1 s (store_of st) (asked_rule p here u y) (ended x)) c (λ e zs f b h.
+              by_use (λ (j : ℕ) (here : m.Surroundings). Agrees trees 0 0 l l1 s (store_of st) (asked_rule p here u y) x) c (λ e zs f b h.
               let q : asked_rule p (around e zs at) u y ≡ fit_to_bind at.phase d.id y = asked_is p (around e zs at) u d y ∙ ap (λ (t : Bool). (when t then value_of (around e zs at) d.id else fit_to_bind at.phase d.id) y) (ne_eqb p 7 z) in
               since 0 0 (later_refl l s) (omega arith) (omega arith) q (v.means d.id a2));
         }
@@ -245,14 +256,14 @@ pub ruleset asked_laws = (ask_seen, ask_wide, ask_wrong, ask_id_ready, ask_objec
 
 -- ---- with the charge
 
-module _ {l st : List ℕ} {s : State} {i : ℕ} {at : Place} {y : Charged} (f : y ≡ charge_of 1 s) where
-  pub answer-refused : {p : ℕ} {g : Stop} → y ≡ charged.Refused g → Answers p at st l l s i (Refused g)
+module _ {l st : List ℕ} {s : State} {i : ℕ} {at : Place} {y : Result State Stop} (f : y ≡ charge_of 1 s) where
+  pub answer-refused : {p : ℕ} {g : Stop} → y ≡ Err g → Answers p at st l l s i (Err g)
   unfolding answer_rule
   answer-refused e =
       let q = charge_failed 1 s f e in
       rw q.is (record { means = λ t k here a b. stops _ (then_no _ (charge-no 1 s (store_of st) q.short)) })
 
-  module _ {u : State} (e : y ≡ charged.Paid u) where
+  module _ {u : State} (e : y ≡ Ok u) where
     pub answer-ready : ReadyToAsk l st s i at → ReadyToAsk l st u i at
     answer-ready r =
         let w = charge_went 1 s f e in
@@ -268,7 +279,7 @@ module _ {l st : List ℕ} {s : State} {i : ℕ} {at : Place} {y : Charged} (f :
           held = record { few = omega (arith, n, r.held.few); wide = r.held.wide };
         }
 
-    pub answer-paid : {p : ℕ} {l1 : List ℕ} {x : Answer} → AnswersPaid p at st l l1 u i x → Answers p at st l l1 s i x
+    pub answer-paid : {p : ℕ} {l1 : List ℕ} {x : Result Out Stop} → AnswersPaid p at st l l1 u i x → Answers p at st l l1 s i x
     unfolding answer_rule
     answer-paid {p} v =
         let w = charge_went 1 s f e in

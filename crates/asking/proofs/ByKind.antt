@@ -1,29 +1,29 @@
 -- Kinds of arguments: one law for each way out; and what a caller knows of each.
-use mathlib.Core.Path.{◌≡◌, refl, sym, ap, ◌∙◌}
+use mathlib.Core.Path.{◌≡◌, refl, ap, ◌∙◌}
 use mathlib.Core.Bool.{Bool, true, false, not, true≢false, false≢true}
 use mathlib.Core.List.{List, [], ◌∷◌}
-use mathlib.Core.Option.{Option, none, some}
+use mathlib.Core.Option.{none, some}
 use Prim.Native.Nat.{ℕ, ◌+◌, ◌≤◌, ◌<◌}
 use native.Mathlib.Omega.{arith}
 use borrow.Author.Tests.{eqb-true, eqb-false, leb-true, leb-false, not-true, not-false}
 use lib.Dec.{eqb, leb}
 use lib.ListN.{length}
+use Rattle.std.specs.Prelude as std
+use Rattle.std.specs.Prelude.{Some, None}
 use Rattle.model.specs.Choice.{given}
-use Rattle.model.specs.Objects.{Atom, symbol, number, point, prim, rung, tag_of, Stx, atom, list}
+use Rattle.model.specs.Objects.{symbol, number, point, prim, rung, tag_of, Stx, atom, list}
 use Rattle.model.specs.Trees.{Tree, stx, Trees, tnil, tcons, lst, as_stx, as_list}
 use Rattle.model.specs.Evaluating.{Id, id_of, as_id, as_ids}
-use Rattle.table.specs.Sizes.{cell_size, node_size}
+use Rattle.table.specs.Sizes.{cell_size}
 use Rattle.table.specs.Tags.{list_tag, list_value_tag}
 use Rattle.table.specs.Words.{get_node, get_cell}
 use Rattle.table.specs.declared.Node.{Node}
 use Rattle.table.specs.declared.Cell.{Cell}
 use Rattle.things.specs.Rep.{Rep, RepP, is-var, is-app, is-fun, is-lst, is-datum, is-atom, is-list}
 use Rattle.things.specs.Measuring.{Seen, SeenP}
-use Rattle.things.proofs.ByTag.{tag_is, tag-low, lst-at, not-syntax, part_at, none-at}
+use Rattle.things.proofs.ByTag.{tag_is, lst-at, not-syntax, part_at, none-at}
 use Rattle.things.proofs.Measuring.{node-inside, cell_inside, tail_seen}
 use Rattle.asking.specs.Kinds.{ObjectAt, IdAt, AreIds, IsObject, IsId, AllIds, IdsAt, ListedAs, ListedIs, ListsIds}
-use Rattle.asking.specs.declared.kinds.Listed.{Listed}
-use Rattle.asking.specs.declared.kinds.Listed.TheVariants as listed
 
 -- ---- an object
 
@@ -197,7 +197,7 @@ unfolding as_list
 list_as ts = refl
 
 module _ {l : List ℕ} {i : ℕ} {o : Node} (e : o ≡ get_node l i) where
-  pub listed-not : ¬ (o.tag ≡ list_value_tag) → ListsIds l i listed.Not
+  pub listed-not : ¬ (o.tag ≡ list_value_tag) → ListsIds l i None
   unfolding ListedAs
   listed-not h = record { means = λ top t r. record { told = not-list r e h } }
 
@@ -208,7 +208,7 @@ module _ {l : List ℕ} {i : ℕ} {o : Node} (e : o ≡ get_node l i) where
         record { top = s.top; thing = p.parts; shown = p.shown; inside = s.inside; small = s.small }
 
     module _ {t : Bool} (a : AllIds l o.content t) where
-      pub listed-others : not t ≡ true → ListsIds l i listed.Not
+      pub listed-others : not t ≡ true → ListsIds l i None
       unfolding ListedAs
       listed-others g = let z : t ≡ false = not-true t g in record {
         means = λ top t r.
@@ -216,7 +216,7 @@ module _ {l : List ℕ} {i : ℕ} {o : Node} (e : o ≡ get_node l i) where
             record { told = ap (λ (y : Tree). given (as_list y) as_ids) p.is ∙ list_as p.parts ∙ a.no z top p.parts p.shown };
       }
 
-      pub listed-ids : not t ≡ false → ListsIds l i (listed.At o.content)
+      pub listed-ids : not t ≡ false → ListsIds l i (Some o.content)
       unfolding ListedAs
       listed-ids g = let z : t ≡ true = not-false t g in record {
         means = λ top t r.
@@ -229,14 +229,14 @@ pub ruleset laws = (node-inside, object-told, id-told, passing-start, passing-en
 
 -- ---- what a caller knows
 
-told_as : {l : List ℕ} {top : ℕ} {r s : Listed} {t : Tree} → ListedIs l top r t → r ≡ s → ListedAs l top s t
+told_as : {l : List ℕ} {top : ℕ} {r s : std.Option ℕ} {t : Tree} → ListedIs l top r t → r ≡ s → ListedAs l top s t
 told_as a e = rw e at a.told
 
-module _ {l : List ℕ} {top : ℕ} {r : Listed} {t : Tree} (a : ListedIs l top r t) where
-  pub on_ids : {c : ℕ} → r ≡ listed.At c → IdsAt l top c t
+module _ {l : List ℕ} {top : ℕ} {r : std.Option ℕ} {t : Tree} (a : ListedIs l top r t) where
+  pub on_ids : {c : ℕ} → r ≡ Some c → IdsAt l top c t
   unfolding ListedAs
   on_ids e = told_as a e
 
-  pub on_no_ids : r ≡ listed.Not → given (as_list t) as_ids ≡ none
+  pub on_no_ids : r ≡ None → given (as_list t) as_ids ≡ none
   unfolding ListedAs
   on_no_ids e = told_as a e

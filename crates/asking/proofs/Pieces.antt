@@ -3,10 +3,13 @@ use mathlib.Core.Path.{◌≡◌, refl, sym, ap, subst, ◌∙◌}
 use mathlib.Core.Bool.{Bool, true, false, not}
 use mathlib.Core.List.{List, []}
 use mathlib.Core.Option.{Option, none, some}
-use Prim.Native.Nat.{ℕ, ◌+◌, ◌-◌, ◌*◌, ◌≤◌, ◌<◌}
+use Prim.Native.Nat.{ℕ, ◌+◌, ◌-◌, ◌≤◌}
 use native.Mathlib.Omega.{arith}
 use borrow.Author.Tests.{not-true, not-false}
 use lib.ListN.{length}
+use Rattle.std.specs.Prelude as std
+use Rattle.std.specs.Prelude.{Some, None, Result, Ok, Err}
+use Rattle.asking.specs.declared.Piece.{Piece}
 use Rattle.model.specs.Choice.{given}
 use Rattle.model.specs.Refusals.{wrong_argument}
 use Rattle.model.specs.Objects.{Stx, flip_scope}
@@ -19,29 +22,23 @@ use Rattle.model.specs.Steps.{ok, no, after, charge, flip_in}
 use Rattle.model.specs.Evaluating as ev
 use Rattle.model.specs.Evaluating.{Expander, Id, as_ids, or_wrong_kind, stop_names, expand_within, apply_local}
 use Rattle.environment.specs.Meanings.{RepE}
-use Rattle.environment.specs.Places.{RepPlace}
 use Rattle.environment.specs.declared.Place.{Place}
 use Rattle.environment.proofs.Frame.{carry_e}
 use Rattle.parse.specs.Parsing.{unpaid}
 use Rattle.parse.proofs.Laws.{unpaid-is, top-is}
 use Rattle.refusals.specs.declared.Refusal.TheVariants.{WrongArgument}
 use Rattle.scopes.specs.Sets.{Declared}
-use Rattle.scoping.specs.Changing.{objects, ReadyObject, change_rule, Changes}
-use Rattle.scoping.specs.Fresh.{paid_of}
-use Rattle.steps.specs.States.{Store, store_of, Held, state_of, stop_of, raised_to, charge_of, Room}
-use Rattle.steps.specs.Agreement.{Later, ended, Gave, Agrees, gives, stops}
+use Rattle.scoping.specs.Changing.{ReadyObject, change_rule, Changes}
+use Rattle.steps.specs.States.{store_of, state_of, stop_of, raised_to, charge_of}
+use Rattle.steps.specs.Agreement.{Later, Gave, Agrees, gives, stops}
 use Rattle.steps.specs.declared.State.{State}
 use Rattle.steps.specs.declared.Stop.{Stop}
 use Rattle.steps.specs.declared.Out.{Out}
-use Rattle.steps.specs.declared.Answer.{Answer}
-use Rattle.steps.specs.declared.Answer.TheVariants as answer
-use Rattle.steps.specs.declared.Charged.{Charged}
-use Rattle.steps.specs.declared.Charged.TheVariants as charged
-use Rattle.steps.proofs.Laws.{Went, charge_went, charge_failed, charge-ok, charge-no, then_ok, then_no, after-after, on_done, on_refused, since}
-use Rattle.stops.specs.Stops.{stops_size, Bits, RepZ, NoneYet}
+use Rattle.steps.proofs.Laws.{charge_went, charge_failed, charge-ok, charge-no, then_ok, then_no, after-after, on_done, on_refused, since}
+use Rattle.stops.specs.Stops.{stops_size, Bits, NoneYet}
 use Rattle.stops.proofs.Frame.{carry_z}
 use Rattle.stops.proofs.Laws.{bits-shown}
-use Rattle.table.specs.Sizes.{unit_size, node_spare}
+use Rattle.table.specs.Sizes.{unit_size}
 use Rattle.table.specs.Words.{Same}
 use Rattle.table.proofs.Laws.{same_trans}
 use Rattle.things.specs.Rep.{Rep, RepP}
@@ -51,26 +48,22 @@ use Rattle.things.proofs.Frame.{carry, stays_p}
 use Rattle.asking.specs.Kinds.{ObjectAt, IsObject, IdsAt, ListsIds}
 use Rattle.asking.specs.Answering.{around}
 use Rattle.asking.specs.Stopping.{named, ReadyStops, StopsAll}
-use Rattle.asking.specs.Pieces.{Opened, pieces, opening_of, flip_rule, Flips, open_parts, open_spare, ReadyParts, OpensParts, or_wrong, open_rule, close_rule, opened_rule, ReadyToOpen, OpensPaid, Opens}
-use Rattle.asking.specs.declared.kinds.Listed.{Listed}
-use Rattle.asking.specs.declared.kinds.Listed.TheVariants as listed
-use Rattle.asking.specs.declared.Opening.{Opening}
-use Rattle.asking.specs.declared.Opening.TheVariants as opening
+use Rattle.asking.specs.Pieces.{pieces, flip_rule, Flips, open_parts, open_spare, ReadyParts, OpensParts, or_wrong, open_rule, close_rule, opened_rule, ReadyToOpen, OpensPaid, Opens}
 use Rattle.asking.proofs.ByKind.{on_ids, on_no_ids}
 use Rattle.asking.proofs.Answering.{by_use}
 
 -- ---- the flip
 
-module _ {ph k : ℕ} {l l1 : List ℕ} {s : State} {i : ℕ} {a : Answer} (v : Changes (flip_scope k ph) l l1 s i a) where
-  pub flip-refused : {z : ℕ} {f : Stop} → a ≡ answer.Refused f → Flips ph k z l l1 s i (opening.Refused f)
+module _ {ph k : ℕ} {l l1 : List ℕ} {s : State} {i : ℕ} {a : Result Out Stop} (v : Changes (flip_scope k ph) l l1 s i a) where
+  pub flip-refused : {z : ℕ} {f : Stop} → a ≡ Err f → Flips ph k z l l1 s i (Err f)
   unfolding flip_rule
-  flip-refused {f = f} e = record { means = λ b x zs u c. stops f (then_no _ (on_refused (v.means b x u) (ap ended e))) }
+  flip-refused {f = f} e = record { means = λ b x zs u c. stops f (then_no _ (on_refused (v.means b x u) e)) }
 
-  pub flip-done : {z : ℕ} {o : Out} → a ≡ answer.Done o → Flips ph k z l l1 s i (opening.Done (record { at = o.at; stops = z; state = o.state }))
+  pub flip-done : {z : ℕ} {o : Out} → a ≡ Ok o → Flips ph k z l l1 s i (Ok (record { at = o.at; stops = z; state = o.state }))
   unfolding flip_rule
   flip-done e = record {
     means = λ b x zs u c.
-        let g = on_done (v.means b x u) (ap ended e) in
+        let g = on_done (v.means b x u) e in
         gives _ (record {
           value = record { object = g.value; names = zs };
           is = then_ok _ g.is;
@@ -108,17 +101,17 @@ module _ {l st : List ℕ} (s : State) {i c : ℕ} {at : Place} (r : ReadyParts 
           bits = none;
         }
 
-    module _ {l2 : List ℕ} {w : Charged} (g : StopsAll at st l1 l2 s c w) where
-      pub parts-refused : {f : Stop} → w ≡ charged.Refused f → OpensParts at st l l2 s i c (opening.Refused f)
+    module _ {l2 : List ℕ} {w : Result State Stop} (g : StopsAll at st l1 l2 s c w) where
+      pub parts-refused : {f : Stop} → w ≡ Err f → OpensParts at st l l2 s i c (Err f)
       unfolding open_parts
       parts-refused {f} e = record {
-        means = λ x ts ids env zs a b d h. stops f (then_no _ (on_refused (g.means ts ids env zs (stays_p b k.kept) d (carry_e h k.kept (omega arith))) (ap paid_of e)));
+        means = λ x ts ids env zs a b d h. stops f (then_no _ (on_refused (g.means ts ids env zs (stays_p b k.kept) d (carry_e h k.kept (omega arith))) e));
       }
 
-      module _ {t : State} (e : w ≡ charged.Paid t) where
+      module _ {t : State} (e : w ≡ Ok t) where
         gave : (ts : Trees) (ids : List Id) (env : Env) (zs : List ℕ) → RepP l s.top c ts → as_ids ts ≡ some ids → RepE l s.top at.meanings env
             → Gave (named s) 0 0 l1 l2 s (store_of st) (stop_names (around env zs at) ids (state_of s (store_of st))) t
-        gave ts ids env zs b d h = on_done (g.means ts ids env zs (stays_p b k.kept) d (carry_e h k.kept (omega arith))) (ap paid_of e)
+        gave ts ids env zs b d h = on_done (g.means ts ids env zs (stays_p b k.kept) d (carry_e h k.kept (omega arith))) e
 
         own : Gave (named s) 0 0 l1 l2 s (store_of st) (stop_names (around r.meant [] at) r.ids (state_of s (store_of st))) t
         unfolding unpaid
@@ -152,7 +145,7 @@ module _ {l st : List ℕ} (s : State) {i c : ℕ} {at : Place} (r : ReadyParts 
           unfolding unpaid
           later_now = record { kept = kept-all; grows = omega (arith, top_now); fits = omega (arith, top_now, left_now); spent = omega (arith, left_now) }
 
-          pub parts-opened : {l3 : List ℕ} {y : Opening} → Flips at.phase at.intro.0 z l2 l3 u i y → OpensParts at st l l3 s i c y
+          pub parts-opened : {l3 : List ℕ} {y : Result Piece Stop} → Flips at.phase at.intro.0 z l2 l3 u i y → OpensParts at st l l3 s i c y
           unfolding open_parts flip_rule flip_in change_rule
           parts-opened v = record {
             means = λ x ts ids env zs a b d h.
@@ -196,7 +189,7 @@ module _ {l st : List ℕ} (s : State) {i j : ℕ} {at : Place} (r : ReadyToOpen
   open_seen_second = record { top = s.top; thing = r.second; shown = r.shown-second; inside = omega (arith, r.room.fits); small = r.room.small }
 
   module _ {t : Bool} (d : IsObject l i t) where
-    pub open_no_object : {f : Stop} → not t ≡ true → f ≡ stop_of WrongArgument s → OpensPaid at st l l s i j (opening.Refused f)
+    pub open_no_object : {f : Stop} → not t ≡ true → f ≡ stop_of WrongArgument s → OpensPaid at st l l s i j (Err f)
     open_no_object h same =
         rw same (record { means = λ a b k here u v c. stops _ (not-object k here a b (state_of s (store_of st)) (d.no (not-true t h) s.top a u)) })
 
@@ -204,12 +197,12 @@ module _ {l st : List ℕ} (s : State) {i j : ℕ} {at : Place} (r : ReadyToOpen
       the_object_lem : (a : Tree) → Rep l s.top i a → ObjectAt a
       the_object_lem a u = d.yes (not-false t g) s.top a u
 
-      module _ {q : Listed} (v : ListsIds l j q) where
-        pub open_no_ids : {f : Stop} → q ≡ listed.Not → f ≡ stop_of WrongArgument s → OpensPaid at st l l s i j (opening.Refused f)
+      module _ {q : std.Option ℕ} (v : ListsIds l j q) where
+        pub open_no_ids : {f : Stop} → q ≡ None → f ≡ stop_of WrongArgument s → OpensPaid at st l l s i j (Err f)
         open_no_ids e same =
             rw same (record { means = λ a b k here u w c. stops _ (not-ids k here a b (state_of s (store_of st)) (the_object_lem a u) (on_no_ids (v.means s.top b w) e)) })
 
-        module _ {c : ℕ} (e : q ≡ listed.At c) where
+        module _ {c : ℕ} (e : q ≡ Some c) where
           the_ids : (b : Tree) → Rep l s.top j b → IdsAt l s.top c b
           the_ids b w = on_ids (v.means s.top b w) e
 
@@ -233,14 +226,14 @@ module _ {l st : List ℕ} (s : State) {i j : ℕ} {at : Place} (r : ReadyToOpen
                 held = r.held;
               })
 
-          pub open_goes : {l1 : List ℕ} {x : Opening} → OpensParts at st l l1 s i c x → OpensPaid at st l l1 s i j x
+          pub open_goes : {l1 : List ℕ} {x : Result Piece Stop} → OpensParts at st l l1 s i c x → OpensPaid at st l l1 s i j x
           open_goes {l1} {x} n = record {
             means = λ a b k here u w f.
                 let o = the_object_lem a u in
                 let a2 : Rep l s.top i (stx o.object) = rw o.is at u in
                 let p = the_ids b w in
                 let y = state_of s (store_of st) in
-                by_use (λ (k : ℕ) (here : m.Surroundings). Agrees pieces 2 open_spare l l1 (unpaid s) (store_of st) (open_rule k here a b y) (opening_of x)) f (λ env zs g h z.
+                by_use (λ (k : ℕ) (here : m.Surroundings). Agrees pieces 2 open_spare l l1 (unpaid s) (store_of st) (open_rule k here a b y) x) f (λ env zs g h z.
                 rw (with_ids at.intro.0 (around env zs at) a b y o p.is) (n.means o.object p.parts p.ids env zs a2 p.shown p.are h));
           }
 
@@ -248,18 +241,18 @@ pub ruleset open_laws = (open_seen, open_seen_second, open_no_object, open_no_id
 
 -- ---- with the charge
 
-module _ {l st : List ℕ} {s : State} {i j : ℕ} {at : Place} {y : Charged} (f : y ≡ charge_of 1 s) where
-  pub opened-refused : {g : Stop} → y ≡ charged.Refused g → Opens at st l l s i j (opening.Refused g)
+module _ {l st : List ℕ} {s : State} {i j : ℕ} {at : Place} {y : Result State Stop} (f : y ≡ charge_of 1 s) where
+  pub opened-refused : {g : Stop} → y ≡ Err g → Opens at st l l s i j (Err g)
   unfolding opened_rule
   opened-refused e =
       let q = charge_failed 1 s f e in
       rw q.is (record { means = λ a b k here u v w. stops _ (then_no _ (charge-no 1 s (store_of st) q.short)) })
 
-  module _ {u : State} (e : y ≡ charged.Paid u) where
+  module _ {u : State} (e : y ≡ Ok u) where
     pub opened-ready : ReadyToOpen l st s i j at → ReadyToOpen l st (unpaid u) i j at
     opened-ready r = rw (unpaid-is (charge_went 1 s f e)) r
 
-    pub opened-paid : {l1 : List ℕ} {x : Opening} → OpensPaid at st l l1 u i j x → Opens at st l l1 s i j x
+    pub opened-paid : {l1 : List ℕ} {x : Result Piece Stop} → OpensPaid at st l l1 u i j x → Opens at st l l1 s i j x
     unfolding opened_rule
     opened-paid {l1} {x} v =
         let w = charge_went 1 s f e in
@@ -268,7 +261,7 @@ module _ {l st : List ℕ} {s : State} {i j : ℕ} {at : Place} {y : Charged} (f
           means = λ a b k here p q h.
               let z : opened_rule k here a b (state_of s (store_of st)) ≡ open_rule k here a b (state_of u (store_of st)) =
               then_ok _ (charge-ok 1 s (store_of st) w.enough) ∙ ap (λ (t : State). open_rule k here a b (state_of t (store_of st))) (sym w.is) in
-              let d : Agrees pieces 2 open_spare l l1 s (store_of st) (open_rule k here a b (state_of u (store_of st))) (opening_of x) = rw (unpaid-is w) at (v.means a b k here (rw was p) (rw was q) (rw was h)) in
+              let d : Agrees pieces 2 open_spare l l1 s (store_of st) (open_rule k here a b (state_of u (store_of st))) x = rw (unpaid-is w) at (v.means a b k here (rw was p) (rw was q) (rw was h)) in
               rw z d;
         }
 

@@ -1,23 +1,24 @@
 -- The names of the stops: one law for each way out.
 use mathlib.Core.Path.{◌≡◌, refl, sym, ap, ◌∙◌}
 use mathlib.Core.Bool.{Bool, true, false, not, false≢true}
+use mathlib.Core.Logic.{◌⊎◌, inl, inr}
 use mathlib.Core.List.{List, [], ◌∷◌, ◌++◌, append-nil, append_assoc}
 use mathlib.Core.Option.{Option, none, some}
 use Prim.Native.Nat.{ℕ, ◌+◌, ◌*◌, ◌≤◌, ◌<◌}
 use native.Mathlib.Omega.{arith}
 use borrow.Author.Tests.{not-true, not-false}
 use lib.ListN.{length}
+use Rattle.std.specs.Prelude.{Result, Ok, Err}
 use Rattle.model.specs.Choice.{given}
 use Rattle.model.specs.Refusals.{wrong_argument}
-use Rattle.model.specs.Objects.{symbol, Stx, atom}
+use Rattle.model.specs.Objects.{symbol, atom}
 use Rattle.model.specs.Trees.{Tree, stx, Trees, tcons}
-use Rattle.model.specs.Competing.{no_rivals}
 use Rattle.model.specs.Meanings as m
 use Rattle.model.specs.Meanings.{core, variable, macro, stopped, unknown, Env, meaning}
 use Rattle.model.specs.Steps as ms
 use Rattle.model.specs.Steps.{ok, no, after, resolve_at, unless, identifier}
 use Rattle.model.specs.Evaluating.{Id, as_id, as_ids, known, stop_names}
-use Rattle.environment.specs.Meanings.{RepE, Known, has, unclear, Means}
+use Rattle.environment.specs.Meanings.{RepE, Known, Means}
 use Rattle.environment.specs.declared.Place.{Place}
 use Rattle.environment.specs.declared.Meaning.{Meaning}
 use Rattle.environment.specs.declared.Meaning.TheVariants as meant
@@ -29,17 +30,13 @@ use Rattle.forms.specs.declared.Naming.TheVariants.{Named, Unclear, Unnamed}
 use Rattle.forms.proofs.Names.{on_named, on_unclear, on_unnamed, identifier-named, identifier-unclear}
 use Rattle.refusals.specs.declared.Refusal.TheVariants.{WrongArgument}
 use Rattle.scopes.specs.declared.Name.{Name}
-use Rattle.scoping.specs.Fresh.{paid_of}
-use Rattle.steps.specs.States.{Store, store_of, Held, state_of, stop_of, ambiguous_of}
-use Rattle.steps.specs.Agreement.{Later, Gave, Agrees, gives, stops}
+use Rattle.steps.specs.States.{store_of, state_of, stop_of, ambiguous_of}
+use Rattle.steps.specs.Agreement.{Later, gives, stops}
 use Rattle.steps.specs.declared.State.{State}
 use Rattle.steps.specs.declared.Stop.{Stop}
-use Rattle.steps.specs.declared.Charged.{Charged}
-use Rattle.steps.specs.declared.Charged.TheVariants as charged
 use Rattle.steps.proofs.Laws.{then_ok, then_no, unless-ok, unless-no, after-after, after-done, on_done, on_refused, later_refl, since}
-use Rattle.stops.specs.Stops.{stops_size, stop_names as mostStops, Bits, Inside, Stopped}
+use Rattle.stops.specs.Stops.{stop_names as mostStops, Bits, Inside, Stopped}
 use Rattle.store.specs.Sizes.{binding_size}
-use Rattle.store.specs.Words.{binds_of}
 use Rattle.store.specs.declared.rivals.Rivals.{Rivals}
 use Rattle.table.specs.Sizes.{cell_size}
 use Rattle.table.specs.Words.{get_cell, Same}
@@ -50,7 +47,7 @@ use Rattle.things.specs.Measuring.{Seen}
 use Rattle.things.proofs.Frame.{stays_p}
 use Rattle.things.proofs.ByTag.{part_at, none-at}
 use Rattle.asking.specs.Answering.{around}
-use Rattle.asking.specs.Stopping.{HasMeaning, Lying, ShownStop, one_more, named_rule, ReadyNamed, StopsNamed, stop_rule, ReadyStop, StopsOne, ShownNames, named, ReadyStops, StopsAll}
+use Rattle.asking.specs.Stopping.{HasMeaning, named_rule, ReadyNamed, StopsNamed, stop_rule, ReadyStop, StopsOne, ReadyStops, StopsAll}
 use Rattle.asking.proofs.ByKind.{id_back, ids-none}
 
 -- ---- a name's meaning
@@ -59,43 +56,59 @@ module _ {l : List ℕ} {e n : ℕ} {w : Meaning} (p : Means l e n w) where
   told-by : {t : Bool} → ((top : ℕ) (env : Env) → RepE l top e env → t ≡ known (meaning n env)) → HasMeaning l e n t
   told-by f = record { means = f }
 
-  pub meaning-lambda : w ≡ meant.Lambda → HasMeaning l e n true
+  meaning-lambda : w ≡ meant.Lambda → HasMeaning l e n true
   unfolding known
   meaning-lambda z = told-by (λ top env r. sym (ap known (has-is (on_lambda (p.means top env r) z))))
 
-  pub meaning_let_syntax : w ≡ meant.LetSyntax → HasMeaning l e n true
+  meaning_let_syntax : w ≡ meant.LetSyntax → HasMeaning l e n true
   unfolding known
   meaning_let_syntax z = told-by (λ top env r. sym (ap known (has-is (on_let_syntax (p.means top env r) z))))
 
-  pub meaning-quote : w ≡ meant.Quote → HasMeaning l e n true
+  meaning-quote : w ≡ meant.Quote → HasMeaning l e n true
   unfolding known
   meaning-quote z = told-by (λ top env r. sym (ap known (has-is (on_quote (p.means top env r) z))))
 
-  pub meaning-syntax : w ≡ meant.Syntax → HasMeaning l e n true
+  meaning-syntax : w ≡ meant.Syntax → HasMeaning l e n true
   unfolding known
   meaning-syntax z = told-by (λ top env r. sym (ap known (has-is (on_syntax (p.means top env r) z))))
 
-  pub meaning-variable : {v : ℕ} → w ≡ meant.Variable v → HasMeaning l e n true
+  meaning-variable : {v : ℕ} → w ≡ meant.Variable v → HasMeaning l e n true
   unfolding known
   meaning-variable z = told-by (λ top env r. sym (ap known (has-is (on_variable (p.means top env r) z).is)))
 
-  pub meaning-macro : {v : ℕ} → w ≡ meant.Macro v → HasMeaning l e n true
+  meaning-macro : {v : ℕ} → w ≡ meant.Macro v → HasMeaning l e n true
   unfolding known
   meaning-macro z = told-by (λ top env r. sym (ap known (has-is (on_macro (p.means top env r) z).is)))
 
-  pub meaning-stopped : w ≡ meant.Stopped → HasMeaning l e n true
+  meaning-stopped : w ≡ meant.Stopped → HasMeaning l e n true
   unfolding known
   meaning-stopped z = told-by (λ top env r. sym (ap known (has-is (on_stopped (p.means top env r) z))))
 
-  pub meaning-unknown : w ≡ meant.Unknown → HasMeaning l e n false
+  meaning-unknown : w ≡ meant.Unknown → HasMeaning l e n false
   unfolding known
   meaning-unknown z = told-by (λ top env r. sym (ap known (has-is (on_unknown (p.means top env r) z))))
 
   -- a name is never ambiguous
-  pub meaning-unclear : {v : Rivals} {t : Bool} → w ≡ meant.Unclear v → HasMeaning l e n t
+  meaning-unclear : {v : Rivals} {t : Bool} → w ≡ meant.Unclear v → HasMeaning l e n t
   meaning-unclear z = told-by (λ top env r. let d = on_meaning_unclear (p.means top env r) z in let y : ◌≡◌ {A = ℕ} 0 1 = cc in absurd (omega arith))
 
-pub ruleset meaning_laws = (meaning-lambda, meaning_let_syntax, meaning-quote, meaning-syntax, meaning-variable, meaning-macro, meaning-stopped, meaning-unknown, meaning-unclear)
+  pub meaning-none : (w ≡ meant.Unknown) ⊎ ((v : Rivals) × (w ≡ meant.Unclear v)) → HasMeaning l e n false
+  meaning-none (inl z) = meaning-unknown z
+  meaning-none (inr z) = meaning-unclear z.1
+
+  pub meaning-some : (w ≡ meant.Unknown → ⊥) → ((v : Rivals) → w ≡ meant.Unclear v → ⊥) → HasMeaning l e n true
+  meaning-some h k = by w refl
+    where
+      by : (x : Meaning) → w ≡ x → HasMeaning l e n true
+      by meant.Lambda z = meaning-lambda z
+      by meant.LetSyntax z = meaning_let_syntax z
+      by meant.Quote z = meaning-quote z
+      by meant.Syntax z = meaning-syntax z
+      by (meant.Variable v) z = meaning-variable z
+      by (meant.Macro v) z = meaning-macro z
+      by meant.Stopped z = meaning-stopped z
+      by meant.Unknown z = absurd (h z)
+      by (meant.Unclear v) z = absurd (k v z)
 
 -- ---- one name more
 
@@ -111,7 +124,7 @@ module _ {l : List ℕ} {s : State} {e : ℕ} (r : ReadyNamed l s e) where
   named-known = record { top = s.top; thing = r.meant; shown = r.known; inside = omega (arith, r.lying.fits); small = r.lying.small }
 
   module _ {n : ℕ} {t : Bool} (k : HasMeaning l e n t) where
-    pub named-wrong : {f : Stop} → not t ≡ true → f ≡ stop_of WrongArgument s → StopsNamed e l l s n (charged.Refused f)
+    pub named-wrong : {f : Stop} → not t ≡ true → f ≡ stop_of WrongArgument s → StopsNamed e l l s n (Err f)
     unfolding named_rule
     named-wrong h same =
         rw same (record { means = λ b env a. stops _ (then_no _ (unless-no wrong_argument (state_of s b) (sym (k.means s.top env a) ∙ not-true t h))) })
@@ -122,7 +135,7 @@ module _ {l : List ℕ} {s : State} {e : ℕ} (r : ReadyNamed l s e) where
           let small : n < mostStops = meant_small r.known n (known-unknown _ (sym (k.means s.top r.meant r.known) ∙ not-false t g)) in
           record { fits = r.lying.fits; small = r.lying.small; named = small }
 
-      pub named-stopped : {l1 : List ℕ} → Stopped l l1 s.top n → StopsNamed e l l1 s n (charged.Paid s)
+      pub named-stopped : {l1 : List ℕ} → Stopped l l1 s.top n → StopsNamed e l l1 s n (Ok s)
       unfolding named_rule
       named-stopped v = record {
         means = λ b env a. gives s (record {
@@ -149,17 +162,17 @@ module _ {l st : List ℕ} {s : State} {i : ℕ} {at : Place} (r : ReadyStop l s
 
 module _ {l st : List ℕ} {s : State} {i : ℕ} {at : Place} {v : Naming} (p : Names at.phase st s.bindings l i v) where
   -- an identifier has a name
-  pub one_unnamed : {l1 : List ℕ} {x : Charged} → v ≡ Unnamed → StopsOne at st l l1 s i x
+  pub one_unnamed : {l1 : List ℕ} {x : Result State Stop} → v ≡ Unnamed → StopsOne at st l l1 s i x
   unfolding name_found
   one_unnamed z = record { means = λ d e zs a b. let q = on_unnamed p a z in let y : ◌≡◌ {A = ℕ} 0 1 = cc in absurd (omega arith) }
 
-  pub one-unclear : {k : Rivals} → v ≡ Unclear k → StopsOne at st l l s i (charged.Refused (ambiguous_of k s))
+  pub one-unclear : {k : Rivals} → v ≡ Unclear k → StopsOne at st l l s i (Err (ambiguous_of k s))
   unfolding stop_rule identifier
   one-unclear z = record {
     means = λ d e zs a b. stops _ (identifier-unclear at.phase (state_of s (store_of st)) (λ n. named_rule e n) (atom d.sets (symbol d.symb)) (on_unclear p a z));
   }
 
-  pub one-named : {l1 : List ℕ} {n : Name} {x : Charged} → v ≡ Named n → StopsNamed at.meanings l l1 s n.0 x → StopsOne at st l l1 s i x
+  pub one-named : {l1 : List ℕ} {n : Name} {x : Result State Stop} → v ≡ Named n → StopsNamed at.meanings l l1 s n.0 x → StopsOne at st l l1 s i x
   unfolding stop_rule identifier
   one-named {n = n} z g = record {
     means = λ d e zs a b.
@@ -232,7 +245,7 @@ module _ {at : Place} {st l₀ : List ℕ} {s : State} {c : ℕ} {l : List ℕ} 
   pub stopping-long : length l ≡ length l₀
   stopping-long = w.long
 
-  pub stopping-ended : k ≡ 0 → StopsAll at st l₀ l s c (charged.Paid s)
+  pub stopping-ended : k ≡ 0 → StopsAll at st l₀ l s c (Ok s)
   stopping-ended h = record {
     means = λ ts ids e zs a f b.
         let q = w.means ts ids e zs a f b in
@@ -277,7 +290,7 @@ module _ {at : Place} {st l₀ : List ℕ} {s : State} {c : ℕ} {l : List ℕ} 
         held = w.ready.held;
       }
 
-      module _ {l1 : List ℕ} {t : Charged} (g : StopsOne at st l l1 s x.head t) where
+      module _ {l1 : List ℕ} {t : Result State Stop} (g : StopsOne at st l l1 s x.head t) where
         rule_is : {ids : List Id} {env : Env} {zs : List ℕ} (q : StopsLeft at st l s k ids env zs)
             → stop_names (around env zs at) ids (state_of s (store_of st))
             ≡ after (stop_rule (around env zs at) (split_left q).first (state_of s (store_of st))) (λ a z. after (stop_names (around env zs at) (split_left q).others z) (λ r v. ok (q.seen ++ a ∷ r) v))
@@ -291,17 +304,17 @@ module _ {at : Place} {st l₀ : List ℕ} {s : State} {c : ℕ} {l : List ℕ} 
             ∙ after-after (stop_rule here p.first y) _ _
             ∙ (λ j. after (stop_rule here p.first y) (λ a z. after-after (stop_names here p.others z) (λ r w. ok (a ∷ r) w) (λ r v. ok (q.seen ++ r) v) j))
 
-        pub stopping-refused : {f : Stop} → t ≡ charged.Refused f → StopsAll at st l₀ l1 s c (charged.Refused f)
+        pub stopping-refused : {f : Stop} → t ≡ Err f → StopsAll at st l₀ l1 s c (Err f)
         stopping-refused h = record {
           means = λ ts ids env zs a f b.
               let q = w.means ts ids env zs a f b in
-              stops _ (rule_is q ∙ then_no _ (on_refused (g.means (split_left q).first env zs (id-shown q) q.meant) (ap paid_of h)));
+              stops _ (rule_is q ∙ then_no _ (on_refused (g.means (split_left q).first env zs (id-shown q) q.meant) h));
         }
 
-        pub stopping-more : {u : State} → t ≡ charged.Paid u → length l1 ≡ length l → Stopping at st l₀ s c l1 x.tail
+        pub stopping-more : {u : State} → t ≡ Ok u → length l1 ≡ length l → Stopping at st l₀ s c l1 x.tail
         stopping-more {u} h len =
             let first = g.means (split_left here-left).first w.ready.meant [] (id-shown here-left) here-left.meant in
-            let keeps : Same s.top l l1 = (on_done first (ap paid_of h)).later.kept in
+            let keeps : Same s.top l l1 = (on_done first h).later.kept in
             record {
               ready = w.ready;
               long = len ∙ w.long;
@@ -309,7 +322,7 @@ module _ {at : Place} {st l₀ : List ℕ} {s : State} {c : ℕ} {l : List ℕ} 
               means = λ ts ids env zs a f b.
                   let q = w.means ts ids env zs a f b in
                   let p = part_at q.shown n e in
-                  let o = on_done (g.means (split_left q).first env zs (id-shown q) q.meant) (ap paid_of h) in
+                  let o = on_done (g.means (split_left q).first env zs (id-shown q) q.meant) h in
                   let y = state_of s (store_of st) in
                   record {
                     parts = p.others;

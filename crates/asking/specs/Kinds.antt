@@ -1,13 +1,11 @@
 -- The kinds of arguments that primitives 7 to 9 take.
-use Rattle.std.specs.Prelude.{◌≡◌, Bool, true, false, List, ℕ}
+use Rattle.std.specs.Prelude.{◌≡◌, Bool, true, false, List, ℕ, Option, Some, None}
 use Rattle.std.proofs.Math.Option.{none, some}
 use Rattle.model.specs.Choice.{given}
-use Rattle.model.specs.Objects.{Sets, symbol, Stx, atom}
+use Rattle.model.specs.Objects.{symbol, Stx, atom}
 use Rattle.model.specs.Trees.{Tree, stx, Trees, as_stx, as_list}
 use Rattle.model.specs.Evaluating.{Id, as_id, as_ids}
 use Rattle.things.specs.Rep.{Rep, RepP}
-use Rattle.asking.specs.declared.kinds.Listed.{Listed}
-use Rattle.asking.specs.declared.kinds.Listed.TheVariants as listed
 
 pub record ObjectAt (t : Tree) : Type 0 where
   pub object : Stx
@@ -41,12 +39,12 @@ pub record IdsAt (l : List ℕ) (top c : ℕ) (t : Tree) : Type 0 where
   pub are : as_ids parts ≡ some ids
   pub is : given (as_list t) as_ids ≡ some ids
 
-unfoldable pub ListedAs : List ℕ → ℕ → Listed → Tree → Type 0
-ListedAs l top (listed.At c) t = IdsAt l top c t
-ListedAs l top listed.Not t = given (as_list t) as_ids ≡ none
+unfoldable pub ListedAs : List ℕ → ℕ → Option ℕ → Tree → Type 0
+ListedAs l top (Some c) t = IdsAt l top c t
+ListedAs l top None t = given (as_list t) as_ids ≡ none
 
-pub record ListedIs (l : List ℕ) (top : ℕ) (r : Listed) (t : Tree) : Type 0 where
+pub record ListedIs (l : List ℕ) (top : ℕ) (r : Option ℕ) (t : Tree) : Type 0 where
   pub told : ListedAs l top r t
 
-pub record ListsIds (l : List ℕ) (i : ℕ) (r : Listed) : Type 0 where
+pub record ListsIds (l : List ℕ) (i : ℕ) (r : Option ℕ) : Type 0 where
   pub means : (top : ℕ) (t : Tree) → Rep l top i t → ListedIs l top r t

@@ -1,5 +1,6 @@
 -- Primitive 8 up to what is expanded: the object with the introduction scope flipped, and the names of its stops.
-use Rattle.std.specs.Prelude.{◌≡◌, List, ℕ, ◌+◌, ◌-◌, ◌≤◌}
+use Rattle.steps.specs.declared.Stop.{Stop}
+use Rattle.std.specs.Prelude.{◌≡◌, List, ℕ, ◌+◌, ◌-◌, ◌≤◌, Result}
 use Rattle.std.proofs.Math.Option.{Option, none, some}
 use Rattle.model.specs.Choice.{given}
 use Rattle.model.specs.Refusals.{wrong_argument}
@@ -16,7 +17,7 @@ use Rattle.parse.specs.Parsing.{unpaid}
 use Rattle.scopes.specs.Sets.{Declared}
 use Rattle.scoping.specs.Changing.{change_rule}
 use Rattle.steps.specs.States.{Store, store_of, Held, state_of, Room}
-use Rattle.steps.specs.Agreement.{Shape, Ended, done as ends, refused, Agrees}
+use Rattle.steps.specs.Agreement.{Shape, Agrees}
 use Rattle.steps.specs.declared.State.{State}
 use Rattle.stops.specs.Stops.{stops_size, RepZ}
 use Rattle.store.specs.Sizes.{most_bindings}
@@ -24,8 +25,6 @@ use Rattle.table.specs.Sizes.{unit_size, node_spare}
 use Rattle.things.specs.Rep.{Rep, RepP}
 use Rattle.asking.specs.Answering.{around}
 use Rattle.asking.specs.declared.Piece.{Piece}
-use Rattle.asking.specs.declared.Opening.{Opening}
-use Rattle.asking.specs.declared.Opening.TheVariants as opening
 
 pub record Opened : Type 0 where
   pub object : Stx
@@ -39,10 +38,6 @@ pub record ShownPiece (l : List ℕ) (o : Piece) (k : Opened) : Type 0 where
 abbrev pub pieces : Shape Opened Piece
 pieces = record { shows = λ l o k. ShownPiece l o k; state = λ o. o.state }
 
-abbrev pub opening_of : Opening → Ended Piece
-opening_of (opening.Done o) = ends o
-opening_of (opening.Refused f) = refused f
-
 -- ---- the flip
 
 unfoldable pub flip_rule : ℕ → ℕ → Stx → List ℕ → Step Opened
@@ -51,9 +46,9 @@ flip_rule k ph x zs = do
   y ← change_rule (flip_scope k ph) x
   done (record { object = y; names = zs })
 
-pub record Flips (ph k z : ℕ) (l l' : List ℕ) (s : State) (i : ℕ) (r : Opening) : Type 0 where
+pub record Flips (ph k z : ℕ) (l l' : List ℕ) (s : State) (i : ℕ) (r : Result Piece Stop) : Type 0 where
   pub means : (b : Store) (x : Stx) (zs : List ℕ) → Rep l s.top i (stx x) → RepZ l s.top z zs
-      → Agrees pieces 1 node_spare l l' s b (flip_rule k ph x zs (state_of s b)) (opening_of r)
+      → Agrees pieces 1 node_spare l l' s b (flip_rule k ph x zs (state_of s b)) r
 
 -- ---- by the object and the identifiers
 
@@ -81,9 +76,9 @@ pub record ReadyParts (l st : List ℕ) (s : State) (i c : ℕ) (at : Place) : T
   pub room : Room l s
   pub held : Held st s
 
-pub record OpensParts (at : Place) (st l l' : List ℕ) (s : State) (i c : ℕ) (r : Opening) : Type 0 where
+pub record OpensParts (at : Place) (st l l' : List ℕ) (s : State) (i c : ℕ) (r : Result Piece Stop) : Type 0 where
   pub means : (x : Stx) (ts : Trees) (ids : List Id) (e : Env) (zs : List ℕ) → Rep l s.top i (stx x) → RepP l s.top c ts → as_ids ts ≡ some ids → RepE l s.top at.meanings e
-      → Agrees pieces 2 open_spare l l' (unpaid s) (store_of st) (open_parts at.intro.0 (around e zs at) x ids (state_of s (store_of st))) (opening_of r)
+      → Agrees pieces 2 open_spare l l' (unpaid s) (store_of st) (open_parts at.intro.0 (around e zs at) x ids (state_of s (store_of st))) r
 
 -- ---- by two values, of whatever kind
 
@@ -120,10 +115,10 @@ pub record ReadyToOpen (l st : List ℕ) (s : State) (i j : ℕ) (at : Place) : 
   pub room : Room l s
   pub held : Held st s
 
-pub record OpensPaid (at : Place) (st l l' : List ℕ) (s : State) (i j : ℕ) (r : Opening) : Type 0 where
+pub record OpensPaid (at : Place) (st l l' : List ℕ) (s : State) (i j : ℕ) (r : Result Piece Stop) : Type 0 where
   pub means : (a b : Tree) (k : ℕ) (here : m.Surroundings) → Rep l s.top i a → Rep l s.top j b → RepPlace l s.top at (m.macro_use k here)
-      → Agrees pieces 2 open_spare l l' (unpaid s) (store_of st) (open_rule k here a b (state_of s (store_of st))) (opening_of r)
+      → Agrees pieces 2 open_spare l l' (unpaid s) (store_of st) (open_rule k here a b (state_of s (store_of st))) r
 
-pub record Opens (at : Place) (st l l' : List ℕ) (s : State) (i j : ℕ) (r : Opening) : Type 0 where
+pub record Opens (at : Place) (st l l' : List ℕ) (s : State) (i j : ℕ) (r : Result Piece Stop) : Type 0 where
   pub means : (a b : Tree) (k : ℕ) (here : m.Surroundings) → Rep l s.top i a → Rep l s.top j b → RepPlace l s.top at (m.macro_use k here)
-      → Agrees pieces 2 open_spare l l' s (store_of st) (opened_rule k here a b (state_of s (store_of st))) (opening_of r)
+      → Agrees pieces 2 open_spare l l' s (store_of st) (opened_rule k here a b (state_of s (store_of st))) r

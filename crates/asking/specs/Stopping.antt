@@ -1,5 +1,5 @@
 -- The names of the stops of a local expansion, and their bits.
-use Rattle.std.specs.Prelude.{◌≡◌, Bool, List, [], ◌∷◌, ◌++◌, ℕ, ◌+◌, ◌≤◌, length}
+use Rattle.std.specs.Prelude.{◌≡◌, Bool, List, [], ◌∷◌, ◌++◌, ℕ, ◌+◌, ◌≤◌, length, Result}
 use Rattle.std.proofs.Math.Option.{some}
 use Rattle.model.specs.Refusals.{wrong_argument}
 use Rattle.model.specs.Objects.{symbol, atom}
@@ -10,11 +10,10 @@ use Rattle.model.specs.Steps.{Step, ◌>>=◌, ◌>>◌, done, unless, resolve_a
 use Rattle.model.specs.Evaluating.{Id, as_ids, known, stop_names}
 use Rattle.environment.specs.Meanings.{RepE}
 use Rattle.environment.specs.declared.Place.{Place}
-use Rattle.scoping.specs.Fresh.{paid_of}
 use Rattle.steps.specs.States.{Store, store_of, Held, state_of}
 use Rattle.steps.specs.Agreement.{Shape, Agrees}
 use Rattle.steps.specs.declared.State.{State}
-use Rattle.steps.specs.declared.Charged.{Charged}
+use Rattle.steps.specs.declared.Stop.{Stop}
 use Rattle.stops.specs.Stops.{stops_size, Bits}
 use Rattle.table.specs.Sizes.{table_size}
 use Rattle.things.specs.Rep.{Rep, RepP}
@@ -49,8 +48,8 @@ pub record ReadyNamed (l : List ℕ) (s : State) (e : ℕ) : Type 0 where
   pub known : RepE l s.top e meant
   pub lying : Lying l s
 
-pub record StopsNamed (e : ℕ) (l l' : List ℕ) (s : State) (n : ℕ) (r : Charged) : Type 0 where
-  pub means : (b : Store) (env : Env) → RepE l s.top e env → Agrees (one_more s l) 0 0 l l' s b (named_rule env n (state_of s b)) (paid_of r)
+pub record StopsNamed (e : ℕ) (l l' : List ℕ) (s : State) (n : ℕ) (r : Result State Stop) : Type 0 where
+  pub means : (b : Store) (env : Env) → RepE l s.top e env → Agrees (one_more s l) 0 0 l l' s b (named_rule env n (state_of s b)) r
 
 -- ---- of an identifier
 
@@ -68,9 +67,9 @@ pub record ReadyStop (l st : List ℕ) (s : State) (i : ℕ) (at : Place) : Type
   pub lying : Lying l s
   pub held : Held st s
 
-pub record StopsOne (at : Place) (st l l' : List ℕ) (s : State) (i : ℕ) (r : Charged) : Type 0 where
+pub record StopsOne (at : Place) (st l l' : List ℕ) (s : State) (i : ℕ) (r : Result State Stop) : Type 0 where
   pub means : (d : Id) (e : Env) (zs : List ℕ) → Rep l s.top i (stx (atom d.sets (symbol d.symb))) → RepE l s.top at.meanings e
-      → Agrees (one_more s l) 0 0 l l' s (store_of st) (stop_rule (around e zs at) d (state_of s (store_of st))) (paid_of r)
+      → Agrees (one_more s l) 0 0 l l' s (store_of st) (stop_rule (around e zs at) d (state_of s (store_of st))) r
 
 -- ---- of a chain of identifiers
 
@@ -92,6 +91,6 @@ pub record ReadyStops (l st : List ℕ) (s : State) (c : ℕ) (at : Place) : Typ
   pub held : Held st s
   pub bits : Bits l s.top []
 
-pub record StopsAll (at : Place) (st l l' : List ℕ) (s : State) (c : ℕ) (r : Charged) : Type 0 where
+pub record StopsAll (at : Place) (st l l' : List ℕ) (s : State) (c : ℕ) (r : Result State Stop) : Type 0 where
   pub means : (ts : Trees) (ids : List Id) (e : Env) (zs : List ℕ) → RepP l s.top c ts → as_ids ts ≡ some ids → RepE l s.top at.meanings e
-      → Agrees (named s) 0 0 l l' s (store_of st) (stop_names (around e zs at) ids (state_of s (store_of st))) (paid_of r)
+      → Agrees (named s) 0 0 l l' s (store_of st) (stop_names (around e zs at) ids (state_of s (store_of st))) r

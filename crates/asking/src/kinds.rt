@@ -8,19 +8,17 @@ pub fn is_object(table: &[u32], i: u32) -> bool
     requires { Seen table.now i }
     ensures { IsObject table.now i result }
 {
-    let n = table::get_node(table, i);
-    n.tag <= Node::LIST
+    table::get_node(table, i).tag <= Node::LIST
 }
 
 pub fn is_id(table: &[u32], i: u32) -> bool
     requires { Seen table.now i }
     ensures { IsId table.now i result }
 {
-    let n = table::get_node(table, i);
-    n.tag == Node::SYMBOL
+    table::get_node(table, i).tag == Node::SYMBOL
 }
 
-// Of a chain.
+// Of a chain. An iterator over its cells, for two walks of all, is no plainer.
 fn all_ids(table: &[u32], c: u32) -> bool
     requires { SeenP table.now c }
     ensures { AllIds table.now c result }
@@ -36,23 +34,17 @@ fn all_ids(table: &[u32], c: u32) -> bool
     true
 }
 
-#[derive(Clone, Copy)]
-pub enum Listed {
-    // Their chain.
-    At(u32),
-    Not,
-}
-
-pub fn ids_in(table: &[u32], i: u32) -> Listed
+// Their chain.
+pub fn ids_in(table: &[u32], i: u32) -> Option<u32>
     requires { Seen table.now i }
     ensures { ListsIds table.now i result }
 {
     let n = table::get_node(table, i);
     if n.tag != Node::LIST_VALUE {
-        return Listed::Not;
+        return None;
     }
     if !all_ids(table, n.content) {
-        return Listed::Not;
+        return None;
     }
-    Listed::At(n.content)
+    Some(n.content)
 }

@@ -13,44 +13,36 @@ ghost use Rattle.asking.specs.Answering.{ReadyId, AsksMeaning, FitsToBind, Ready
 ghost use Rattle.asking.specs.Pieces.{Flips, ReadyParts, OpensParts, ReadyToOpen, OpensPaid, Opens};
 
 use environment::{Meaning, Place};
-use kinds::Listed;
 use refusals::Refusal;
 use scopes::Scope;
-use steps::{Answer, Charged, Out, State, Stop};
+use steps::{Out, State, Stop};
 use store::carried;
 
 // ---- 7 and 9
 
 // 7: a macro's value.
-fn meaning_asked(table: &[u32], store: &[u64], s: State, x: u32, at: Place) -> Answer
+fn meaning_asked(table: &[u32], store: &[u64], s: State, x: u32, at: Place) -> Result<Out, Stop>
     requires { ReadyId table.now store.now s x at }
     ensures { AsksMeaning at store.now table.now s x result }
 {
     match environment::meaning_of(table, store, s.bindings, x, at.phase, at.meanings, at.stops) {
-        Meaning::Macro(v) => Answer::Done(Out { at: v, state: s }),
+        Meaning::Macro(v) => Ok(Out { at: v, state: s }),
         Meaning::Unclear(rivals) => s.ambiguous(rivals),
-        Meaning::Lambda => s.refuse(Refusal::WrongArgument),
-        Meaning::LetSyntax => s.refuse(Refusal::WrongArgument),
-        Meaning::Quote => s.refuse(Refusal::WrongArgument),
-        Meaning::Syntax => s.refuse(Refusal::WrongArgument),
-        Meaning::Variable(_) => s.refuse(Refusal::WrongArgument),
-        Meaning::Stopped => s.refuse(Refusal::WrongArgument),
-        Meaning::Unknown => s.refuse(Refusal::WrongArgument),
+        _ => s.refuse(Refusal::WrongArgument),
     }
 }
 
 // 9: an identifier without the use scopes.
-fn fit_to_bind(table: &mut [u32], store: &[u64], s: State, x: u32, phase: u32) -> Answer
+fn fit_to_bind(table: &mut [u32], store: &[u64], s: State, x: u32, phase: u32) -> Result<Out, Stop>
     requires { ReadyObject table.old s x × (held_size ≤ length store.now) }
     ensures { FitsToBind phase store.now table.old table.new s x result }
 {
-    let c = carried::get(store);
-    let uses = c.uses;
+    let uses = carried::get(store).uses;
     scoping::prune_from(table, s, x, phase, uses)
 }
 
 // After the charge.
-fn asked(table: &mut [u32], store: &[u64], s: State, p: u32, x: u32, at: Place) -> Answer
+fn asked(table: &mut [u32], store: &[u64], s: State, p: u32, x: u32, at: Place) -> Result<Out, Stop>
     requires { ReadyToAsk table.old store.now s x at }
     ensures { AnswersPaid p at store.now table.old table.new s x result }
 {
@@ -63,14 +55,19 @@ fn asked(table: &mut [u32], store: &[u64], s: State, p: u32, x: u32, at: Place) 
     fit_to_bind(table, store, s, x, at.phase)
 }
 
-pub fn answer(table: &mut [u32], store: &[u64], s: State, p: u32, x: u32, at: Place) -> Answer
+pub fn answer(
+    table: &mut [u32],
+    store: &[u64],
+    s: State,
+    p: u32,
+    x: u32,
+    at: Place,
+) -> Result<Out, Stop>
     requires { ReadyToAsk table.old store.now s x at }
     ensures { Answers p at store.now table.old table.new s x result }
 {
-    match s.charge(1) {
-        Charged::Refused(f) => Answer::Refused(f),
-        Charged::Paid(t) => asked(table, store, t, p, x, at),
-    }
+    let t = s.charge(1)?;
+    asked(table, store, t, p, x, at)
 }
 
 // ---- 8, up to what is expanded
@@ -83,65 +80,74 @@ pub struct Piece {
     pub state: State,
 }
 
-#[derive(Clone, Copy)]
-pub enum Opening {
-    Done(Piece),
-    Refused(Stop),
-}
-
-fn flipped(table: &mut [u32], s: State, x: u32, phase: u32, intro: Scope, z: u32) -> Opening
+fn flipped(
+    table: &mut [u32],
+    s: State,
+    x: u32,
+    phase: u32,
+    intro: Scope,
+    z: u32,
+) -> Result<Piece, Stop>
     requires { ReadyObject table.old s x × Declared intro }
     ensures { Flips phase intro.0 z table.old table.new s x result }
 {
-    match scoping::flip_in(table, s, x, phase, intro) {
-        Answer::Refused(f) => Opening::Refused(f),
-        Answer::Done(o) => {
-            let state = o.state;
-            Opening::Done(Piece {
-                at: o.at,
-                stops: z,
-                state,
-            })
-        }
-    }
+    let o = scoping::flip_in(table, s, x, phase, intro)?;
+    Ok(Piece {
+        at: o.at,
+        stops: z,
+        state: o.state,
+    })
 }
 
 // By the object, and the chain of the identifiers. The unit charged before pays for the stops.
-fn open_parts(table: &mut [u32], store: &[u64], s: State, x: u32, c: u32, at: Place) -> Opening
+fn open_parts(
+    table: &mut [u32],
+    store: &[u64],
+    s: State,
+    x: u32,
+    c: u32,
+    at: Place,
+) -> Result<Piece, Stop>
     requires { ReadyParts table.old store.now (unpaid s) x c at }
     ensures { OpensParts at store.now table.old table.new s x c result }
 {
     let m = stops::none_yet(table, s.top);
-    match naming::stop_all(table, store, s, c, at) {
-        Charged::Refused(f) => Opening::Refused(f),
-        Charged::Paid(t) => {
-            let u = t.raised(m.top);
-            let intro = at.intro;
-            flipped(table, u, x, at.phase, intro, m.at)
-        }
-    }
+    let t = naming::stop_all(table, store, s, c, at)?;
+    flipped(table, t.raised(m.top), x, at.phase, at.intro, m.at)
 }
 
 // After the charge.
-fn open(table: &mut [u32], store: &[u64], s: State, x: u32, y: u32, at: Place) -> Opening
+fn open(
+    table: &mut [u32],
+    store: &[u64],
+    s: State,
+    x: u32,
+    y: u32,
+    at: Place,
+) -> Result<Piece, Stop>
     requires { ReadyToOpen table.old store.now (unpaid s) x y at }
     ensures { OpensPaid at store.now table.old table.new s x y result }
 {
     if !kinds::is_object(table, x) {
-        return Opening::Refused(s.stop(Refusal::WrongArgument));
+        return Err(s.stop(Refusal::WrongArgument));
     }
-    match kinds::ids_in(table, y) {
-        Listed::Not => Opening::Refused(s.stop(Refusal::WrongArgument)),
-        Listed::At(c) => open_parts(table, store, s, x, c, at),
-    }
+    let Some(c) = kinds::ids_in(table, y) else {
+        return Err(s.stop(Refusal::WrongArgument));
+    };
+    open_parts(table, store, s, x, c, at)
 }
 
-pub fn opened(table: &mut [u32], store: &[u64], s: State, x: u32, y: u32, at: Place) -> Opening
+pub fn opened(
+    table: &mut [u32],
+    store: &[u64],
+    s: State,
+    x: u32,
+    y: u32,
+    at: Place,
+) -> Result<Piece, Stop>
     requires { ReadyToOpen table.old store.now s x y at }
     ensures { Opens at store.now table.old table.new s x y result }
 {
-    match s.charge(1) {
-        Charged::Refused(f) => Opening::Refused(f),
-        Charged::Paid(t) => open(table, store, t, x, y, at),
-    }
+    let t = s.charge(1)?;
+    open(table, store, t, x, y, at)
 }

@@ -6,44 +6,37 @@ use environment::{Meaning, Place};
 use forms::Naming;
 use refusals::Refusal;
 use scopes::Name;
-use steps::{Charged, State, Stop};
+use steps::{State, Stop};
 
 // The stops of before are not asked for.
 fn has_meaning(table: &[u32], e: u32, n: Name) -> bool
     requires { Known table.now e }
     ensures { HasMeaning table.now e n.0 result }
 {
-    match environment::lookup(table, e, n) {
-        Meaning::Lambda => true,
-        Meaning::LetSyntax => true,
-        Meaning::Quote => true,
-        Meaning::Syntax => true,
-        Meaning::Variable(_) => true,
-        Meaning::Macro(_) => true,
-        Meaning::Stopped => true,
-        Meaning::Unknown => false,
-        Meaning::Unclear(_) => false,
-    }
+    !matches!(
+        environment::lookup(table, e, n),
+        Meaning::Unknown | Meaning::Unclear(_)
+    )
 }
 
-fn stop_named(table: &mut [u32], s: State, n: Name, e: u32) -> Charged
+fn stop_named(table: &mut [u32], s: State, n: Name, e: u32) -> Result<State, Stop>
     requires { ReadyNamed table.old s e }
     ensures { StopsNamed e table.old table.new s n.0 result }
 {
     if !has_meaning(table, e, n) {
-        return Charged::Refused(s.stop(Refusal::WrongArgument));
+        return Err(s.stop(Refusal::WrongArgument));
     }
     stops::stop(table, s.top, n);
-    Charged::Paid(s)
+    Ok(s)
 }
 
-fn stop_one(table: &mut [u32], store: &[u64], s: State, i: u32, at: Place) -> Charged
+fn stop_one(table: &mut [u32], store: &[u64], s: State, i: u32, at: Place) -> Result<State, Stop>
     requires { ReadyStop table.old store.now s i at }
     ensures { StopsOne at store.now table.old table.new s i result }
 {
     match forms::name_of(table, store, s.bindings, i, at.phase) {
-        Naming::Unnamed => Charged::Refused(s.stop(Refusal::WrongArgument)),
-        Naming::Unclear(rivals) => Charged::Refused(Stop {
+        Naming::Unnamed => Err(s.stop(Refusal::WrongArgument)),
+        Naming::Unclear(rivals) => Err(Stop {
             refusal: Refusal::Ambiguous,
             rivals,
             left: s.left,
@@ -52,20 +45,22 @@ fn stop_one(table: &mut [u32], store: &[u64], s: State, i: u32, at: Place) -> Ch
     }
 }
 
-// Of the chain c.
-pub fn stop_all(table: &mut [u32], store: &[u64], s: State, c: u32, at: Place) -> Charged
+// Of the chain c. The table that holds the chain is written meanwhile, so no iterator goes over it.
+pub fn stop_all(
+    table: &mut [u32],
+    store: &[u64],
+    s: State,
+    c: u32,
+    at: Place,
+) -> Result<State, Stop>
     requires { ReadyStops table.old store.now s c at }
     ensures { StopsAll at store.now table.old table.new s c result }
 {
     let mut k = c;
     while k != 0 {
         let x = table::get_cell(table, k);
-        match stop_one(table, store, s, x.head, at) {
-            Charged::Refused(f) => return Charged::Refused(f),
-            Charged::Paid(_) => {
-                k = x.tail;
-            }
-        }
+        stop_one(table, store, s, x.head, at)?;
+        k = x.tail;
     }
-    Charged::Paid(s)
+    Ok(s)
 }

@@ -1,15 +1,13 @@
-use Rattle.asking.proofs.Answering.{answer_laws}
-use Rattle.std.proofs.Common.{rules}
+use Rattle.std.proofs.Common.{rules, refl}
+use Rattle.refusals.proofs.Handing.{handed_on}
 use Rattle.asking.proofs.answer.Goals as goal
+use Rattle.asking.proofs.Answering.{answer_laws, answer-refused}
 
-pub charge-requires : goal.charge-requires
-charge-requires c = search (answer_laws, rules)
+pub returns-in_err-t : goal.returns-in_err-t
+returns-in_err-t c = rw (handed_on c.from_residual.ensures.1 refl) (answer-refused c.charge.ensures c.in_err-t.was)
 
 pub asked-requires : goal.asked-requires
-asked-requires c = search (answer_laws, rules)
+asked-requires c = search (answer_laws, rules, c.in_ok-t.was)
 
-pub returns-in-Refused : goal.returns-in-Refused
-returns-in-Refused c = search (answer_laws, rules)
-
-pub returns-in-Paid : goal.returns-in-Paid
-returns-in-Paid c = search (answer_laws, rules)
+pub returns : goal.returns
+returns c = search (answer_laws, rules, c.in_ok-t.was)

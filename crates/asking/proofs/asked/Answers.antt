@@ -1,12 +1,9 @@
-use Rattle.asking.proofs.Answering.{asked_laws}
 use Rattle.std.proofs.Common.{rules}
 use Rattle.asking.proofs.asked.Goals as goal
+use Rattle.asking.proofs.Answering.{asked_laws}
 
 pub is_id-requires : goal.is_id-requires
 is_id-requires c = search (asked_laws, rules)
-
-pub refuse-requires : goal.refuse-requires
-refuse-requires c = search (asked_laws, rules)
 
 pub returns-then-not-is_id : goal.returns-then-not-is_id
 returns-then-not-is_id c = search (asked_laws, rules)

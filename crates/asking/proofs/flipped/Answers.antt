@@ -1,12 +1,10 @@
-use Rattle.asking.proofs.Pieces.{flip_laws}
-use Rattle.std.proofs.Common.{rules}
+use Rattle.std.proofs.Common.{refl}
+use Rattle.refusals.proofs.Handing.{handed_on}
 use Rattle.asking.proofs.flipped.Goals as goal
+use Rattle.asking.proofs.Pieces.{flip-refused, flip-done}
 
-pub flip_in-requires : goal.flip_in-requires
-flip_in-requires c = search (flip_laws, rules)
+pub returns-in_err-o : goal.returns-in_err-o
+returns-in_err-o c = rw (handed_on c.from_residual.ensures.1 refl) (flip-refused c.flip_in.ensures c.in_err-o.was)
 
-pub returns-in-Refused : goal.returns-in-Refused
-returns-in-Refused c = search (flip_laws, rules)
-
-pub returns-in-Done : goal.returns-in-Done
-returns-in-Done c = search (flip_laws, rules)
+pub returns : goal.returns
+returns c = flip-done c.flip_in.ensures c.in_ok-o.was

@@ -1,33 +1,9 @@
-use Rattle.asking.proofs.Answering.{meaning_laws}
 use Rattle.std.proofs.Common.{rules}
 use Rattle.asking.proofs.meaning_asked.Goals as goal
+use Rattle.asking.proofs.Answering.{meaning_laws, asked-other}
 
 pub meaning_of-requires : goal.meaning_of-requires
 meaning_of-requires c = search (meaning_laws, rules)
-
-pub ambiguous-requires : goal.ambiguous-requires
-ambiguous-requires c = search (meaning_laws, rules)
-
-pub refuse-requires : goal.refuse-requires
-refuse-requires c = search (meaning_laws, rules)
-
-pub refuse-requires-in-LetSyntax : goal.refuse-requires-in-LetSyntax
-refuse-requires-in-LetSyntax c = search (meaning_laws, rules)
-
-pub refuse-requires-in-Quote : goal.refuse-requires-in-Quote
-refuse-requires-in-Quote c = search (meaning_laws, rules)
-
-pub refuse-requires-in-Syntax : goal.refuse-requires-in-Syntax
-refuse-requires-in-Syntax c = search (meaning_laws, rules)
-
-pub refuse-requires-in-Variable : goal.refuse-requires-in-Variable
-refuse-requires-in-Variable c = search (meaning_laws, rules)
-
-pub refuse-requires-in-Stopped : goal.refuse-requires-in-Stopped
-refuse-requires-in-Stopped c = search (meaning_laws, rules)
-
-pub refuse-requires-in-Unknown : goal.refuse-requires-in-Unknown
-refuse-requires-in-Unknown c = search (meaning_laws, rules)
 
 pub returns-in-Macro : goal.returns-in-Macro
 returns-in-Macro c = search (meaning_laws, rules)
@@ -35,23 +11,5 @@ returns-in-Macro c = search (meaning_laws, rules)
 pub returns-in-Unclear : goal.returns-in-Unclear
 returns-in-Unclear c = search (meaning_laws, rules)
 
-pub returns-in-Lambda : goal.returns-in-Lambda
-returns-in-Lambda c = search (meaning_laws, rules)
-
-pub returns-in-LetSyntax : goal.returns-in-LetSyntax
-returns-in-LetSyntax c = search (meaning_laws, rules)
-
-pub returns-in-Quote : goal.returns-in-Quote
-returns-in-Quote c = search (meaning_laws, rules)
-
-pub returns-in-Syntax : goal.returns-in-Syntax
-returns-in-Syntax c = search (meaning_laws, rules)
-
-pub returns-in-Variable : goal.returns-in-Variable
-returns-in-Variable c = search (meaning_laws, rules)
-
-pub returns-in-Stopped : goal.returns-in-Stopped
-returns-in-Stopped c = search (meaning_laws, rules)
-
-pub returns-in-Unknown : goal.returns-in-Unknown
-returns-in-Unknown c = search (meaning_laws, rules)
+pub returns-in_default : goal.returns-in_default
+returns-in_default c = asked-other c.meaning_of.ensures c.refuse.ensures c.in_default.not-Macro c.in_default.not-Unclear

@@ -1,6 +1,6 @@
-use Rattle.asking.proofs.ByKind.{laws}
 use Rattle.std.proofs.Common.{rules}
 use Rattle.asking.proofs.kinds.all_ids.Goals as goal
+use Rattle.asking.proofs.ByKind.{laws}
 
 pub loop-k-init : goal.loop-k-init
 loop-k-init c = search (laws, rules)

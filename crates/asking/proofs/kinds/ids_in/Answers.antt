@@ -1,9 +1,6 @@
-use Rattle.asking.proofs.ByKind.{laws}
 use Rattle.std.proofs.Common.{rules}
 use Rattle.asking.proofs.kinds.ids_in.Goals as goal
-
-pub get_node-n-requires : goal.get_node-n-requires
-get_node-n-requires c = search (laws, rules)
+use Rattle.asking.proofs.ByKind.{laws}
 
 pub returns-then-n-ne-LIST_VALUE : goal.returns-then-n-ne-LIST_VALUE
 returns-then-n-ne-LIST_VALUE c = search (laws, rules)

@@ -1,12 +1,9 @@
-use Rattle.asking.proofs.Stopping.{one_laws}
 use Rattle.std.proofs.Common.{rules}
 use Rattle.asking.proofs.naming.stop_one.Goals as goal
+use Rattle.asking.proofs.Stopping.{one_laws}
 
 pub name_of-requires : goal.name_of-requires
 name_of-requires c = search (one_laws, rules)
-
-pub stop-requires : goal.stop-requires
-stop-requires c = search (one_laws, rules)
 
 pub stop_named-requires : goal.stop_named-requires
 stop_named-requires c = search (one_laws, rules)
