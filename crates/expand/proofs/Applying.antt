@@ -1,40 +1,36 @@
 -- Applications, and bodies: one law for each way through them.
-use mathlib.Core.Path.{◌≡◌, refl, sym, ap, ◌∙◌}
-use mathlib.Core.List.{List, []}
-use Prim.Native.Nat.{ℕ, ◌+◌, ◌-◌, ◌*◌, ◌≤◌, ◌<◌}
+use Rattle.std.specs.Prelude.{Result, Ok, Err}
+use mathlib.Core.Path.{◌≡◌, ◌∙◌}
+use mathlib.Core.List.{List}
+use Prim.Native.Nat.{ℕ, ◌+◌, ◌*◌, ◌≤◌, ◌<◌}
 use native.Mathlib.Omega.{arith}
 use lib.ListN.{length}
 use Rattle.model.specs.Scopes.{Scopes, add}
-use Rattle.model.specs.Objects.{Stx, Stxs}
-use Rattle.model.specs.Trees.{stx, from_stxs}
+use Rattle.model.specs.Objects.{Stxs}
+use Rattle.model.specs.Trees.{from_stxs}
 use Rattle.model.specs.Steps.{inside}
 use Rattle.model.specs.Expanding.{expand_all, expand_application, expand}
 use Rattle.scopes.specs.Sets.{Declared}
 use Rattle.store.specs.Sizes.{held_size}
 use Rattle.store.specs.Words.{prunable_of}
-use Rattle.things.specs.Rep.{Rep, RepP}
+use Rattle.things.specs.Rep.{RepP}
 use Rattle.things.proofs.Frame.{carry}
 use Rattle.steps.specs.States.{store_of, state_of}
-use Rattle.steps.specs.Agreement.{ended, Gave, Agrees, stops}
+use Rattle.steps.specs.Agreement.{Gave, Agrees, stops}
 use Rattle.steps.specs.declared.State.{State}
 use Rattle.steps.specs.declared.Stop.{Stop}
 use Rattle.steps.specs.declared.Out.{Out}
-use Rattle.steps.specs.declared.Answer.{Answer}
-use Rattle.steps.specs.declared.Answer.TheVariants.{Done, Refused}
 use Rattle.steps.proofs.Laws.{then_ok, then_no, on_done, on_refused}
 use Rattle.parse.specs.Parsing.{unpaid}
 use Rattle.scoping.specs.Changing.{objects}
 use Rattle.expand.specs.Making.{ReadyList, Lists}
 use Rattle.expand.specs.Leaves.{Around, around, RepA}
-use Rattle.expand.specs.InPlace.{further, ShownNext}
-use Rattle.expand.specs.Cycle.{expansion, parts_of, ReadyToExpand, ReadyParts, ReadyChain, ReadyOnward, Expanded, ExpandedInside, ExpandedOnward, ExpandedApplication, ExpandedParts}
+use Rattle.expand.specs.InPlace.{further}
+use Rattle.expand.specs.Cycle.{parts_of, ReadyToExpand, ReadyParts, ReadyChain, ReadyNext, ExpandedInside, ExpandedNext, ExpandedApplication, ExpandedParts}
 use Rattle.expand.specs.declared.Surroundings.{Surroundings}
 use Rattle.expand.specs.declared.rewriting.Next.{Next}
-use Rattle.expand.specs.declared.rewriting.Onward.{Onward}
-use Rattle.expand.specs.declared.rewriting.Onward.TheVariants as onward
 use Rattle.expand.proofs.Agreeing.{beyond}
 use Rattle.expand.proofs.Leaves.{owes_one}
-use Rattle.expand.proofs.InPlace.{left_of}
 use Rattle.table.specs.Sizes.{two_cells}
 use Rattle.expand.proofs.Surrounding.{within-paid}
 
@@ -44,15 +40,15 @@ pub application_parts : {st l : List ℕ} (s : State) {i c : ℕ} {at : Surround
 unfolding unpaid
 application_parts s r = record { parts = r.parts; shown = r.chain; within = within-paid s r.within }
 
-module _ {at : Surroundings} {st st1 l l1 : List ℕ} (s : State) {c : ℕ} {a : Answer} (v : ExpandedParts at st st1 l l1 s c a) where
-  pub application_refused : {i : ℕ} {f : Stop} → a ≡ Refused f → ExpandedApplication at st st1 l l1 s i c (Refused f)
+module _ {at : Surroundings} {st st1 l l1 : List ℕ} (s : State) {c : ℕ} {a : Result Out Stop} (v : ExpandedParts at st st1 l l1 s c a) where
+  pub application_refused : {r : Result Out Stop} {i : ℕ} {f : Stop} → a ≡ Err f → r ≡ Err f → ExpandedApplication at st st1 l l1 s i c r
   unfolding expand_application
-  application_refused e = record { means = λ k ps g u w y. stops _ (then_no _ (on_refused (v.means ps g w y) (ap ended e))) }
+  application_refused e same = rw same (record { means = λ k ps g u w y. stops _ (then_no _ (on_refused (v.means ps g w y) e)) })
 
-  module _ {o : Out} (e : a ≡ Done o) where
+  module _ {o : Out} (e : a ≡ Ok o) where
     parts_gave : (ps : Stxs) (g : Around) → RepP l s.top c (from_stxs ps) → RepA l s.top at g
         → Gave parts_of 0 0 l l1 s (store_of st1) (expand_all (λ x. inside (λ p. p) (expand at.entries (around g at) x)) ps (state_of s (store_of st))) o
-    parts_gave ps g w y = on_done (v.means ps g w y) (ap ended e)
+    parts_gave ps g w y = on_done (v.means ps g w y) e
 
     pub application_list : {i : ℕ} → ReadyChain l st (unpaid s) i c at → length l1 ≡ length l → ReadyList l1 o.state i o.at
     unfolding unpaid
@@ -69,7 +65,7 @@ module _ {at : Surroundings} {st st1 l l1 : List ℕ} (s : State) {c : ℕ} {a :
           few = g.shown.few;
         }
 
-    pub application_made : {i : ℕ} {l2 : List ℕ} {q : Answer} → Lists l1 l2 o.state i o.at q → ExpandedApplication at st st1 l l2 s i c q
+    pub application_made : {i : ℕ} {l2 : List ℕ} {q : Result Out Stop} → Lists l1 l2 o.state i o.at q → ExpandedApplication at st st1 l l2 s i c q
     unfolding expand_application
     application_made d =
         record {
@@ -80,41 +76,29 @@ module _ {at : Surroundings} {st st1 l l1 : List ℕ} (s : State) {c : ℕ} {a :
 
 -- ---- what is expanded next
 
-module _ {l st : List ℕ} {x : Onward} {at : Surroundings} (r : ReadyOnward l st x at) {o : Next} (e : x ≡ onward.Done o) where
+module _ {l st : List ℕ} {o : Next} {at : Surroundings} (r : ReadyNext l st o at) where
   pub body_declared : Declared o.scope
-  body_declared = (r.next o e).shown.declared
+  body_declared = r.shown.declared
 
   pub body_wide : held_size ≤ length st
-  body_wide = (r.next o e).held.wide
+  body_wide = r.held.wide
 
   pub body_ready : ReadyToExpand l st o.state o.at (further o at)
-  body_ready =
-      let q = r.next o e in
-      record { thing = q.further.object; shown = q.shown.rep; within = record { meant = q.shown.meant; known = q.shown.known; room = q.room; held = q.held } }
+  body_ready = record { thing = r.further.object; shown = r.shown.rep; within = record { meant = r.shown.meant; known = r.shown.known; room = r.room; held = r.held } }
 
-pub body_less : {x : Onward} {o : Next} {T : ℕ} → x ≡ onward.Done o → left_of x * 32 + 2 ≡ T → o.state.left * 32 + 1 < T
-body_less e z = omega (arith, ap left_of e)
+pub body_less : (s : State) {T : ℕ} → s.left * 32 + 2 ≡ T → s.left * 32 + 1 < T
+body_less s z = omega arith
 
-pub body_refused : {at : Surroundings} {st l : List ℕ} {x : Onward} {f : Stop} → x ≡ onward.Refused f → ExpandedOnward at st st l l x (Refused f)
-body_refused {f = f} e = record {
-  means = λ o k h w. let z : ◌≡◌ {A = ℕ} 0 1 = cc in absurd (omega arith);
-  refused = λ g h. let z : f ≡ g = cc in rw z refl;
-}
-
-pub body_expanded : {at : Surroundings} {st st1 l l1 : List ℕ} {x : Onward} {o : Next} {p q : Scopes} {r : Answer} → x ≡ onward.Done o → p ≡ prunable_of st → q ≡ add o.scope.0 p
-    → ExpandedInside (further o at) st st1 l l1 o.state q o.at r → ExpandedOnward at st st1 l l1 x r
+pub body_expanded : {at : Surroundings} {st st1 l l1 : List ℕ} {o : Next} {p q : Scopes} {r : Result Out Stop} → p ≡ prunable_of st → q ≡ add o.scope.0 p
+    → ExpandedInside (further o at) st st1 l l1 o.state q o.at r → ExpandedNext at st st1 l l1 o r
 unfolding inside
-body_expanded {at} {st} {st1} {l} {l1} {x} {o} {p} {q} {r} e was wider a = record {
-  means = λ n k h w.
-      let same : o ≡ n = cc in
-      let v : ShownNext at l o k = rw same w in
+body_expanded {at} {st} {st1} {l} {l1} {o} {p} {q} {r} was wider a = record {
+  means = λ k v.
       let more : q ≡ add k.scope (prunable_of st) = wider ∙ (λ i. add (v.scope i) (was i)) in
-      let c : Agrees objects 1 two_cells l l1 o.state (store_of st1) (inside (λ u. q) (expand at.entries (around v.meant at) k.object) (state_of o.state (store_of st))) (ended r) =
+      let c : Agrees objects 1 two_cells l l1 o.state (store_of st1) (inside (λ u. q) (expand at.entries (around v.meant at) k.object) (state_of o.state (store_of st))) r =
       a.means k.object v.meant v.rep v.known in
-      let d : Agrees objects 1 two_cells l l1 o.state (store_of st1) (inside (λ u. add k.scope (prunable_of st)) (expand at.entries (around v.meant at) k.object) (state_of o.state (store_of st))) (ended r) = rw more at c in
-      let f : Agrees objects 1 two_cells l l1 o.state (store_of st1) (inside (add k.scope) (expand at.entries k.there k.object) (state_of o.state (store_of st))) (ended r) = rw v.there d in
-      rw same at f;
-  refused = λ g h. let z : ◌≡◌ {A = ℕ} 0 1 = cc in absurd (omega arith);
+      let d : Agrees objects 1 two_cells l l1 o.state (store_of st1) (inside (λ u. add k.scope (prunable_of st)) (expand at.entries (around v.meant at) k.object) (state_of o.state (store_of st))) r = rw more at c in
+      rw v.there d;
 }
 
 pub ruleset laws = (
@@ -126,6 +110,5 @@ pub ruleset laws = (
   body_wide,
   body_ready,
   body_less,
-  body_refused,
   body_expanded,
 )

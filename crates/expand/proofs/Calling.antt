@@ -1,7 +1,8 @@
 -- Applications evaluated: one law for each way through head, call, values and apply.
+use Rattle.std.specs.Prelude.{Result, Ok, Err}
 use mathlib.Core.Path.{◌≡◌, refl, sym, ap, ◌∙◌}
 use mathlib.Core.List.{List}
-use mathlib.Core.Bool.{Bool, true, false, not}
+use mathlib.Core.Bool.{Bool, true, false}
 use Prim.Native.Nat.{ℕ, suc, ◌+◌, ◌*◌, ◌≤◌, ◌<◌}
 use native.Mathlib.Omega.{arith}
 use lib.ListN.{length}
@@ -9,19 +10,14 @@ use Rattle.refusals.specs.declared.Refusal.TheVariants.{NotApplicable, OutsideUs
 use Rattle.steps.specs.declared.State.{State}
 use Rattle.steps.specs.declared.Stop.{Stop}
 use Rattle.steps.specs.declared.Out.{Out}
-use Rattle.steps.specs.declared.Answer.{Answer}
-use Rattle.steps.specs.declared.Answer.TheVariants.{Done, Refused}
 use Rattle.steps.specs.States.{store_of, state_of, stop_of}
-use Rattle.steps.specs.Agreement.{ended, Gave, gives, stops}
-use borrow.Author.Tests.{not-true, not-false}
-use Rattle.model.specs.Objects as objects
-use Rattle.model.specs.Objects.{content_of}
+use Rattle.steps.specs.Agreement.{Gave, gives, stops}
 use Rattle.model.specs.Refusals.{not_applicable, outside_use}
 use Rattle.model.specs.Meanings as m
 use Rattle.model.specs.Steps as ms
 use Rattle.model.specs.Steps.{ok, no, after, Step}
-use Rattle.model.specs.Trees.{Tree, Trees, tnil, tcons, tcount, fun, datum}
-use Rattle.model.specs.Evaluating.{applicable, allowed, each_tree, apply, eval_entry}
+use Rattle.model.specs.Trees.{Tree, Trees, tnil, tcons, tcount}
+use Rattle.model.specs.Evaluating.{applicable, each_tree, apply, eval_entry}
 use Rattle.model.specs.Expanding.{evaluate}
 use Rattle.table.specs.Words.{get_cell}
 use Rattle.table.specs.declared.Cell.{Cell}
@@ -36,20 +32,18 @@ use Rattle.environment.specs.declared.Place.{Place}
 use Rattle.environment.specs.Places.{RepPlace}
 use Rattle.environment.proofs.Frame.{carry_place}
 use Rattle.applying.specs.declared.Values.{Values}
-use Rattle.applying.specs.declared.Gathered.{Gathered}
-use Rattle.applying.specs.declared.Gathered.TheVariants as all
 use Rattle.applying.specs.Testing.{Sought, TestedP, Permitted}
 use Rattle.expand.specs.Values.{evaluation}
-use Rattle.expand.specs.Evaluation.{ReadyToEvaluate, ReadyApplication, ReadyCall, ReadyEach, ReadyApply, call_of, valued, gathered, Evaluates, Applies, Calls, Gathers, Does}
+use Rattle.expand.specs.Evaluation.{ReadyToEvaluate, ReadyApplication, ReadyCall, ReadyEach, ReadyApply, call_of, valued, Evaluates, Applies, Calls, Gathers, Does}
 use Rattle.expand.specs.Cycle.{expansion}
 use Rattle.expand.proofs.Evaluating.{placed-later, form_less}
 use Rattle.table.specs.Sizes.{cell_size, unit_size}
 
 -- ---- what an evaluation gave
 
-module _ {entries : ℕ} {place : Place} {st st1 l l1 : List ℕ} {s : State} {i : ℕ} {a : Answer} (v : Evaluates entries place st st1 l l1 s i a) {o : Out} (k : a ≡ Done o) where
+module _ {entries : ℕ} {place : Place} {st st1 l l1 : List ℕ} {s : State} {i : ℕ} {a : Result Out Stop} (v : Evaluates entries place st st1 l l1 s i a) {o : Out} (k : a ≡ Ok o) where
   evaluated_to : (t : Tree) (q : m.Place) → Rep l s.top i t → RepPlace l s.top place q → Gave trees 1 unit_size l l1 s (store_of st1) (evaluate entries q t (state_of s (store_of st))) o
-  evaluated_to t q w p = on_done (v.means t q w p) (ap ended k)
+  evaluated_to t q w p = on_done (v.means t q w p) k
 
 -- ---- the head
 
@@ -63,12 +57,12 @@ module _ {st l : List ℕ} {s : State} {c : ℕ} {place : Place} {x : Cell} (e :
   pub head-ready : ReadyApplication l st s c place → ReadyToEvaluate l st s x.head place
   head-ready r = record { thing = r.first; shown = (cons-at r.shown e).shown; placed = r.placed }
 
-  module _ {entries : ℕ} {st1 l1 : List ℕ} {a : Answer} (v : Evaluates entries place st st1 l l1 s x.head a) where
-    pub head-refused : {f : Stop} → a ≡ Refused f → Applies entries place st st1 l l1 s c (Refused f)
+  module _ {entries : ℕ} {st1 l1 : List ℕ} {a : Result Out Stop} (v : Evaluates entries place st st1 l l1 s x.head a) where
+    pub head-refused : {r : Result Out Stop} {f : Stop} → a ≡ Err f → r ≡ Err f → Applies entries place st st1 l l1 s c r
     unfolding eval_entry
-    head-refused {f} k = record { means = λ t ts q w p. stops f (then_no _ (on_refused (v.means t q (cons-at w e).shown p) (ap ended k))) }
+    head-refused {f = f} k same = rw same (record { means = λ t ts q w p. stops f (then_no _ (on_refused (v.means t q (cons-at w e).shown p) k)) })
 
-    module _ {o : Out} (k : a ≡ Done o) where
+    module _ {o : Out} (k : a ≡ Ok o) where
       pub call_ready : ReadyApplication l st s c place → length l1 ≡ length l → length st1 ≡ length st → ReadyCall l1 st1 o.state o.at x.tail place
       call_ready r len len2 =
           let p = cons-at r.shown e in
@@ -84,7 +78,7 @@ module _ {st l : List ℕ} {s : State} {c : ℕ} {place : Place} {x : Cell} (e :
       pub call_less : {T : ℕ} → ReadyApplication l st s c place → s.left * 32 + 2 ≡ T → o.state.left * 32 + 3 < T
       call_less r z = omega (arith, (evaluated_to v k r.first r.placed.where_it_is (cons-at r.shown e).shown r.placed.stands).later.spent)
 
-      pub head_called : {st2 l2 : List ℕ} {r : Answer} → Calls entries place st1 st2 l1 l2 o.state o.at x.tail r → Applies entries place st st2 l l2 s c r
+      pub head_called : {st2 l2 : List ℕ} {r : Result Out Stop} → Calls entries place st1 st2 l1 l2 o.state o.at x.tail r → Applies entries place st st2 l l2 s c r
       unfolding eval_entry call_of
       head_called d =
           record {
@@ -135,39 +129,39 @@ module _ {l st : List ℕ} {s : State} {f c : ℕ} {place : Place} (r : ReadyCal
   call_each = record { things = r.things; shown = r.shown-parts; placed = r.placed }
 
 module _ {entries : ℕ} {place : Place} {st l : List ℕ} {s : State} {f c : ℕ} {y : Bool} (h : TestedP l f c y) where
-  pub call_refused : {r : Answer} → not y ≡ true → r ≡ Refused (stop_of NotApplicable s) → Calls entries place st st l l s f c r
+  pub call_refused : {r : Result Out Stop} → y ≡ false → r ≡ Err (stop_of NotApplicable s) → Calls entries place st st l l s f c r
   unfolding call_of
   call_refused k same =
       rw same
-      (record { means = λ t ts q a d p. stops (stop_of NotApplicable s) (then_no _ (unless-no not_applicable (state_of s (store_of st)) (sym (h.means s.top t ts a d) ∙ not-true y k))) })
+      (record { means = λ t ts q a d p. stops (stop_of NotApplicable s) (then_no _ (unless-no not_applicable (state_of s (store_of st)) (sym (h.means s.top t ts a d) ∙ k))) })
 
-  module _ (k : not y ≡ false) {x : Bool} (j : Permitted l f place x) where
-    pub call_outside : {r : Answer} → not x ≡ true → r ≡ Refused (stop_of OutsideUse s) → Calls entries place st st l l s f c r
+  module _ (k : y ≡ true) {x : Bool} (j : Permitted l f place x) where
+    pub call_outside : {r : Result Out Stop} → x ≡ false → r ≡ Err (stop_of OutsideUse s) → Calls entries place st st l l s f c r
     unfolding call_of
     call_outside i same =
         rw same
         (record {
           means = λ t ts q a d p.
               stops (stop_of OutsideUse s)
-              (then_ok _ (unless-ok not_applicable (state_of s (store_of st)) (sym (h.means s.top t ts a d) ∙ not-false y k))
-              ∙ then_no _ (unless-no outside_use (state_of s (store_of st)) (sym (j.means s.top t q a p) ∙ not-true x i)));
+              (then_ok _ (unless-ok not_applicable (state_of s (store_of st)) (sym (h.means s.top t ts a d) ∙ k))
+              ∙ then_no _ (unless-no outside_use (state_of s (store_of st)) (sym (j.means s.top t q a p) ∙ i)));
         })
 
-    module _ (i : not x ≡ false) {st1 l1 : List ℕ} {a : Gathered} (v : Gathers entries place st st1 l l1 s c a) where
+    module _ (i : x ≡ true) {st1 l1 : List ℕ} {a : Result Values Stop} (v : Gathers entries place st st1 l l1 s c a) where
       -- both tests have passed
       passed : (t : Tree) (ts : Trees) (q : m.Place) → Rep l s.top f t → RepP l s.top c ts → RepPlace l s.top place q
           → call_of (evaluation entries) (expansion entries) q t ts (state_of s (store_of st)) ≡ after (each_tree (evaluation entries q) ts (state_of s (store_of st))) (λ vs. apply (evaluation entries) (expansion entries) q t vs)
       unfolding call_of
       passed t ts q b d p =
-          then_ok _ (unless-ok not_applicable (state_of s (store_of st)) (sym (h.means s.top t ts b d) ∙ not-false y k)) ∙ then_ok _ (unless-ok outside_use (state_of s (store_of st)) (sym (j.means s.top t q b p) ∙ not-false x i))
+          then_ok _ (unless-ok not_applicable (state_of s (store_of st)) (sym (h.means s.top t ts b d) ∙ k)) ∙ then_ok _ (unless-ok outside_use (state_of s (store_of st)) (sym (j.means s.top t q b p) ∙ i))
 
-      pub call_values_refused : {e : Stop} → a ≡ all.Refused e → Calls entries place st st1 l l1 s f c (Refused e)
-      call_values_refused {e} z = record { means = λ t ts q b d p. stops e (passed t ts q b d p ∙ then_no _ (on_refused (v.means ts q d p) (ap gathered z))) }
+      pub call_values_refused : {r : Result Out Stop} {e : Stop} → a ≡ Err e → r ≡ Err e → Calls entries place st st1 l l1 s f c r
+      call_values_refused {e = e} z same = rw same (record { means = λ t ts q b d p. stops e (passed t ts q b d p ∙ then_no _ (on_refused (v.means ts q d p) z)) })
 
-      module _ {o : Values} (z : a ≡ all.All o) where
+      module _ {o : Values} (z : a ≡ Ok o) where
         values-to : (ts : Trees) (q : m.Place) → RepP l s.top c ts → RepPlace l s.top place q
             → Gave valued 0 0 l l1 s (store_of st1) (each_tree (evaluation entries q) ts (state_of s (store_of st))) o
-        values-to ts q d p = on_done (v.means ts q d p) (ap gathered z)
+        values-to ts q d p = on_done (v.means ts q d p) z
 
         pub apply-ready : ReadyCall l st s f c place → length l1 ≡ length l → length st1 ≡ length st → ReadyApply l1 st1 f o place
         apply-ready r len len2 =
@@ -179,7 +173,7 @@ module _ {entries : ℕ} {place : Place} {st l : List ℕ} {s : State} {f c : �
               given = g.shown.given;
               able =
                   rw (each-count (evaluation entries r.placed.where_it_is) r.things g.value (state_of s (store_of st)) (state_of o.state (store_of st1)) g.is)
-                  (sym (h.means s.top r.value r.things r.shown r.shown-parts) ∙ not-false y k);
+                  (sym (h.means s.top r.value r.things r.shown r.shown-parts) ∙ k);
               placed = record {
                 where_it_is = r.placed.where_it_is;
                 stands = carry_place r.placed.stands g.later.kept g.later.grows;
@@ -187,27 +181,27 @@ module _ {entries : ℕ} {place : Place} {st l : List ℕ} {s : State} {f c : �
                 few = g.shown.few;
                 wide = λ n here e. omega (arith, r.placed.wide n here e, len2);
               };
-              permitted = sym (j.means s.top r.value r.placed.where_it_is r.shown r.placed.stands) ∙ not-false x i;
+              permitted = sym (j.means s.top r.value r.placed.where_it_is r.shown r.placed.stands) ∙ i;
             }
 
         pub apply_less : {T : ℕ} → ReadyCall l st s f c place → s.left * 32 + 3 ≡ T → o.state.left * 32 + 2 < T
         apply_less r w = omega (arith, (values-to r.things r.placed.where_it_is r.shown-parts r.placed.stands).later.spent)
 
-        pub call_applied : {st2 l2 : List ℕ} {r : Answer} → Does entries place st1 st2 l1 l2 f o r → Calls entries place st st2 l l2 s f c r
+        pub call_applied : {st2 l2 : List ℕ} {r : Result Out Stop} → Does entries place st1 st2 l1 l2 f o r → Calls entries place st st2 l l2 s f c r
         call_applied d =
             record {
               means = λ t ts q b w p.
                   let g = values-to ts q w p in
-                  let able : applicable t (tcount ts) ≡ true = sym (h.means s.top t ts b w) ∙ not-false y k in
+                  let able : applicable t (tcount ts) ≡ true = sym (h.means s.top t ts b w) ∙ k in
                   since 0 0 g.later (omega arith) (omega arith) (passed t ts q b w p ∙ then_ok _ g.is)
                   (d.means t g.value q (carry b g.later.kept g.later.grows) g.shown.given (carry_place p g.later.kept g.later.grows)
                   (rw (each-count (evaluation entries q) ts g.value (state_of s (store_of st)) (state_of o.state (store_of st1)) g.is) able)
-                  (sym (j.means s.top t q b p) ∙ not-false x i));
+                  (sym (j.means s.top t q b p) ∙ i));
             }
 
 -- ---- the values
 
-pub values-none : {entries : ℕ} {place : Place} {st l : List ℕ} {s : State} {c : ℕ} → ReadyEach l st s c place → c ≡ 0 → Gathers entries place st st l l s c (all.All (record { x = 0; y = 0; z = 0; state = s }))
+pub values-none : {entries : ℕ} {place : Place} {st l : List ℕ} {s : State} {c : ℕ} → ReadyEach l st s c place → c ≡ 0 → Gathers entries place st st l l s c (Ok (record { x = 0; y = 0; z = 0; state = s }))
 unfolding each_tree
 values-none {entries} {place} {st} {l} {s} k h =
     record {
@@ -222,13 +216,13 @@ module _ {st l : List ℕ} {s : State} {c : ℕ} {place : Place} {x : Cell} (n :
   pub values_head_ready : ReadyEach l st s c place → ReadyToEvaluate l st s x.head place
   values_head_ready r = let p = part_at r.shown n e in record { thing = p.first; shown = p.cell.shown; placed = r.placed }
 
-  module _ {entries : ℕ} {st1 l1 : List ℕ} {a : Answer} (v : Evaluates entries place st st1 l l1 s x.head a) where
-    pub values_head_refused : {f : Stop} → a ≡ Refused f → Gathers entries place st st1 l l1 s c (all.Refused f)
+  module _ {entries : ℕ} {st1 l1 : List ℕ} {a : Result Out Stop} (v : Evaluates entries place st st1 l l1 s x.head a) where
+    pub values_head_refused : {r : Result Values Stop} {f : Stop} → a ≡ Err f → r ≡ Err f → Gathers entries place st st1 l l1 s c r
     unfolding each_tree
-    values_head_refused {f} k =
-        record { means = λ ts q w y. let p = part_at w n e in rw p.is (stops f (then_no _ (on_refused (v.means p.first q p.cell.shown y) (ap ended k)))) }
+    values_head_refused {f = f} k same =
+        rw same (record { means = λ ts q w y. let p = part_at w n e in rw p.is (stops f (then_no _ (on_refused (v.means p.first q p.cell.shown y) k))) })
 
-    module _ {o : Out} (k : a ≡ Done o) where
+    module _ {o : Out} (k : a ≡ Ok o) where
       pub values_tail_ready : ReadyEach l st s c place → length l1 ≡ length l → length st1 ≡ length st → ReadyEach l1 st1 o.state x.tail place
       values_tail_ready r len len2 =
           let p = part_at r.shown n e in
@@ -240,26 +234,26 @@ module _ {st l : List ℕ} {s : State} {c : ℕ} {place : Place} {x : Cell} (n :
           let p = part_at r.shown n e in
           omega (arith, (evaluated_to v k p.first r.placed.where_it_is p.cell.shown r.placed.stands).later.spent)
 
-      module _ {st2 l2 : List ℕ} {d : Gathered} (w : Gathers entries place st1 st2 l1 l2 o.state x.tail d) where
-        pub values_tail_refused : {f : Stop} → d ≡ all.Refused f → Gathers entries place st st2 l l2 s c (all.Refused f)
+      module _ {st2 l2 : List ℕ} {d : Result Values Stop} (w : Gathers entries place st1 st2 l1 l2 o.state x.tail d) where
+        pub values_tail_refused : {r : Result Values Stop} {f : Stop} → d ≡ Err f → r ≡ Err f → Gathers entries place st st2 l l2 s c r
         unfolding each_tree
-        values_tail_refused {f} z =
-            record {
+        values_tail_refused {f = f} z same =
+            rw same (record {
               means = λ ts q y b.
                   let p = part_at y n e in
                   let g = evaluated_to v k p.first q p.cell.shown b in
-                  let h = on_refused (w.means p.others q (carry_p p.cell.shown-others g.later.kept g.later.grows) (carry_place b g.later.kept g.later.grows)) (ap gathered z) in
+                  let h = on_refused (w.means p.others q (carry_p p.cell.shown-others g.later.kept g.later.grows) (carry_place b g.later.kept g.later.grows)) z in
                   rw p.is (stops f (then_ok _ g.is ∙ then_no _ h));
-            }
+            })
 
-        pub values-more : {u : Values} → d ≡ all.All u → Gathers entries place st st2 l l2 s c (all.All (record { x = o.at; y = u.x; z = u.y; state = u.state }))
+        pub values-more : {u : Values} → d ≡ Ok u → Gathers entries place st st2 l l2 s c (Ok (record { x = o.at; y = u.x; z = u.y; state = u.state }))
         unfolding each_tree
         values-more {u} z =
             record {
               means = λ ts q y b.
                   let p = part_at y n e in
                   let g = evaluated_to v k p.first q p.cell.shown b in
-                  let h = on_done (w.means p.others q (carry_p p.cell.shown-others g.later.kept g.later.grows) (carry_place b g.later.kept g.later.grows)) (ap gathered z) in
+                  let h = on_done (w.means p.others q (carry_p p.cell.shown-others g.later.kept g.later.grows) (carry_place b g.later.kept g.later.grows)) z in
                   rw p.is (gives (record { x = o.at; y = u.x; z = u.y; state = u.state }) (record {
                     value = tcons g.value h.value;
                     is = then_ok _ g.is ∙ then_ok _ h.is;

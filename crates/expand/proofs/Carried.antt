@@ -1,4 +1,5 @@
 -- An expansion of its own, with other sets carried, and afterwards those of before.
+use Rattle.std.specs.Prelude.{Result}
 use mathlib.Core.Path.{◌≡◌, sym, ap, ◌∙◌}
 use mathlib.Core.List.{List}
 use Prim.Native.Nat.{ℕ, ◌+◌, ◌*◌, ◌≤◌, ◌<◌}
@@ -12,10 +13,10 @@ use Rattle.model.specs.Expanding.{expand}
 use Rattle.store.specs.Sizes.{most_bindings, held_size}
 use Rattle.store.specs.Words.{prunable_of, uses_of, Carries}
 use Rattle.steps.specs.States.{store_of, state_of}
-use Rattle.steps.specs.Agreement.{Ended, ended, Agrees, gives, stops}
+use Rattle.steps.specs.Agreement.{Agrees, gives, stops}
 use Rattle.steps.specs.declared.State.{State}
+use Rattle.steps.specs.declared.Stop.{Stop}
 use Rattle.steps.specs.declared.Out.{Out}
-use Rattle.steps.specs.declared.Answer.{Answer}
 use Rattle.steps.proofs.Laws.{then_ok, then_no}
 use Rattle.scoping.specs.Changing.{objects}
 use Rattle.expand.specs.Leaves.{around}
@@ -29,7 +30,7 @@ put_state s w few =
     λ i. record { left = s.left; names = s.names; scopes = s.scopes; binds = (w.same s.bindings few) i; prunable = w.prunable i; uses = w.uses i }
 
 -- from the sets of before, the set put with no use scopes, and the sets of before put back
-inside_agrees : {n v : ℕ} {l l1 : List ℕ} {s : State} {st st1 st2 st3 : List ℕ} {p : Scopes} (m : Step Stx) {x : Ended Out} → s.bindings ≤ most_bindings → Carries p no_scopes st st1 → Carries (prunable_of st) (uses_of st) st2 st3
+inside_agrees : {n v : ℕ} {l l1 : List ℕ} {s : State} {st st1 st2 st3 : List ℕ} {p : Scopes} (m : Step Stx) {x : Result Out Stop} → s.bindings ≤ most_bindings → Carries p no_scopes st st1 → Carries (prunable_of st) (uses_of st) st2 st3
     → Agrees objects n v l l1 s (store_of st2) (m (state_of s (store_of st1))) x → Agrees objects n v l l1 s (store_of st3) (inside (λ q. p) m (state_of s (store_of st))) x
 unfolding inside
 inside_agrees {s = s} m few put back (gives o g) =
@@ -55,7 +56,7 @@ module _ {l st : List ℕ} {s : State} {i : ℕ} {at : Surroundings} (r : ReadyT
         within = record { meant = r.within.meant; known = r.within.known; room = r.within.room; held = record { few = r.within.held.few; wide = omega (arith, r.within.held.wide, len) } };
       }
 
-  pub inside_is : {st1 st2 st3 l1 : List ℕ} {was had p none : Scopes} {a : Answer} → was ≡ prunable_of st → had ≡ uses_of st → none ≡ no_scopes → Carries p none st st1 → Expanded at st1 st2 l l1 s i a → Carries was had st2 st3
+  pub inside_is : {st1 st2 st3 l1 : List ℕ} {was had p none : Scopes} {a : Result Out Stop} → was ≡ prunable_of st → had ≡ uses_of st → none ≡ no_scopes → Carries p none st st1 → Expanded at st1 st2 l l1 s i a → Carries was had st2 st3
       → ExpandedInside at st st3 l l1 s p i a
   inside_is e j z put v back = record { means = λ x g w k. inside_agrees (expand at.entries (around g at) x) r.within.held.few (rw z at put) (rw (e, j) at back) (v.means x g w k) }
 

@@ -1,4 +1,5 @@
 -- A value applied to its values, by what it is: one law for each way out of apply.
+use Rattle.std.specs.Prelude.{Result, Ok, Err}
 use mathlib.Core.Path.{◌≡◌, refl, sym, ap, ◌∙◌}
 use mathlib.Core.List.{List}
 use mathlib.Core.Bool.{Bool, true, false, not, false≢true}
@@ -20,19 +21,14 @@ use Rattle.table.specs.declared.Body.{Body}
 use Rattle.things.specs.Rep.{Rep, is-var, is-app, is-fun, is-lst, is-datum, is-atom, is-list}
 use Rattle.things.proofs.Frame.{below}
 use Rattle.things.proofs.ByTag.{tag_is, content-is, fun-at}
-use Rattle.primitives.specs.Working.{Given}
 use Rattle.primitives.proofs.Choosing.{given_1}
-use Rattle.steps.specs.declared.State.{State}
 use Rattle.steps.specs.declared.Stop.{Stop}
 use Rattle.steps.specs.declared.Out.{Out}
-use Rattle.steps.specs.declared.Answer.{Answer}
-use Rattle.steps.specs.declared.Answer.TheVariants.{Done, Refused}
 use Rattle.steps.specs.States.{store_of, state_of}
-use Rattle.steps.specs.Agreement.{ended, Gave, stops}
+use Rattle.steps.specs.Agreement.{Gave, stops}
 use Rattle.steps.proofs.Laws.{later_refl, then_ok, then_no, after-after, on_done, on_refused, since}
 use Rattle.parse.specs.Shown.{trees}
 use Rattle.environment.specs.declared.Place.{Place}
-use Rattle.environment.specs.Places.{RepPlace}
 use Rattle.environment.proofs.Frame.{carry_place}
 use Rattle.applying.specs.declared.Values.{Values}
 use Rattle.applying.specs.Doing.{ReadyFunction, substituted_rule, Substitutes, ReadyPrimitive, DoesPrimitive}
@@ -146,20 +142,20 @@ module _ {st l : List ℕ} {f : ℕ} {v : Values} {place : Place} {p : Node} (r 
           few = r.placed.few;
         }
 
-    module _ {l1 : List ℕ} {a : Answer} (d : Substitutes l l1 v.state p.content u v.x a) where
-      pub function_refused : {entries : ℕ} {g : Stop} → a ≡ Refused g → Does entries place st st l l1 f v (Refused g)
-      function_refused {entries} k =
-          record {
+    module _ {l1 : List ℕ} {a : Result Out Stop} (d : Substitutes l l1 v.state p.content u v.x a) where
+      pub function_refused : {r : Result Out Stop} {entries : ℕ} {g : Stop} → a ≡ Err g → r ≡ Err g → Does entries place st st l l1 f v r
+      function_refused {entries = entries} k same =
+          rw same (record {
             means = λ t ts q b g w able ok.
                 let c = fun-at b e h j in
-                let n = on_refused (d.means (store_of st) c.body (argument ts 0) c.shown (given_1 g (one_argument (tcount ts) c.is able)) c.size) (ap ended k) in
+                let n = on_refused (d.means (store_of st) c.body (argument ts 0) c.shown (given_1 g (one_argument (tcount ts) c.is able)) c.size) k in
                 rw c.is (stops _ (function_split (evaluation entries) (expansion entries) (state_of v.state (store_of st)) q p.content c.body ts ∙ then_no _ n));
-          }
+          })
 
-      module _ {o : Out} (k : a ≡ Done o) where
+      module _ {o : Out} (k : a ≡ Ok o) where
         substituted_to : (t w : Tree) → Rep l v.state.top u.at t → Rep l v.state.top v.x w → u.size ≡ min most_size (tsize t)
             → Gave trees 0 0 l l1 v.state (store_of st) (substituted_rule p.content w t (state_of v.state (store_of st))) o
-        substituted_to t w b c z = on_done (d.means (store_of st) t w b c z) (ap ended k)
+        substituted_to t w b c z = on_done (d.means (store_of st) t w b c z) k
 
         pub function_evaluate : length l1 ≡ length l → ReadyToEvaluate l1 st o.state o.at place
         function_evaluate len =
@@ -170,7 +166,7 @@ module _ {st l : List ℕ} {f : ℕ} {v : Values} {place : Place} {p : Node} (r 
         pub function_less : {T : ℕ} → v.state.left * 32 + 2 ≡ T → o.state.left * 32 < T
         function_less z = let q = function_ready in omega (arith, (substituted_to q.thing q.value q.shown q.given q.sized).later.spent)
 
-        pub function_done : {entries : ℕ} {st1 l2 : List ℕ} {b : Answer} → Evaluates entries place st st1 l1 l2 o.state o.at b → Does entries place st st1 l l2 f v b
+        pub function_done : {entries : ℕ} {st1 l2 : List ℕ} {b : Result Out Stop} → Evaluates entries place st st1 l1 l2 o.state o.at b → Does entries place st st1 l l2 f v b
         function_done {entries} c =
             record {
               means = λ t ts q b g w able ok.
@@ -201,7 +197,7 @@ module _ {st l : List ℕ} {f : ℕ} {v : Values} {place : Place} {p : Node} (r 
           held = record { few = r.placed.few; wide = r.placed.wide k.intro k.here k.is };
         }
 
-    pub apply-within : {entries : ℕ} {st1 l1 : List ℕ} {a : Answer} → p.content ≡ 8 → DoesWithin entries place st st1 l l1 v a → Does entries place st st1 l l1 f v a
+    pub apply-within : {entries : ℕ} {st1 l1 : List ℕ} {a : Result Out Stop} → p.content ≡ 8 → DoesWithin entries place st st1 l l1 v a → Does entries place st st1 l l1 f v a
     unfolding primitive_of wants_use
     apply-within {entries} z d =
         record {
@@ -228,7 +224,7 @@ module _ {st l : List ℕ} {f : ℕ} {v : Values} {place : Place} {p : Node} (r 
             held = record { few = r.placed.few; wide = r.placed.wide k.intro k.here k.is };
           }
 
-      pub apply-asked : {entries : ℕ} {l1 : List ℕ} {a : Answer} → b ≡ true → ¬ (p.content ≡ 8) → Answers p.content place st l l1 v.state v.x a → Does entries place st st l l1 f v a
+      pub apply-asked : {entries : ℕ} {l1 : List ℕ} {a : Result Out Stop} → b ≡ true → ¬ (p.content ≡ 8) → Answers p.content place st l l1 v.state v.x a → Does entries place st st l l1 f v a
       apply-asked {entries} y z d =
           record {
             means = λ t ts q j g w able ok.
@@ -242,7 +238,7 @@ module _ {st l : List ℕ} {f : ℕ} {v : Values} {place : Place} {p : Node} (r 
       pub primitive-ready : b ≡ false → ReadyPrimitive l v.state p.content v.x v.y v.z
       primitive-ready y = let n = is-prim in record { values = r.values; given = r.given; able = n.able; plain = sym i ∙ y; room = r.placed.room; few = r.placed.few }
 
-      pub apply-primitive : {entries : ℕ} {l1 : List ℕ} {a : Answer} → b ≡ false → DoesPrimitive l l1 v.state p.content v.x v.y v.z a → Does entries place st st l l1 f v a
+      pub apply-primitive : {entries : ℕ} {l1 : List ℕ} {a : Result Out Stop} → b ≡ false → DoesPrimitive l l1 v.state p.content v.x v.y v.z a → Does entries place st st l l1 f v a
       unfolding apply
       apply-primitive {entries} y d =
           record { means = λ t ts q j g w able ok. let n = prim-at (tcount ts) j e h able in rw n.is (d.means (store_of st) (expansion entries) q ts g n.able (sym i ∙ y)) }

@@ -1,4 +1,5 @@
 -- An entry: one law for each way through it, by the object's tag and by the meaning of a list's head.
+use Rattle.std.specs.Prelude.{Result, Ok, Err}
 use mathlib.Core.Path.{◌≡◌, refl, sym, ap, ◌∙◌}
 use mathlib.Core.List.{List}
 use Prim.Native.Nat.{ℕ, ◌+◌, ◌-◌, ◌*◌, ◌≤◌, ◌<◌}
@@ -21,14 +22,10 @@ use Rattle.things.proofs.Frame.{below}
 use Rattle.things.proofs.ByTag.{tag_is, atom-at, list_at, stx-tag, same_object}
 use Rattle.store.specs.declared.rivals.Rivals.{Rivals}
 use Rattle.steps.specs.States.{stop_of, ambiguous_of, Store, store_of, state_of, enter_of}
-use Rattle.steps.specs.Agreement.{Ended, ended, Agrees, gives, stops}
+use Rattle.steps.specs.Agreement.{Agrees, gives, stops}
 use Rattle.steps.specs.declared.State.{State}
 use Rattle.steps.specs.declared.Stop.{Stop}
 use Rattle.steps.specs.declared.Out.{Out}
-use Rattle.steps.specs.declared.Answer.{Answer}
-use Rattle.steps.specs.declared.Answer.TheVariants.{Done, Refused}
-use Rattle.steps.specs.declared.Charged.{Charged}
-use Rattle.steps.specs.declared.Charged.TheVariants as charged
 use Rattle.steps.proofs.Laws.{enter_spare, enter_went, entry_refused, entry_goes, later_refl}
 use Rattle.parse.specs.Parsing.{unpaid}
 use Rattle.stops.specs.Stops.{KnownZ}
@@ -56,7 +53,7 @@ use Rattle.expand.proofs.Surrounding.{within-paid}
 abbrev in_entry : Surroundings → Surroundings
 in_entry at = record { entries = at.entries - 1; phase = at.phase; meanings = at.meanings; stops = at.stops }
 
-module _ (at : Surroundings) (s : State) {u : State} {x : Charged} (h : x ≡ enter_of at.entries s) (e : x ≡ charged.Paid u) where
+module _ (at : Surroundings) (s : State) {u : State} {x : Result State Stop} (h : x ≡ enter_of at.entries s) (e : x ≡ Ok u) where
   pub enter_one : 1 ≤ at.entries
   enter_one = enter_spare at.entries s h e
 
@@ -67,20 +64,20 @@ module _ (at : Surroundings) (s : State) {u : State} {x : Charged} (h : x ≡ en
   enter_ready r =
       rw (unpaid-is (enter_went at.entries s h e)) (record { thing = r.thing; shown = r.shown; within = record { meant = r.within.meant; known = r.within.known; room = r.within.room; held = r.within.held } })
 
-  pub enter_goes : {st st1 l l1 : List ℕ} {i : ℕ} {r : Answer} → ExpandedEntry (in_entry at) st st1 l l1 u i r → Expanded at st st1 l l1 s i r
+  pub enter_goes : {st st1 l l1 : List ℕ} {i : ℕ} {r : Result Out Stop} → ExpandedEntry (in_entry at) st st1 l l1 u i r → Expanded at st st1 l l1 s i r
   enter_goes {st} {st1} {l} {l1} {i} {r} f =
       let w = enter_went at.entries s h e in
       record {
         means = λ y g q k.
             let a = f.means y g (rw (top-is w) q) (rw (top-is w) k) in
-            let d : Agrees objects 1 two_cells l l1 s (store_of st1) (expand_entry (expansion (at.entries - 1)) (evaluation (at.entries - 1)) (at.entries - 1) (around g at) y (state_of u (store_of st))) (ended r) = rw (unpaid-is w) at a in
+            let d : Agrees objects 1 two_cells l l1 s (store_of st1) (expand_entry (expansion (at.entries - 1)) (evaluation (at.entries - 1)) (at.entries - 1) (around g at) y (state_of u (store_of st))) r = rw (unpaid-is w) at a in
             rw (entry_goes (expand_entry_lem (around g at) y) at.entries s (store_of st) h e) d;
       }
 
-pub enter_stops : {at : Surroundings} {st : List ℕ} {s : State} {x : Charged} {f : Stop} {l : List ℕ} {i : ℕ} → x ≡ enter_of at.entries s → x ≡ charged.Refused f
-    → Expanded at st st l l s i (Refused f)
-enter_stops {at} {st} {s} {f = f} h e =
-    record { means = λ y g q k. stops f (entry_refused (expand_entry_lem (around g at) y) at.entries s (store_of st) h e) }
+pub enter_stops : {r : Result Out Stop} {at : Surroundings} {st : List ℕ} {s : State} {x : Result State Stop} {f : Stop} {l : List ℕ} {i : ℕ} → x ≡ enter_of at.entries s → x ≡ Err f
+    → r ≡ Err f → Expanded at st st l l s i r
+enter_stops {at = at} {st = st} {s = s} {f = f} h e same =
+    rw same (record { means = λ y g q k. stops f (entry_refused (expand_entry_lem (around g at) y) at.entries s (store_of st) h e) })
 
 -- ---- an entry by its tag
 
@@ -108,12 +105,12 @@ module _ {st l : List ℕ} (s : State) {i : ℕ} {at : Surroundings} {o : Node} 
       let q = symbol-at r.shown e h in
       record { sets = q.0; symb = q.1.0; shown = rw q.1.1 at r.shown; within = r.within }
 
-  module _ {l1 : List ℕ} {r : Answer} where
+  module _ {l1 : List ℕ} {r : Result Out Stop} where
     pub entry_list : {st1 : List ℕ} → o.tag ≡ list_tag → ExpandedList at st st1 l l1 s i o.content r → ExpandedEntry at st st1 l l1 s i r
     entry_list h a =
         record { means = λ x g w k. let q = list_at w e h in rw (same_object q.is) (a.means q.sets q.parts g (rw q.is at w) q.shown k) }
 
-  pub entry_name : {r : Answer} → o.tag ≡ 0 → ExpandedName at st l s i r → ExpandedEntry at st st l l s i r
+  pub entry_name : {r : Result Out Stop} → o.tag ≡ 0 → ExpandedName at st l s i r → ExpandedEntry at st st l l s i r
   entry_name h a =
       record {
         means = λ x g w k.
@@ -122,7 +119,7 @@ module _ {st l : List ℕ} (s : State) {i : ℕ} {at : Surroundings} {o : Node} 
             rw (q.1.1, entry_symbol (expansion at.entries) (evaluation at.entries) at.entries (around g at) (state_of s (store_of st)) q.0 q.1.0) (a.means q.0 q.1.0 g w2 k);
       }
 
-  pub entry_other : ReadyToExpand l st (unpaid s) i at → ¬ (o.tag ≡ list_tag) → ¬ (o.tag ≡ 0) → ExpandedEntry at st st l l s i (Done (record { at = i; state = s }))
+  pub entry_other : ReadyToExpand l st (unpaid s) i at → ¬ (o.tag ≡ list_tag) → ¬ (o.tag ≡ 0) → ExpandedEntry at st st l l s i (Ok (record { at = i; state = s }))
   unfolding unpaid
   entry_other r n5 n0 =
       record {
@@ -142,11 +139,11 @@ module _ {st l : List ℕ} (s : State) {i : ℕ} {at : Surroundings} {o : Node} 
 
 -- ---- a list by its head's meaning
 
-same_form : (at : Surroundings) (g : Around) (y : ms.State) {l l1 : List ℕ} {s : State} {b : Store} {x : Ended Out} (t : Tree) (k : Sets) {ps qs : Stxs} → ps ≡ qs
+same_form : (at : Surroundings) (g : Around) (y : ms.State) {l l1 : List ℕ} {s : State} {b : Store} {x : Result Out Stop} (t : Tree) (k : Sets) {ps qs : Stxs} → ps ≡ qs
     → Agrees objects 1 two_cells l l1 s b (expand_macro (expansion at.entries) (evaluation at.entries) (around g at) t (list k ps) y) x → Agrees objects 1 two_cells l l1 s b (expand_macro (expansion at.entries) (evaluation at.entries) (around g at) t (list k qs) y) x
 same_form at g y t k e a = rw e at a
 
-pub list-empty : {at : Surroundings} {st l : List ℕ} {s : State} {i c : ℕ} {r : Answer} → c ≡ 0 → r ≡ Refused (stop_of NoRule s) → ExpandedList at st st l l s i c r
+pub list-empty : {at : Surroundings} {st l : List ℕ} {s : State} {i c : ℕ} {r : Result Out Stop} → c ≡ 0 → r ≡ Err (stop_of NoRule s) → ExpandedList at st st l l s i c r
 list-empty {at} {st} {l} {s} h same =
     rw same (record { means = λ k ps g u w z. rw (nil-at ps w h) (stops _ (entry_empty (expansion at.entries) (evaluation at.entries) at.entries (around g at) (state_of s (store_of st)) k)) })
 
@@ -199,7 +196,7 @@ module _ {st l : List ℕ} (s : State) {i c : ℕ} {at : Surroundings} where
           let g = on_macro (p.means s.top q.first r.within.meant.meanings r.within.meant.stops q.cell.shown r.within.known.meant r.within.known.stopped) z in
           record { value = g.value; thing = list r.sets r.parts; shown = r.shown; shown-value = g.shown; within = within-paid s r.within }
 
-      module _ {st1 l1 : List ℕ} {r : Answer} where
+      module _ {st1 l1 : List ℕ} {r : Result Out Stop} where
         pub list-lambda : w ≡ meant.Lambda → ExpandedLambda at st st1 l l1 s i x.head x.tail r → ExpandedList at st st1 l l1 s i c r
         list-lambda z a =
             record {
@@ -253,7 +250,7 @@ module _ {st l : List ℕ} (s : State) {i c : ℕ} {at : Surroundings} where
                   (same_form at g (state_of s (store_of st)) m.value k q.is (beyond 1 two_cells 0 1 (later_refl l s) (owes_none s) (owes_one s) (omega arith) (omega arith) refl d));
             }
 
-      pub list-stopped : ReadyChain l st (unpaid s) i c at → w ≡ meant.Stopped → ExpandedList at st st l l s i c (Done (record { at = i; state = s }))
+      pub list-stopped : ReadyChain l st (unpaid s) i c at → w ≡ meant.Stopped → ExpandedList at st st l l s i c (Ok (record { at = i; state = s }))
       unfolding unpaid
       list-stopped r z =
           record {
@@ -270,7 +267,7 @@ module _ {st l : List ℕ} (s : State) {i c : ℕ} {at : Surroundings} where
                 }));
           }
 
-      pub list-quote : {r : Answer} → w ≡ meant.Quote → ExpandedQuote l s i x.tail r → ExpandedList at st st l l s i c r
+      pub list-quote : {r : Result Out Stop} → w ≡ meant.Quote → ExpandedQuote l s i x.tail r → ExpandedList at st st l l s i c r
       list-quote z a =
           record {
             means = λ k ps g u v y.
@@ -280,7 +277,7 @@ module _ {st l : List ℕ} (s : State) {i c : ℕ} {at : Surroundings} where
                 (a.means (store_of st) (list k (cons q.first q.others)) q.others (rw q.is at u) q.cell.shown-others);
           }
 
-      pub list-syntax : {l1 : List ℕ} {r : Answer} → w ≡ meant.Syntax → ExpandedSyntax at.phase st l l1 s i x.head x.tail r → ExpandedList at st st l l1 s i c r
+      pub list-syntax : {l1 : List ℕ} {r : Result Out Stop} → w ≡ meant.Syntax → ExpandedSyntax at.phase st l l1 s i x.head x.tail r → ExpandedList at st st l l1 s i c r
       list-syntax z a =
           record {
             means = λ k ps g u v y.
@@ -290,7 +287,7 @@ module _ {st l : List ℕ} (s : State) {i c : ℕ} {at : Surroundings} where
                 (a.means k q.first q.others (rw q.is at u) q.cell.shown q.cell.shown-others);
           }
 
-      pub list_is_unclear : {r : Answer} {v : Rivals} → w ≡ meant.Unclear v → r ≡ Refused (ambiguous_of v s) → ExpandedList at st st l l s i c r
+      pub list_is_unclear : {r : Result Out Stop} {v : Rivals} → w ≡ meant.Unclear v → r ≡ Err (ambiguous_of v s) → ExpandedList at st st l l s i c r
       list_is_unclear z same =
           rw same (record {
             means = λ k ps g u v y.

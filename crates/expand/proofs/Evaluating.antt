@@ -1,16 +1,14 @@
 -- An entry of evaluating, and what its form asks for: one law for each way through them.
-use mathlib.Core.Path.{◌≡◌, refl, sym, ap, ◌∙◌}
+use Rattle.std.specs.Prelude.{Result, Ok, Err}
+use mathlib.Core.Path.{◌≡◌, refl, sym, ap}
 use mathlib.Core.List.{List}
 use Prim.Native.Nat.{ℕ, ◌+◌, ◌-◌, ◌*◌, ◌≤◌, ◌<◌}
 use native.Mathlib.Omega.{arith}
 use lib.ListN.{length}
 use Rattle.refusals.specs.declared.Refusal.TheVariants.{Unowned}
 use Rattle.steps.specs.declared.State.{State}
+use Rattle.steps.specs.declared.Out.{Out}
 use Rattle.steps.specs.declared.Stop.{Stop}
-use Rattle.steps.specs.declared.Answer.{Answer}
-use Rattle.steps.specs.declared.Answer.TheVariants.{Done, Refused}
-use Rattle.steps.specs.declared.Charged.{Charged}
-use Rattle.steps.specs.declared.Charged.TheVariants as charged
 use Rattle.steps.specs.States.{store_of, state_of, stop_of, enter_of}
 use Rattle.steps.specs.Agreement.{Later, gives, stops}
 use Rattle.model.specs.Meanings as m
@@ -26,7 +24,6 @@ use Rattle.things.proofs.Frame.{below}
 use Rattle.things.proofs.ByTag.{tag_is, var-at, app-at}
 use Rattle.steps.proofs.Laws.{entry_refused, entry_goes, enter_spare, enter_went, later_refl, later-paid, room-later, since}
 use Rattle.environment.specs.declared.Place.{Place}
-use Rattle.environment.specs.Places.{RepPlace}
 use Rattle.environment.proofs.Frame.{carry_place}
 use Rattle.expand.specs.Values.{evaluation}
 use Rattle.expand.specs.Evaluation.{Placed, ReadyToEvaluate, ReadyApplication, Evaluates, Forms, Applies}
@@ -48,11 +45,11 @@ placed-later r p few len len2 =
 
 -- ---- an entry
 
-pub entry_stops : {entries : ℕ} {place : Place} {st : List ℕ} {s : State} {x : Charged} {e : Stop} {l : List ℕ} {i : ℕ} → x ≡ enter_of entries s → x ≡ charged.Refused e
-    → Evaluates entries place st st l l s i (Refused e)
-entry_stops {entries} {st = st} {s = s} {e = e} h k = record { means = λ t q w p. stops e (entry_refused (evaluate_entry q t) entries s (store_of st) h k) }
+pub entry_stops : {r : Result Out Stop} {entries : ℕ} {place : Place} {st : List ℕ} {s : State} {x : Result State Stop} {e : Stop} {l : List ℕ} {i : ℕ} → x ≡ enter_of entries s → x ≡ Err e
+    → r ≡ Err e → Evaluates entries place st st l l s i r
+entry_stops {entries = entries} {st = st} {s = s} {e = e} h k same = rw same (record { means = λ t q w p. stops e (entry_refused (evaluate_entry q t) entries s (store_of st) h k) })
 
-module _ (entries : ℕ) (s : State) {u : State} {x : Charged} (h : x ≡ enter_of entries s) (e : x ≡ charged.Paid u) where
+module _ (entries : ℕ) (s : State) {u : State} {x : Result State Stop} (h : x ≡ enter_of entries s) (e : x ≡ Ok u) where
   pub entry_spare : 1 ≤ entries
   entry_spare = enter_spare entries s h e
 
@@ -67,7 +64,7 @@ module _ (entries : ℕ) (s : State) {u : State} {x : Charged} (h : x ≡ enter_
         let few : u.bindings ≡ s.bindings = ap (λ (y : State). y.bindings) w.is in
         record { thing = r.thing; shown = rw top r.shown; placed = placed-later r.placed (later-paid l w) (omega (arith, few, r.placed.few)) refl refl }
 
-    pub entry_formed : {st1 l1 : List ℕ} {r : Answer} → Forms (entries - 1) place st st1 l l1 u i r → Evaluates entries place st st1 l l1 s i r
+    pub entry_formed : {st1 l1 : List ℕ} {r : Result Out Stop} → Forms (entries - 1) place st st1 l l1 u i r → Evaluates entries place st st1 l l1 s i r
     entry_formed {st1} {l1} {r} f =
         let w = enter_went entries s h e in
         let top : s.top ≡ u.top = sym (ap (λ (y : State). y.top) w.is) in
@@ -90,17 +87,17 @@ value-is e self other place y (is-atom a q z) n6 n7 = refl
 value-is e self other place y (is-list a q z r) n6 n7 = refl
 
 module _ {place : Place} {st l : List ℕ} {s : State} {i : ℕ} {o : Node} (e : o ≡ get_node l i) where
-  pub form_var : {entries : ℕ} {r : Answer} → o.tag ≡ variable_tag → r ≡ Refused (stop_of Unowned s) → Forms entries place st st l l s i r
+  pub form_var : {entries : ℕ} {r : Result Out Stop} → o.tag ≡ variable_tag → r ≡ Err (stop_of Unowned s) → Forms entries place st st l l s i r
   unfolding eval_entry
   form_var h same = rw same (record { means = λ t q r p. stops (stop_of Unowned s) (rw (var-at r e h) refl) })
 
   pub form_ready : ReadyToEvaluate l st s i place → o.tag ≡ application_tag → ReadyApplication l st s o.content place
   form_ready r h = let p = app-at r.shown e h in record { first = p.first; others = p.others; shown = p.shown; placed = r.placed }
 
-  pub form_app : {entries : ℕ} {st1 l1 : List ℕ} {r : Answer} → o.tag ≡ application_tag → Applies entries place st st1 l l1 s o.content r → Forms entries place st st1 l l1 s i r
+  pub form_app : {entries : ℕ} {st1 l1 : List ℕ} {r : Result Out Stop} → o.tag ≡ application_tag → Applies entries place st st1 l l1 s o.content r → Forms entries place st st1 l l1 s i r
   form_app h a = record { means = λ t q w p. let k = app-at w e h in rw k.is (a.means k.first k.others q k.shown p) }
 
-  pub form_value : {entries : ℕ} → ReadyToEvaluate l st s i place → ¬ (o.tag ≡ variable_tag) → ¬ (o.tag ≡ application_tag) → Forms entries place st st l l s i (Done (record { at = i; state = s }))
+  pub form_value : {entries : ℕ} → ReadyToEvaluate l st s i place → ¬ (o.tag ≡ variable_tag) → ¬ (o.tag ≡ application_tag) → Forms entries place st st l l s i (Ok (record { at = i; state = s }))
   form_value {entries} r n6 n7 =
       record {
         means = λ t q w p.

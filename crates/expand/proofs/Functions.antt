@@ -1,8 +1,10 @@
 -- (lambda id body): one law for each way through it.
-use mathlib.Core.Path.{◌≡◌, refl, sym, ap, ◌∙◌}
+use Rattle.expand.specs.declared.rewriting.Next.{Next}
+use Rattle.std.specs.Prelude.{Result, Ok, Err, Option, Some, None}
+use mathlib.Core.Path.{◌≡◌, refl, sym, ◌∙◌}
 use mathlib.Core.List.{List}
 use mathlib.Core.Bool.{Bool, true, false}
-use Prim.Native.Nat.{ℕ, ◌+◌, ◌-◌, ◌*◌, ◌<◌}
+use Prim.Native.Nat.{ℕ, ◌+◌, ◌*◌, ◌<◌}
 use native.Mathlib.Omega.{arith}
 use lib.ListN.{length}
 use Rattle.model.specs.Objects.{symbol, Stx, atom, cons}
@@ -16,35 +18,28 @@ use Rattle.things.specs.Rep.{Rep}
 use Rattle.things.specs.Measuring.{Seen, SeenP}
 use Rattle.things.proofs.Frame.{carry}
 use Rattle.steps.specs.States.{store_of, stop_of, state_of}
-use Rattle.steps.specs.Agreement.{ended, Gave, Agrees, stops}
+use Rattle.steps.specs.Agreement.{Gave, Agrees, stops}
 use Rattle.steps.specs.declared.State.{State}
 use Rattle.steps.specs.declared.Stop.{Stop}
 use Rattle.steps.specs.declared.Out.{Out}
-use Rattle.steps.specs.declared.Answer.{Answer}
-use Rattle.steps.specs.declared.Answer.TheVariants.{Done, Refused}
 use Rattle.steps.proofs.Laws.{then_ok, then_no, room-later, on_done, on_refused}
 use Rattle.parse.specs.Parsing.{unpaid}
 use Rattle.forms.specs.Shapes.{Double, Identifies}
-use Rattle.forms.specs.declared.Two.{Two}
-use Rattle.forms.specs.declared.Two.TheVariants as two
 use Rattle.forms.proofs.Shapes.{on_two, on_not_two, not-parts2, not-identifier, is-identifier}
 use Rattle.environment.specs.Meanings.{meant-variable}
 use Rattle.scoping.specs.Changing.{objects}
-use Rattle.scoping.specs.Fresh.{ShownBinder, ReadyBinder, bound_of, BindsFresh}
+use Rattle.scoping.specs.Fresh.{ShownBinder, ReadyBinder, BindsFresh}
 use Rattle.scoping.proofs.Fresh.{bound_to}
 use Rattle.scoping.specs.declared.Binder.{Binder}
-use Rattle.scoping.specs.declared.Bound.{Bound}
-use Rattle.scoping.specs.declared.Bound.TheVariants as bounds
 use Rattle.expand.specs.Making.{ReadyThree, ThreeLists}
 use Rattle.expand.specs.Leaves.{Around, around, RepA}
 use Rattle.expand.specs.Values.{evaluation}
-use Rattle.expand.specs.InPlace.{further_rule, nexts, onward_of, ReadyScoped, scoped_rule, Scoped}
-use Rattle.expand.specs.Cycle.{expansion, ReadyForm, ReadyFunction, ReadyAbstraction, ReadyOnward, abstraction_rule, ExpandedOnward, ExpandedLambda, ExpandedFunction, ExpandedAbstraction}
+use Rattle.expand.specs.InPlace.{further_rule, nexts, ReadyScoped, scoped_rule, Scoped}
+use Rattle.expand.specs.Cycle.{expansion, ReadyForm, ReadyFunction, ReadyAbstraction, ReadyNext, abstraction_rule, ExpandedNext, ExpandedLambda, ExpandedFunction, ExpandedAbstraction}
 use Rattle.expand.specs.declared.Surroundings.{Surroundings}
-use Rattle.expand.specs.declared.rewriting.Onward.{Onward}
 use Rattle.expand.proofs.Agreeing.{beyond}
 use Rattle.expand.proofs.Leaves.{owes_one, owes_two}
-use Rattle.expand.proofs.InPlace.{left_of, onward_less, onward-ready, onward-goes}
+use Rattle.expand.proofs.InPlace.{next_less, next_ready, next_goes}
 use Rattle.expand.proofs.Rules.{function_split}
 use Rattle.table.specs.Sizes.{cell_size, two_cells, node_spare, triple_spare}
 use Rattle.expand.proofs.Surrounding.{carry_a, within-later, within-paid}
@@ -57,12 +52,12 @@ module _ {st l : List ℕ} (s : State) {i head tail : ℕ} {at : Surroundings} w
   unfolding unpaid
   lambda-seen r = record { top = s.top; thing = from_stxs r.others; shown = r.shown-others; inside = omega (arith, r.within.room.fits); small = r.within.room.small }
 
-  module _ {d : Two} (h : Double l tail d) where
-    pub lambda_shape : {r : Answer} → d ≡ two.Not → r ≡ Refused (stop_of NoRule s) → ExpandedLambda at st st l l s i head tail r
+  module _ {d : Option (ℕ × ℕ)} (h : Double l tail d) where
+    pub lambda_shape : {r : Result Out Stop} → d ≡ None → r ≡ Err (stop_of NoRule s) → ExpandedLambda at st st l l s i head tail r
     unfolding expand_lambda
     lambda_shape e same = rw same (record { means = λ k y ps g u v w z. stops _ (not-parts2 ps _ (state_of s (store_of st)) (on_not_two (h.means s.top ps w) e)) })
 
-    module _ {a b : ℕ} (e : d ≡ two.Are a b) where
+    module _ {a b : ℕ} (e : d ≡ Some (a, b)) where
       pub lambda_id_seen : ReadyForm l st (unpaid s) i head tail at → Seen l a
       unfolding unpaid
       lambda_id_seen r =
@@ -70,7 +65,7 @@ module _ {st l : List ℕ} (s : State) {i head tail : ℕ} {at : Surroundings} w
           record { top = s.top; thing = stx q.first; shown = q.shown; inside = omega (arith, r.within.room.fits); small = r.within.room.small }
 
       module _ {z : Bool} (f : Identifies l a z) where
-        pub lambda_no_id : {r : Answer} → z ≡ false → r ≡ Refused (stop_of NoRule s) → ExpandedLambda at st st l l s i head tail r
+        pub lambda_no_id : {r : Result Out Stop} → z ≡ false → r ≡ Err (stop_of NoRule s) → ExpandedLambda at st st l l s i head tail r
         unfolding expand_lambda parts2
         lambda_no_id t same =
             rw same (record {
@@ -98,7 +93,7 @@ module _ {st l : List ℕ} (s : State) {i head tail : ℕ} {at : Surroundings} w
                 within = r.within;
               }
 
-          pub lambda_function : {st1 l1 : List ℕ} {r : Answer} → ExpandedFunction at st st1 l l1 s i head a b r → ExpandedLambda at st st1 l l1 s i head tail r
+          pub lambda_function : {st1 l1 : List ℕ} {r : Result Out Stop} → ExpandedFunction at st st1 l l1 s i head a b r → ExpandedLambda at st st1 l l1 s i head tail r
           unfolding expand_lambda parts2 identifier
           lambda_function p =
               record {
@@ -115,12 +110,12 @@ module _ {st l : List ℕ} (s : State) {i head id body : ℕ} {at : Surroundings
   unfolding unpaid
   function_binder_ready = let w = within-paid s r.within in record { sets = r.binder; symb = r.symb; shown = r.shown-id; room = w.room; held = w.held }
 
-  module _ {st1 l1 : List ℕ} {z : Bound} (v : BindsFresh at.phase st st1 l l1 s id z) where
-    pub function_refused : {f : Stop} → z ≡ bounds.Refused f → ExpandedFunction at st st1 l l1 s i head id body (Refused f)
-    function_refused e =
-        record { means = λ k qs h c x y g u w a b t. stops _ (function_split (expansion at.entries) (evaluation at.entries) at.entries (around g at) (state_of s (store_of st)) k h c x y ∙ then_no _ (on_refused (v.means c x a) (ap bound_of e))) }
+  module _ {st1 l1 : List ℕ} {z : Result Binder Stop} (v : BindsFresh at.phase st st1 l l1 s id z) where
+    pub function_refused : {r : Result Out Stop} {f : Stop} → z ≡ Err f → r ≡ Err f → ExpandedFunction at st st1 l l1 s i head id body r
+    function_refused e same =
+        rw same (record { means = λ k qs h c x y g u w a b t. stops _ (function_split (expansion at.entries) (evaluation at.entries) at.entries (around g at) (state_of s (store_of st)) k h c x y ∙ then_no _ (on_refused (v.means c x a) e)) })
 
-    module _ {o : Binder} (e : z ≡ bounds.Done o) where
+    module _ {o : Binder} (e : z ≡ Ok o) where
       pub function_less : {T : ℕ} → s.left * 32 + 17 ≡ T → o.state.left * 32 + 16 < T
       unfolding unpaid
       function_less t = omega (arith, (bound_to v e r.binder r.symb r.shown-id).later.spent)
@@ -144,7 +139,7 @@ module _ {st l : List ℕ} (s : State) {i head id body : ℕ} {at : Surroundings
             free = omega (arith, g.later.fits, r.within.room.fits, len);
           }
 
-      pub function_abstraction : {st2 l2 : List ℕ} {q : Answer} → ExpandedAbstraction at st1 st2 l1 l2 o i head body q → ExpandedFunction at st st2 l l2 s i head id body q
+      pub function_abstraction : {st2 l2 : List ℕ} {q : Result Out Stop} → ExpandedAbstraction at st1 st2 l1 l2 o i head body q → ExpandedFunction at st st2 l l2 s i head id body q
       function_abstraction f =
           record {
             means = λ k qs h c x y g u w a b t.
@@ -171,60 +166,65 @@ abstraction_scoped_ready r =
       few = r.within.held.few;
     }
 
-module _ {at : Surroundings} {l l1 : List ℕ} {b : Binder} {body : ℕ} {x : Onward} (v : Scoped at l l1 b.state b 0 b.at body x) where
+module _ {at : Surroundings} {l l1 : List ℕ} {b : Binder} {body : ℕ} {x : Result Next Stop} (v : Scoped at l l1 b.state b 0 b.at body x) where
   in_scope_lem : (st : List ℕ) (k : rules.Binder) (n : ℕ) (y : Stx) (g : Around) → ShownBinder n l b k → Rep l b.state.top body (stx y) → RepA l b.state.top at g
-      → Agrees (nexts at) 1 cell_size l l1 b.state (store_of st) (scoped_rule (around g at) k (variable k.sets n) y (state_of b.state (store_of st))) (onward_of x)
+      → Agrees (nexts at) 1 cell_size l l1 b.state (store_of st) (scoped_rule (around g at) k (variable k.sets n) y (state_of b.state (store_of st))) x
   in_scope_lem st k n y g p q t = v.means (store_of st) k (variable k.sets n) y g (by_name p) (meant-variable p.rep) q t
 
-  module _ {st : List ℕ} {i head : ℕ} (r : ReadyAbstraction l st b i head body at) where
-    pub abstraction_next_ready : length l1 ≡ length l → ReadyOnward l1 st x at
-    abstraction_next_ready len = onward-ready (in_scope_lem st r.binder r.symb r.thing r.within.meant r.shown-binder r.shown_body r.within.known) r.within.room r.within.held len refl
+  pub abstraction_unscoped : {r : Result Out Stop} {st : List ℕ} {i head : ℕ} {f : Stop} → x ≡ Err f → r ≡ Err f → ExpandedAbstraction at st st l l1 b i head body r
+  unfolding abstraction_rule
+  abstraction_unscoped {st = st} e same = rw same (record { means = λ c qs h k n y g u w p q t. stops _ (then_no _ (then_no _ (on_refused (in_scope_lem st k n y g p q t) e))) })
 
-    pub abstraction_less : {T : ℕ} → b.state.left * 32 + 16 ≡ T → left_of x * 32 + 2 < T
-    abstraction_less z = omega (arith, onward_less x (in_scope_lem st r.binder r.symb r.thing r.within.meant r.shown-binder r.shown_body r.within.known))
+  module _ {z : Next} (i : x ≡ Ok z) where
+    module _ {st : List ℕ} {i1 head : ℕ} (r : ReadyAbstraction l st b i1 head body at) where
+      pub abstraction_next_ready : length l1 ≡ length l → ReadyNext l1 st z at
+      abstraction_next_ready len = next_ready (in_scope_lem st r.binder r.symb r.thing r.within.meant r.shown-binder r.shown_body r.within.known) i r.within.room r.within.held len refl
 
-  module _ {st st1 l2 : List ℕ} {a : Answer} (w : ExpandedOnward at st st1 l1 l2 x a) where
-    abstraction_goes : (k : rules.Binder) (n : ℕ) (y : Stx) (g : Around) → ShownBinder n l b k → Rep l b.state.top body (stx y) → RepA l b.state.top at g
-        → Agrees objects 2 node_spare l l2 b.state (store_of st1) (after (scoped_rule (around g at) k (variable k.sets n) y (state_of b.state (store_of st))) (further_rule (expansion at.entries))) (ended a)
-    abstraction_goes k n y g p q t = onward-goes x (in_scope_lem st k n y g p q t) w
+      pub abstraction_less : {T : ℕ} → b.state.left * 32 + 16 ≡ T → z.state.left * 32 + 2 < T
+      abstraction_less t = omega (arith, next_less (in_scope_lem st r.binder r.symb r.thing r.within.meant r.shown-binder r.shown_body r.within.known) i)
 
-    pub abstraction_refused : {i head : ℕ} {f : Stop} → a ≡ Refused f → ExpandedAbstraction at st st1 l l2 b i head body (Refused f)
-    unfolding abstraction_rule
-    abstraction_refused e = record { means = λ c qs h k n y g u w2 p q t. stops _ (then_no _ (on_refused (abstraction_goes k n y g p q t) (ap ended e))) }
+    module _ {st st1 l2 : List ℕ} {a : Result Out Stop} (w : ExpandedNext at st st1 l1 l2 z a) where
+      abstraction_goes : (k : rules.Binder) (n : ℕ) (y : Stx) (g : Around) → ShownBinder n l b k → Rep l b.state.top body (stx y) → RepA l b.state.top at g
+          → Agrees objects 2 node_spare l l2 b.state (store_of st1) (after (scoped_rule (around g at) k (variable k.sets n) y (state_of b.state (store_of st))) (further_rule (expansion at.entries))) a
+      abstraction_goes k n y g p q t = next_goes (in_scope_lem st k n y g p q t) i w
 
-    module _ {o : Out} (e : a ≡ Done o) where
-      scoped_to : (k : rules.Binder) (n : ℕ) (y : Stx) (g : Around) → ShownBinder n l b k → Rep l b.state.top body (stx y) → RepA l b.state.top at g
-          → Gave objects 2 node_spare l l2 b.state (store_of st1) (after (scoped_rule (around g at) k (variable k.sets n) y (state_of b.state (store_of st))) (further_rule (expansion at.entries))) o
-      scoped_to k n y g p q t = on_done (abstraction_goes k n y g p q t) (ap ended e)
-
-      pub abstraction_three_ready : {i head : ℕ} → ReadyAbstraction l st b i head body at → length l1 ≡ length l → length l2 ≡ length l1 → ReadyThree l2 o.state i head b.at o.at
-      abstraction_three_ready r len1 len2 =
-          let len = len2 ∙ len1 in
-          let g = scoped_to r.binder r.symb r.thing r.within.meant r.shown-binder r.shown_body r.within.known in
-          record {
-            sets = r.sets;
-            old = r.old;
-            first = r.first;
-            second = atom r.binder.sets (symbol r.symb);
-            third = g.value;
-            shown = carry r.shown g.later.kept g.later.grows;
-            shown-first = carry r.shown-first g.later.kept g.later.grows;
-            shown-second = carry r.shown-binder.rep g.later.kept g.later.grows;
-            shown-third = g.shown.rep;
-            room = room-later r.within.room g.later len;
-            free = omega (arith, g.later.fits, r.free, len);
-            few = g.shown.few;
-          }
-
-      pub abstraction_made : {i head : ℕ} {l3 : List ℕ} {q : Answer} → ThreeLists l2 l3 o.state i head b.at o.at q → ExpandedAbstraction at st st1 l l3 b i head body q
+      pub abstraction_refused : {r : Result Out Stop} {i1 head : ℕ} {f : Stop} → a ≡ Err f → r ≡ Err f → ExpandedAbstraction at st st1 l l2 b i1 head body r
       unfolding abstraction_rule
-      abstraction_made f =
-          record {
-            means = λ c qs h k n y g u w2 p q t.
-                let j = scoped_to k n y g p q t in
-                beyond 2 (node_spare + triple_spare) 2 2 j.later (owes_two o.state) (owes_two b.state) (omega arith) (omega arith) (then_ok _ j.is)
-                (f.means (store_of st1) c qs h (atom k.sets (symbol n)) j.value (carry u j.later.kept j.later.grows) (carry w2 j.later.kept j.later.grows) (carry p.rep j.later.kept j.later.grows) j.shown.rep);
-          }
+      abstraction_refused e same = rw same (record { means = λ c qs h k n y g u w2 p q t. stops _ (then_no _ (on_refused (abstraction_goes k n y g p q t) e)) })
+
+      module _ {o : Out} (e : a ≡ Ok o) where
+        scoped_to : (k : rules.Binder) (n : ℕ) (y : Stx) (g : Around) → ShownBinder n l b k → Rep l b.state.top body (stx y) → RepA l b.state.top at g
+            → Gave objects 2 node_spare l l2 b.state (store_of st1) (after (scoped_rule (around g at) k (variable k.sets n) y (state_of b.state (store_of st))) (further_rule (expansion at.entries))) o
+        scoped_to k n y g p q t = on_done (abstraction_goes k n y g p q t) e
+
+        pub abstraction_three_ready : {i head : ℕ} → ReadyAbstraction l st b i head body at → length l1 ≡ length l → length l2 ≡ length l1 → ReadyThree l2 o.state i head b.at o.at
+        abstraction_three_ready r len1 len2 =
+            let len = len2 ∙ len1 in
+            let g = scoped_to r.binder r.symb r.thing r.within.meant r.shown-binder r.shown_body r.within.known in
+            record {
+              sets = r.sets;
+              old = r.old;
+              first = r.first;
+              second = atom r.binder.sets (symbol r.symb);
+              third = g.value;
+              shown = carry r.shown g.later.kept g.later.grows;
+              shown-first = carry r.shown-first g.later.kept g.later.grows;
+              shown-second = carry r.shown-binder.rep g.later.kept g.later.grows;
+              shown-third = g.shown.rep;
+              room = room-later r.within.room g.later len;
+              free = omega (arith, g.later.fits, r.free, len);
+              few = g.shown.few;
+            }
+
+        pub abstraction_made : {i head : ℕ} {l3 : List ℕ} {q : Result Out Stop} → ThreeLists l2 l3 o.state i head b.at o.at q → ExpandedAbstraction at st st1 l l3 b i head body q
+        unfolding abstraction_rule
+        abstraction_made f =
+            record {
+              means = λ c qs h k n y g u w2 p q t.
+                  let j = scoped_to k n y g p q t in
+                  beyond 2 (node_spare + triple_spare) 2 2 j.later (owes_two o.state) (owes_two b.state) (omega arith) (omega arith) (then_ok _ j.is)
+                  (f.means (store_of st1) c qs h (atom k.sets (symbol n)) j.value (carry u j.later.kept j.later.grows) (carry w2 j.later.kept j.later.grows) (carry p.rep j.later.kept j.later.grows) j.shown.rep);
+            }
 
 pub ruleset laws = (
   lambda-seen,
@@ -241,6 +241,7 @@ pub ruleset laws = (
   abstraction_scoped_ready,
   abstraction_next_ready,
   abstraction_less,
+  abstraction_unscoped,
   abstraction_refused,
   abstraction_three_ready,
   abstraction_made,

@@ -1,7 +1,9 @@
 -- What a form leaves to be expanded in its place: one law for each way out.
-use mathlib.Core.Path.{◌≡◌, refl, sym, ap, ◌∙◌}
-use mathlib.Core.List.{List, []}
-use Prim.Native.Nat.{ℕ, ◌+◌, ◌^◌, ◌≤◌, ◌<◌}
+use Rattle.expand.specs.declared.rewriting.Next.{Next}
+use Rattle.std.specs.Prelude.{Result, Ok, Err}
+use mathlib.Core.Path.{◌≡◌, sym}
+use mathlib.Core.List.{List}
+use Prim.Native.Nat.{ℕ, ◌≤◌}
 use native.Mathlib.Omega.{arith}
 use lib.ListN.{length}
 use Rattle.model.specs.Objects.{Stx, add_scope}
@@ -18,13 +20,11 @@ use Rattle.things.specs.Making.{Roomy}
 use Rattle.things.specs.declared.Made.{Made}
 use Rattle.things.proofs.Frame.{carry}
 use Rattle.steps.specs.States.{Store, store_of, no_store, Held, state_of, raised_to, Room}
-use Rattle.steps.specs.Agreement.{ended, Gave, Agrees, gives, stops}
+use Rattle.steps.specs.Agreement.{Gave, Agrees, gives, stops}
 use Rattle.steps.specs.declared.State.{State}
 use Rattle.steps.specs.declared.Stop.{Stop}
 use Rattle.steps.specs.declared.Out.{Out}
-use Rattle.steps.specs.declared.Answer.{Answer}
-use Rattle.steps.specs.declared.Answer.TheVariants.{Done, Refused}
-use Rattle.steps.proofs.Laws.{then_ok, then_no, later_trans, room-later, on_done, on_refused, since}
+use Rattle.steps.proofs.Laws.{then_ok, then_no, room-later, on_done, on_refused, since}
 use Rattle.environment.specs.Meanings.{Extended}
 use Rattle.environment.proofs.Frame.{carry_e, carry_m}
 use Rattle.stops.proofs.Frame.{carry_z}
@@ -32,12 +32,10 @@ use Rattle.scoping.specs.Changing.{objects, ReadyObject, change_rule, Changes}
 use Rattle.scoping.specs.Fresh.{ShownBinder}
 use Rattle.scoping.specs.declared.Binder.{Binder}
 use Rattle.expand.specs.Leaves.{around}
-use Rattle.expand.specs.InPlace.{Further, further_rule, Named, nexts, onward_of, ReadyScoped, scoped_rule, Scoped}
-use Rattle.expand.specs.Cycle.{expansion, ReadyOnward, ExpandedOnward}
+use Rattle.expand.specs.InPlace.{Further, further_rule, Named, nexts, ReadyScoped, scoped_rule, Scoped}
+use Rattle.expand.specs.Cycle.{expansion, ReadyNext, ExpandedNext}
 use Rattle.expand.specs.declared.Surroundings.{Surroundings}
-use Rattle.expand.specs.declared.rewriting.Onward.{Onward}
-use Rattle.expand.specs.declared.rewriting.Onward.TheVariants as onward
-use Rattle.table.specs.Sizes.{cell_size, two_cells, node_spare}
+use Rattle.table.specs.Sizes.{cell_size, node_spare}
 
 pub by_name : {x : ℕ} {l : List ℕ} {b : Binder} {k : rules.Binder} → ShownBinder x l b k → Named b k
 by_name w = record { name = w.name; scope = w.scope; declared = w.declared; small = w.small }
@@ -50,17 +48,17 @@ scoped_add_ready r = record { thing = r.object; shown = r.shown_body; room = r.r
 pub scoped_declared : {l : List ℕ} {s : State} {b : Binder} {kind thing body : ℕ} {at : Surroundings} → ReadyScoped l s b kind thing body at → Declared b.scope
 scoped_declared r = r.named.declared
 
-module _ (at : Surroundings) (b : Binder) {l l1 : List ℕ} {s : State} {body : ℕ} {a : Answer} (v : Changes (add_scope b.scope.0 at.phase) l l1 s body a) where
-  changed : {k : rules.Binder} → Named b k → (q : Store) (y : Stx) → Rep l s.top body (stx y) → Agrees objects 1 node_spare l l1 s q (change_rule (add_scope k.scope at.phase) y (state_of s q)) (ended a)
+module _ (at : Surroundings) (b : Binder) {l l1 : List ℕ} {s : State} {body : ℕ} {a : Result Out Stop} (v : Changes (add_scope b.scope.0 at.phase) l l1 s body a) where
+  changed : {k : rules.Binder} → Named b k → (q : Store) (y : Stx) → Rep l s.top body (stx y) → Agrees objects 1 node_spare l l1 s q (change_rule (add_scope k.scope at.phase) y (state_of s q)) a
   changed n q y u = rw n.scope at (v.means q y u)
 
-  pub scoped_refused : {kind thing : ℕ} {f : Stop} → a ≡ Refused f → Scoped at l l1 s b kind thing body (onward.Refused f)
+  pub scoped_refused : {r : Result Next Stop} {kind thing : ℕ} {f : Stop} → a ≡ Err f → r ≡ Err f → Scoped at l l1 s b kind thing body r
   unfolding scoped_rule add_to change_rule
-  scoped_refused e = record { means = λ q k w y g n p u c. stops _ (then_no _ (on_refused (changed n q y u) (ap ended e))) }
+  scoped_refused e same = rw same (record { means = λ q k w y g n p u c. stops _ (then_no _ (on_refused (changed n q y u) e)) })
 
-  module _ {o : Out} (e : a ≡ Done o) where
+  module _ {o : Out} (e : a ≡ Ok o) where
     added : {k : rules.Binder} → Named b k → (q : Store) (y : Stx) → Rep l s.top body (stx y) → Gave objects 1 node_spare l l1 s q (change_rule (add_scope k.scope at.phase) y (state_of s q)) o
-    added n q y u = on_done (changed n q y u) (ap ended e)
+    added n q y u = on_done (changed n q y u) e
 
     pub scoped_roomy : {kind thing : ℕ} → ReadyScoped l s b kind thing body at → length l1 ≡ length l → Roomy l1 o.state.top cell_size
     scoped_roomy r len =
@@ -68,7 +66,7 @@ module _ (at : Surroundings) (b : Binder) {l l1 : List ℕ} {s : State} {body : 
         record { fits = omega (arith, g.later.fits, r.room.fits, len); small = omega (arith, r.room.small, len); low = omega (arith, r.room.low, g.later.grows) }
 
     pub scoped_next : {kind thing : ℕ} {l2 : List ℕ} {k : Made} {t : State} → Extended l1 l2 o.state.top b.name.0 kind thing at.meanings k.at k.top → t ≡ raised_to k.top o.state
-        → Scoped at l l2 s b kind thing body (onward.Done (record { at = o.at; scope = b.scope; meanings = k.at; state = t }))
+        → Scoped at l l2 s b kind thing body (Ok (record { at = o.at; scope = b.scope; meanings = k.at; state = t }))
     unfolding scoped_rule add_to change_rule
     scoped_next {l2 = l2} {k = k} x z =
         rw z (record {
@@ -100,27 +98,19 @@ module _ (at : Surroundings) (b : Binder) {l l1 : List ℕ} {s : State} {body : 
 
 -- ---- what is expanded next
 
--- the units that are left where its expansion starts
-abbrev pub left_of : Onward → ℕ
-left_of (onward.Done o) = o.state.left
-left_of (onward.Refused f) = 0
+module _ {at : Surroundings} {n v : ℕ} {l l1 : List ℕ} {s : State} {b : Store} {q : ms.Out Further} {x : Result Next Stop} (a : Agrees (nexts at) n v l l1 s b q x) where
+  module _ {o : Next} (e : x ≡ Ok o) where
+    pub next_less : o.state.left ≤ s.left
+    next_less = omega (arith, (on_done a e).later.spent)
 
-pub onward_less : {at : Surroundings} {n v : ℕ} {l l1 : List ℕ} {s : State} {b : Store} {q : ms.Out Further} (x : Onward) → Agrees (nexts at) n v l l1 s b q (onward_of x) → left_of x ≤ s.left
-onward_less (onward.Done o) a = omega (arith, (on_done a refl).later.spent)
-onward_less (onward.Refused f) a = omega arith
+    pub next_ready : {st st1 : List ℕ} → Room l s → Held st s → length l1 ≡ length l → length st1 ≡ length st → ReadyNext l1 st1 o at
+    next_ready r h len len2 =
+        let g = on_done a e in
+        record { further = g.value; shown = g.shown; room = room-later r g.later len; held = record { few = g.shown.few; wide = omega (arith, h.wide, len2) } }
 
-pub onward-ready : {at : Surroundings} {n v : ℕ} {st st1 l l1 : List ℕ} {s : State} {b : Store} {q : ms.Out Further} {x : Onward} → Agrees (nexts at) n v l l1 s b q (onward_of x) → Room l s → Held st s → length l1 ≡ length l → length st1 ≡ length st → ReadyOnward l1 st1 x at
-onward-ready a r h len len2 =
-    record {
-      next = λ o e.
-          let g = on_done a (ap onward_of e) in
-          record { further = g.value; shown = g.shown; room = room-later r g.later len; held = record { few = g.shown.few; wide = omega (arith, h.wide, len2) } };
-    }
-
-pub onward-goes : {at : Surroundings} {st st1 l l1 l2 : List ℕ} {s : State} {q : ms.Out Further} {r : Answer} (x : Onward) → Agrees (nexts at) 1 cell_size l l1 s (store_of st) q (onward_of x) → ExpandedOnward at st st1 l1 l2 x r
-    → Agrees objects 2 node_spare l l2 s (store_of st1) (after q (further_rule (expansion at.entries))) (ended r)
-onward-goes (onward.Done o) a e = let j = on_done a refl in since 2 node_spare j.later (omega arith) (omega arith) (then_ok _ j.is) (e.means o j.value refl j.shown)
-onward-goes (onward.Refused f) a e = rw (e.refused f refl) (stops f (then_no _ (on_refused a refl)))
+pub next_goes : {at : Surroundings} {st st1 l l1 l2 : List ℕ} {s : State} {q : ms.Out Further} {x : Result Next Stop} {o : Next} {r : Result Out Stop} → Agrees (nexts at) 1 cell_size l l1 s (store_of st) q x → x ≡ Ok o
+    → ExpandedNext at st st1 l1 l2 o r → Agrees objects 2 node_spare l l2 s (store_of st1) (after q (further_rule (expansion at.entries))) r
+next_goes a e f = let j = on_done a e in since 2 node_spare j.later (omega arith) (omega arith) (then_ok _ j.is) (f.means j.value j.shown)
 
 pub ruleset laws = (
   scoped_add_ready,

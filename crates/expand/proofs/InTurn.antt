@@ -1,4 +1,5 @@
 -- Expanding the parts of a chain in turn: what the loop knows, and one law for each of its needs.
+use Rattle.std.specs.Prelude.{Result, Ok, Err}
 use mathlib.Core.Path.{◌≡◌, refl, sym, ap, ◌∙◌}
 use mathlib.Core.List.{List}
 use Prim.Native.Nat.{ℕ, ◌+◌, ◌*◌, ◌≤◌, ◌<◌}
@@ -13,12 +14,10 @@ use Rattle.model.specs.Scopes.{Scopes}
 use Rattle.store.specs.Sizes.{most_bindings, held_size}
 use Rattle.store.specs.Words.{prunable_of}
 use Rattle.steps.specs.States.{store_of, state_of, raised_to, end}
-use Rattle.steps.specs.Agreement.{Later, ended, Gave, Agrees, gives, stops}
+use Rattle.steps.specs.Agreement.{Later, Gave, Agrees, gives, stops}
 use Rattle.steps.specs.declared.State.{State}
 use Rattle.steps.specs.declared.Stop.{Stop}
 use Rattle.steps.specs.declared.Out.{Out}
-use Rattle.steps.specs.declared.Answer.{Answer}
-use Rattle.steps.specs.declared.Answer.TheVariants.{Done, Refused}
 use Rattle.steps.proofs.Laws.{then_ok, then_no, after-after, after-done, on_done, on_refused}
 use Rattle.table.specs.Sizes.{cell_size, two_cells}
 use Rattle.table.specs.Words.{get_cell, Same}
@@ -120,27 +119,27 @@ module _ {at : Surroundings} {st l : List ℕ} {s : State} {c : ℕ} (r : ReadyP
       pub part_falls : x.tail < from
       part_falls = (first-at half.rest half.shown n e).cell.low.1
 
-      module _ {st2 l2 : List ℕ} {p : Scopes} {a : Answer} (same : p ≡ prunable_of st1) (v : ExpandedInside at st1 st2 l1 l2 t p x.head a) where
+      module _ {st2 l2 : List ℕ} {p : Scopes} {a : Result Out Stop} (same : p ≡ prunable_of st1) (v : ExpandedInside at st1 st2 l1 l2 t p x.head a) where
         -- the set put is the one that is there
         meant-inside : (z : Stx) (d : Around) → Rep l1 t.top x.head (stx z) → RepA l1 t.top at d
-            → Agrees objects 1 two_cells l1 l2 t (store_of st2) (inside (λ p. p) (expand at.entries (around d at) z) (state_of t (store_of st1))) (ended a)
+            → Agrees objects 1 two_cells l1 l2 t (store_of st2) (inside (λ p. p) (expand at.entries (around d at) z) (state_of t (store_of st1))) a
         unfolding inside
         meant-inside z d w y = rw same at (v.means z d w y)
 
-        pub part-refused : {f : Stop} → a ≡ Refused f → ExpandedParts at st st2 l l2 s c (Refused f)
+        pub part-refused : {r : Result Out Stop} {f : Stop} → a ≡ Err f → r ≡ Err f → ExpandedParts at st st2 l l2 s c r
         unfolding expand_all
-        part-refused k = record {
+        part-refused k same = rw same (record {
           means = λ ps d w y.
               let h = g.means ps d w y in
               let q = first-at h.rest h.shown n e in
               stops _ (h.whole ∙ ap (λ (z : Stxs). after (all at d z (state_of t (store_of st1))) (handed_on h.done)) q.is
-              ∙ then_no _ (then_no _ (on_refused (meant-inside q.first d q.cell.shown (carry_a y g.kept g.grows)) (ap ended k))));
-        }
+              ∙ then_no _ (then_no _ (on_refused (meant-inside q.first d q.cell.shown (carry_a y g.kept g.grows)) k)));
+        })
 
-        module _ {o : Out} (k : a ≡ Done o) where
+        module _ {o : Out} (k : a ≡ Ok o) where
           gave : (z : Stx) (d : Around) → Rep l1 t.top x.head (stx z) → RepA l1 t.top at d
               → Gave objects 1 two_cells l1 l2 t (store_of st2) (inside (λ p. p) (expand at.entries (around d at) z) (state_of t (store_of st1))) o
-          gave z d w y = on_done (meant-inside z d w y) (ap ended k)
+          gave z d w y = on_done (meant-inside z d w y) k
 
           pub part_linkable : length l2 ≡ length l1 → Linkable l2 o.state.top o.at turned
           part_linkable len =
@@ -190,7 +189,7 @@ module _ {at : Surroundings} {st l : List ℕ} {s : State} {c : ℕ} (r : ReadyP
   parts_turnable z = turnable within.room half.fits (omega (arith, r.within.room.fits, g.long)) half.made
 
 pub parts_turned : {at : Surroundings} {st l : List ℕ} {s : State} {c : ℕ} {st1 l1 : List ℕ} {t : State} {from turned : ℕ} → Going at st l s c st1 l1 t from turned → from ≡ 0
-    → {l2 : List ℕ} {d : Made} {u : State} → Turned l1 l2 t.top turned d.at d.top → u ≡ raised_to d.top t → ExpandedParts at st st1 l l2 s c (Done (record { at = d.at; state = u }))
+    → {l2 : List ℕ} {d : Made} {u : State} → Turned l1 l2 t.top turned d.at d.top → u ≡ raised_to d.top t → ExpandedParts at st st1 l l2 s c (Ok (record { at = d.at; state = u }))
 unfolding expand_all from_stxs
 parts_turned {at} {st} {l} {s} {c} {st1} {l1} {t} {from} {turned} g z {l2} {d} {u} y e =
     record {

@@ -1,7 +1,8 @@
 -- Primitive 8: one law for each way through it.
-use mathlib.Core.Path.{◌≡◌, refl, sym, ap, ◌∙◌}
+use Rattle.std.specs.Prelude.{Result, Ok, Err}
+use mathlib.Core.Path.{◌≡◌, refl, ◌∙◌}
 use mathlib.Core.List.{List}
-use Prim.Native.Nat.{ℕ, ◌+◌, ◌*◌, ◌≤◌, ◌<◌}
+use Prim.Native.Nat.{ℕ, ◌+◌, ◌*◌, ◌<◌}
 use native.Mathlib.Omega.{arith}
 use lib.ListN.{length}
 use Rattle.model.specs.Objects.{Stx, flip_scope}
@@ -9,7 +10,7 @@ use Rattle.model.specs.Meanings as m
 use Rattle.model.specs.Meanings.{with_stops}
 use Rattle.model.specs.Steps as ms
 use Rattle.model.specs.Steps.{ok, after, flip_in}
-use Rattle.model.specs.Trees.{Tree, Trees, stx, tcount}
+use Rattle.model.specs.Trees.{Tree, Trees, stx}
 use Rattle.model.specs.Evaluating.{Expander, argument}
 use Rattle.model.specs.Expanding.{expand}
 use Rattle.scopes.specs.Sets.{Declared}
@@ -18,34 +19,29 @@ use Rattle.primitives.proofs.Choosing.{given_1, given_2}
 use Rattle.steps.specs.declared.State.{State}
 use Rattle.steps.specs.declared.Stop.{Stop}
 use Rattle.steps.specs.declared.Out.{Out}
-use Rattle.steps.specs.declared.Answer.{Answer}
-use Rattle.steps.specs.declared.Answer.TheVariants.{Done, Refused}
 use Rattle.steps.specs.States.{Store, store_of, state_of}
-use Rattle.steps.specs.Agreement.{Ended, ended, Gave, Agrees, gives, stops}
-use Rattle.steps.proofs.Laws.{then_ok, then_no, after-after, room-later, on_done, on_refused, since}
+use Rattle.steps.specs.Agreement.{Gave, Agrees, gives, stops}
+use Rattle.steps.proofs.Laws.{then_ok, then_no, room-later, on_done, on_refused, since}
 use Rattle.parse.specs.Shown.{trees}
 use Rattle.environment.specs.declared.Place.{Place}
-use Rattle.environment.specs.Places.{RepPlace, is-nowhere, is_use_lem}
+use Rattle.environment.specs.Places.{RepPlace, is_use_lem}
 use Rattle.environment.specs.Meanings.{RepE}
 use Rattle.environment.proofs.Frame.{carry_e}
 use Rattle.scoping.specs.Changing.{objects, change_rule, ReadyObject, Changes}
 use Rattle.applying.specs.declared.Values.{Values}
-use Rattle.asking.specs.Pieces.{Opened, pieces, opening_of, close_rule, opened_rule, open_spare, ReadyToOpen, Opens}
+use Rattle.asking.specs.Pieces.{pieces, close_rule, opened_rule, open_spare, ReadyToOpen, Opens}
 use Rattle.asking.specs.declared.Piece.{Piece}
-use Rattle.asking.specs.declared.Opening.{Opening}
-use Rattle.asking.specs.declared.Opening.TheVariants as opening
 use Rattle.asking.proofs.Pieces.{opened_split}
-use Rattle.expand.specs.Leaves.{Around, around}
 use Rattle.expand.specs.Evaluation.{ReadyWithin, within_of, DoesWithin}
 use Rattle.expand.specs.Cycle.{expansion, ReadyToExpand, Expanded}
 use Rattle.expand.specs.declared.Surroundings.{Surroundings}
 use Rattle.table.specs.Sizes.{node_spare, two_cells}
 
-flip-at : {k ph k1 ph1 i : ℕ} {l l1 : List ℕ} {s : State} {r : Answer} → k ≡ k1 → ph ≡ ph1 → Changes (flip_scope k ph) l l1 s i r → Changes (flip_scope k1 ph1) l l1 s i r
+flip-at : {k ph k1 ph1 i : ℕ} {l l1 : List ℕ} {s : State} {r : Result Out Stop} → k ≡ k1 → ph ≡ ph1 → Changes (flip_scope k ph) l l1 s i r → Changes (flip_scope k1 ph1) l l1 s i r
 flip-at e f h = rw (e, f) at h
 
 -- an object is a tree
-as_tree : {l l1 : List ℕ} {s : State} {b : Store} {o : ms.Out Stx} {c : Ended Out} → Agrees objects 1 node_spare l l1 s b o c → Agrees trees 1 node_spare l l1 s b (after o (λ x. λ y. ok (stx x) y)) c
+as_tree : {l l1 : List ℕ} {s : State} {b : Store} {o : ms.Out Stx} {c : Result Out Stop} → Agrees objects 1 node_spare l l1 s b o c → Agrees trees 1 node_spare l l1 s b (after o (λ x. λ y. ok (stx x) y)) c
 as_tree (gives o y) = gives o (record { value = stx y.value; is = then_ok _ y.is; shown = record { rep = y.shown.rep; few = y.shown.few }; later = y.later })
 as_tree (stops f y) = stops f (then_no _ y)
 
@@ -86,36 +82,36 @@ module _ {l st : List ℕ} {v : Values} {place : Place} (r : ReadyWithin l st v 
   pub within-declared : Declared place.intro
   within-declared = (use_at_lem r.used).declared
 
-module _ {entries : ℕ} {place : Place} {st l l1 : List ℕ} {v : Values} {b : Opening} (d : Opens place st l l1 v.state v.x v.y b) where
-  pub within_unopened : {f : Stop} → b ≡ opening.Refused f → DoesWithin entries place st st l l1 v (Refused f)
-  within_unopened e =
-      record {
+module _ {entries : ℕ} {place : Place} {st l l1 : List ℕ} {v : Values} {b : Result Piece Stop} (d : Opens place st l l1 v.state v.x v.y b) where
+  pub within_unopened : {r : Result Out Stop} {f : Stop} → b ≡ Err f → r ≡ Err f → DoesWithin entries place st st l l1 v r
+  within_unopened e same =
+      rw same (record {
         means = λ ts k here g n w.
             stops _ (within_split (expansion entries) k here ts (state_of v.state (store_of st))
-            ∙ then_no _ (on_refused (d.means (argument ts 0) (argument ts 1) k here (given_1 g (omega (arith, n))) (given_2 g n) w) (ap opening_of e)));
-      }
+            ∙ then_no _ (on_refused (d.means (argument ts 0) (argument ts 1) k here (given_1 g (omega (arith, n))) (given_2 g n) w) e));
+      })
 
 -- what was opened, and what it expands to
-module _ {place : Place} {st l l1 : List ℕ} {s : State} {i j : ℕ} {b : Opening} (d : Opens place st l l1 s i j b) {o : Piece} (e : b ≡ opening.Done o) where
+module _ {place : Place} {st l l1 : List ℕ} {s : State} {i j : ℕ} {b : Result Piece Stop} (d : Opens place st l l1 s i j b) {o : Piece} (e : b ≡ Ok o) where
   opened-to : (t u : Tree) (k : ℕ) (here : m.Surroundings) → Rep l s.top i t → Rep l s.top j u → RepPlace l s.top place (m.macro_use k here)
       → Gave pieces 2 open_spare l l1 s (store_of st) (opened_rule k here t u (state_of s (store_of st))) o
-  opened-to t u k here p q w = on_done (d.means t u k here p q w) (ap opening_of e)
+  opened-to t u k here p q w = on_done (d.means t u k here p q w) e
 
-  module _ {entries : ℕ} {st1 l2 : List ℕ} {a : Answer} (c : Expanded (locally entries place o.stops) st st1 l1 l2 o.state o.at a) where
+  module _ {entries : ℕ} {st1 l2 : List ℕ} {a : Result Out Stop} (c : Expanded (locally entries place o.stops) st st1 l1 l2 o.state o.at a) where
     same-phase : {ph1 ph2 : ℕ} (e1 : m.Env) (zs : List ℕ) (y : Stx) → ph1 ≡ ph2
-        → Agrees objects 1 two_cells l1 l2 o.state (store_of st1) (expand entries (record { phase = ph1; meanings = e1; stops = zs }) y (state_of o.state (store_of st))) (ended a)
-        → Agrees objects 1 two_cells l1 l2 o.state (store_of st1) (expand entries (record { phase = ph2; meanings = e1; stops = zs }) y (state_of o.state (store_of st))) (ended a)
+        → Agrees objects 1 two_cells l1 l2 o.state (store_of st1) (expand entries (record { phase = ph1; meanings = e1; stops = zs }) y (state_of o.state (store_of st))) a
+        → Agrees objects 1 two_cells l1 l2 o.state (store_of st1) (expand entries (record { phase = ph2; meanings = e1; stops = zs }) y (state_of o.state (store_of st))) a
     same-phase e1 zs y z h = rw z at h
 
     expanded : (t u : Tree) (k : ℕ) (here : m.Surroundings) (p : Rep l s.top i t) (q : Rep l s.top j u) (w : RepPlace l s.top place (m.macro_use k here))
-        → Agrees objects 1 two_cells l1 l2 o.state (store_of st1) (expand entries (with_stops (opened-to t u k here p q w).value.names here) (opened-to t u k here p q w).value.object (state_of o.state (store_of st))) (ended a)
+        → Agrees objects 1 two_cells l1 l2 o.state (store_of st1) (expand entries (with_stops (opened-to t u k here p q w).value.names here) (opened-to t u k here p q w).value.object (state_of o.state (store_of st))) a
     expanded t u k here p q w =
         let g = opened-to t u k here p q w in
         let y = use_at_lem w in
         same-phase here.meanings g.value.names g.value.object y.phase
         (c.means g.value.object (record { meanings = here.meanings; stops = g.value.names }) g.shown.rep (record { meant = carry_e y.known g.later.kept g.later.grows; stopped = g.shown.stops }))
 
-module _ {place : Place} {st l l1 : List ℕ} {b : Opening} {o : Piece} (e : b ≡ opening.Done o) where
+module _ {place : Place} {st l l1 : List ℕ} {b : Result Piece Stop} {o : Piece} (e : b ≡ Ok o) where
   pub within-expand : {v : Values} {entries : ℕ} → Opens place st l l1 v.state v.x v.y b → ReadyWithin l st v place → length l1 ≡ length l → ReadyToExpand l1 st o.state o.at (locally entries place o.stops)
   within-expand d r len =
       let y = open_ready r in
@@ -135,27 +131,27 @@ module _ {place : Place} {st l l1 : List ℕ} {b : Opening} {o : Piece} (e : b �
   pub within_less : {v : Values} {T : ℕ} → Opens place st l l1 v.state v.x v.y b → ReadyWithin l st v place → v.state.left * 32 + 1 ≡ T → o.state.left * 32 < T
   within_less d r z = let y = open_ready r in omega (arith, (opened-to d e y.first y.second y.intro y.here y.shown y.shown-second y.used).later.spent)
 
-  module _ {entries : ℕ} {st1 l2 : List ℕ} {a : Answer} (c : Expanded (locally entries place o.stops) st st1 l1 l2 o.state o.at a) where
-    pub within-refused : {v : Values} {f : Stop} → Opens place st l l1 v.state v.x v.y b → a ≡ Refused f → DoesWithin entries place st st1 l l2 v (Refused f)
+  module _ {entries : ℕ} {st1 l2 : List ℕ} {a : Result Out Stop} (c : Expanded (locally entries place o.stops) st st1 l1 l2 o.state o.at a) where
+    pub within-refused : {r : Result Out Stop} {v : Values} {f : Stop} → Opens place st l l1 v.state v.x v.y b → a ≡ Err f → r ≡ Err f → DoesWithin entries place st st1 l l2 v r
     unfolding close_rule
-    within-refused {v} d z =
-        record {
+    within-refused {v = v} d z same =
+        rw same (record {
           means = λ ts k here g n w.
               let p = given_1 g (omega (arith, n)) in
               let q = given_2 g n in
               let j = opened-to d e (argument ts 0) (argument ts 1) k here p q w in
-              stops _ (within_split (expansion entries) k here ts (state_of v.state (store_of st)) ∙ then_ok _ j.is ∙ then_no _ (on_refused (expanded d e c (argument ts 0) (argument ts 1) k here p q w) (ap ended z)));
-        }
+              stops _ (within_split (expansion entries) k here ts (state_of v.state (store_of st)) ∙ then_ok _ j.is ∙ then_no _ (on_refused (expanded d e c (argument ts 0) (argument ts 1) k here p q w) z));
+        })
 
-    module _ {x : Out} (z : a ≡ Done x) where
+    module _ {x : Out} (z : a ≡ Ok x) where
       pub within-flip : {v : Values} → Opens place st l l1 v.state v.x v.y b → ReadyWithin l st v place → length l1 ≡ length l → length l2 ≡ length l1 → ReadyObject l2 x.state x.at
       within-flip d r len len2 =
           let y = open_ready r in
           let first = opened-to d e y.first y.second y.intro y.here y.shown y.shown-second y.used in
-          let g = on_done (expanded d e c y.first y.second y.intro y.here y.shown y.shown-second y.used) (ap ended z) in
+          let g = on_done (expanded d e c y.first y.second y.intro y.here y.shown y.shown-second y.used) z in
           record { thing = g.value; shown = g.shown.rep; room = room-later (room-later r.room first.later len) g.later len2; few = g.shown.few }
 
-      pub within-done : {v : Values} {l3 : List ℕ} {b3 : Answer} → Opens place st l l1 v.state v.x v.y b → Changes (flip_scope place.intro.0 place.phase) l2 l3 x.state x.at b3 → DoesWithin entries place st st1 l l3 v b3
+      pub within-done : {v : Values} {l3 : List ℕ} {b3 : Result Out Stop} → Opens place st l l1 v.state v.x v.y b → Changes (flip_scope place.intro.0 place.phase) l2 l3 x.state x.at b3 → DoesWithin entries place st st1 l l3 v b3
       unfolding close_rule flip_in change_rule
       within-done {v} {l3} {b3} d f =
           record {
@@ -163,7 +159,7 @@ module _ {place : Place} {st l l1 : List ℕ} {b : Opening} {o : Piece} (e : b �
                 let p = given_1 g (omega (arith, n)) in
                 let q = given_2 g n in
                 let j = opened-to d e (argument ts 0) (argument ts 1) k here p q w in
-                let y = on_done (expanded d e c (argument ts 0) (argument ts 1) k here p q w) (ap ended z) in
+                let y = on_done (expanded d e c (argument ts 0) (argument ts 1) k here p q w) z in
                 let u = use_at_lem w in
                 since 0 0 j.later (omega arith) (omega arith) (within_split (expansion entries) k here ts (state_of v.state (store_of st)) ∙ then_ok _ j.is)
                 (since 0 0 y.later (omega arith) (omega arith) (then_ok _ y.is)

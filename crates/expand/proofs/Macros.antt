@@ -1,8 +1,10 @@
 -- (let-syntax id rhs body): one law for each way through it.
-use mathlib.Core.Path.{◌≡◌, sym, ap, ◌∙◌}
+use Rattle.expand.specs.declared.rewriting.Next.{Next}
+use Rattle.std.specs.Prelude.{Result, Ok, Err, Option, Some, None}
+use mathlib.Core.Path.{◌≡◌, sym, ◌∙◌}
 use mathlib.Core.List.{List, []}
 use mathlib.Core.Bool.{Bool, true, false}
-use Prim.Native.Nat.{ℕ, ◌+◌, ◌-◌, ◌*◌, ◌^◌, ◌≤◌, ◌<◌}
+use Prim.Native.Nat.{ℕ, ◌+◌, ◌*◌, ◌^◌, ◌≤◌, ◌<◌}
 use native.Mathlib.Omega.{arith}
 use borrow.Author.Tests.{le-leb, lt-leb}
 use lib.ListN.{length}
@@ -20,36 +22,28 @@ use Rattle.things.specs.Rep.{Rep}
 use Rattle.things.specs.Measuring.{Seen, SeenP}
 use Rattle.things.proofs.Frame.{carry}
 use Rattle.steps.specs.States.{store_of, stop_of, state_of}
-use Rattle.steps.specs.Agreement.{ended, Gave, Agrees, stops}
+use Rattle.steps.specs.Agreement.{Gave, Agrees, stops}
 use Rattle.steps.specs.declared.State.{State}
 use Rattle.steps.specs.declared.Stop.{Stop}
 use Rattle.steps.specs.declared.Out.{Out}
-use Rattle.steps.specs.declared.Answer.{Answer}
-use Rattle.steps.specs.declared.Answer.TheVariants.{Done, Refused}
 use Rattle.steps.proofs.Laws.{then_ok, then_no, unless-ok, unless-no, later_refl, on_done, on_refused, since}
 use Rattle.parse.specs.Parsing.{unpaid}
 use Rattle.forms.specs.Shapes.{Triple, Identifies}
-use Rattle.forms.specs.declared.Three.{Three}
-use Rattle.forms.specs.declared.Three.TheVariants as three
 use Rattle.forms.proofs.Shapes.{on_three, on_not_three, not-parts3, not-identifier, is-identifier}
 use Rattle.stops.specs.Stops.{no-stops}
 use Rattle.environment.specs.Meanings.{is-core}
 use Rattle.scoping.specs.Changing.{objects}
-use Rattle.scoping.specs.Fresh.{ReadyBinder, bound_of, BindsFresh}
+use Rattle.scoping.specs.Fresh.{ReadyBinder, BindsFresh}
 use Rattle.scoping.proofs.Fresh.{bound_to}
 use Rattle.scoping.specs.declared.Binder.{Binder}
-use Rattle.scoping.specs.declared.Bound.{Bound}
-use Rattle.scoping.specs.declared.Bound.TheVariants as bounds
 use Rattle.expand.specs.Leaves.{Around, around, RepA}
 use Rattle.expand.specs.Values.{evaluation}
-use Rattle.expand.specs.InPlace.{nexts, onward_of, ReadyDefined, defined_rule, Defined, rhs_rule, binding_rule}
-use Rattle.expand.specs.Cycle.{expansion, ReadyToExpand, ReadyLet, ReadyOnward, ReadyBinding, ReadyRhs, ExpandedInside, ExpandedOnward, ExpandedLetSyntax, OnwardBinding, OnwardRhs}
+use Rattle.expand.specs.InPlace.{nexts, ReadyDefined, defined_rule, Defined, rhs_rule, binding_rule}
+use Rattle.expand.specs.Cycle.{expansion, ReadyToExpand, ReadyLet, ReadyNext, ReadyBinding, ReadyRhs, ExpandedInside, ExpandedNext, ExpandedLetSyntax, OnwardBinding, OnwardRhs}
 use Rattle.expand.specs.declared.Surroundings.{Surroundings}
-use Rattle.expand.specs.declared.rewriting.Onward.{Onward}
-use Rattle.expand.specs.declared.rewriting.Onward.TheVariants as onward
 use Rattle.expand.proofs.Agreeing.{beyond}
 use Rattle.expand.proofs.Leaves.{owes_none, owes_one}
-use Rattle.expand.proofs.InPlace.{left_of, onward_less, onward-ready, onward-goes}
+use Rattle.expand.proofs.InPlace.{next_less, next_ready, next_goes}
 use Rattle.expand.proofs.Rules.{binding_split}
 use Rattle.table.specs.Sizes.{cell_size, two_cells}
 use Rattle.expand.proofs.Surrounding.{carry_a, within-later, within-paid}
@@ -62,12 +56,12 @@ module _ {st l : List ℕ} (s : State) {tail : ℕ} {at : Surroundings} where
   unfolding unpaid
   let_seen r = record { top = s.top; thing = from_stxs r.parts; shown = r.shown; inside = omega (arith, r.within.room.fits); small = r.within.room.small }
 
-  module _ {d : Three} (h : Triple l tail d) where
-    pub let_shape : {r : Answer} → d ≡ three.Not → r ≡ Refused (stop_of NoRule s) → ExpandedLetSyntax at st st l l s tail r
+  module _ {d : Option (ℕ × ℕ × ℕ)} (h : Triple l tail d) where
+    pub let_shape : {r : Result Out Stop} → d ≡ None → r ≡ Err (stop_of NoRule s) → ExpandedLetSyntax at st st l l s tail r
     unfolding expand_let_syntax
     let_shape e same = rw same (record { means = λ ps g w z. stops _ (not-parts3 ps _ (state_of s (store_of st)) (on_not_three (h.means s.top ps w) e)) })
 
-    module _ {a b c : ℕ} (e : d ≡ three.Are a b c) where
+    module _ {a b c : ℕ} (e : d ≡ Some (a, b, c)) where
       pub let_id_seen : ReadyLet l st (unpaid s) tail at → Seen l a
       unfolding unpaid
       let_id_seen r =
@@ -75,7 +69,7 @@ module _ {st l : List ℕ} (s : State) {tail : ℕ} {at : Surroundings} where
           record { top = s.top; thing = stx q.first; shown = q.shown; inside = omega (arith, r.within.room.fits); small = r.within.room.small }
 
       module _ {z : Bool} (f : Identifies l a z) where
-        pub let_no_id : {r : Answer} → z ≡ false → r ≡ Refused (stop_of NoRule s) → ExpandedLetSyntax at st st l l s tail r
+        pub let_no_id : {r : Result Out Stop} → z ≡ false → r ≡ Err (stop_of NoRule s) → ExpandedLetSyntax at st st l l s tail r
         unfolding expand_let_syntax parts3
         let_no_id t same =
             rw same (record {
@@ -92,26 +86,38 @@ module _ {st l : List ℕ} (s : State) {tail : ℕ} {at : Surroundings} where
               let n = is-identifier q.first (sym (f.means s.top q.first q.shown) ∙ t) in
               record { binder = n.sets; symb = n.symb; thing = q.second; object = q.third; shown = rw n.is at q.shown; shown_right = q.shown-second; shown_body = q.shown-third; within = within-paid s r.within }
 
-          module _ {st1 l1 : List ℕ} {x : Onward} (v : OnwardBinding at st st1 l l1 s a b c x) where
-            let_inside : (r : ReadyBinding l st s a b c at) → Agrees (nexts at) 1 cell_size l l1 s (store_of st1) (binding_rule (expansion at.entries) (evaluation at.entries) at.entries (around r.within.meant at) r.binder r.symb r.thing r.object (state_of s (store_of st))) (onward_of x)
+          module _ {st1 l1 : List ℕ} {x : Result Next Stop} (v : OnwardBinding at st st1 l l1 s a b c x) where
+            let_inside : (r : ReadyBinding l st s a b c at) → Agrees (nexts at) 1 cell_size l l1 s (store_of st1) (binding_rule (expansion at.entries) (evaluation at.entries) at.entries (around r.within.meant at) r.binder r.symb r.thing r.object (state_of s (store_of st))) x
             let_inside r = v.means r.binder r.symb r.thing r.object r.within.meant r.shown r.shown_right r.shown_body r.within.known
 
-            pub let_next_ready : ReadyLet l st (unpaid s) tail at → length l1 ≡ length l → length st1 ≡ length st → ReadyOnward l1 st1 x at
-            let_next_ready r len len2 = let q = let_binding_ready r in onward-ready (let_inside q) q.within.room q.within.held len len2
-
-            pub let_less : {T : ℕ} → ReadyLet l st (unpaid s) tail at → s.left * 32 + 18 ≡ T → left_of x * 32 + 2 < T
-            let_less r z = omega (arith, onward_less x (let_inside (let_binding_ready r)))
-
-            pub let_expanded : {st2 l2 : List ℕ} {r : Answer} → ExpandedOnward at st1 st2 l1 l2 x r → ExpandedLetSyntax at st st2 l l2 s tail r
+            pub let_unbound : {r : Result Out Stop} {q : Stop} → x ≡ Err q → r ≡ Err q → ExpandedLetSyntax at st st1 l l1 s tail r
             unfolding expand_let_syntax parts3 identifier
-            let_expanded p =
-                record {
+            let_unbound y same =
+                rw same (record {
                   means = λ ps g w k.
                       let q = on_three (h.means s.top ps w) e in
                       let n = is-identifier q.first (sym (f.means s.top q.first q.shown) ∙ t) in
-                      let y = onward-goes x (v.means n.sets n.symb q.second q.third g (rw n.is at q.shown) q.shown-second q.shown-third k) p in
-                      rw (q.is, n.is) (beyond 1 two_cells 0 1 (later_refl l s) (owes_none s) (owes_one s) (omega arith) (omega arith) (binding_split (expansion at.entries) (evaluation at.entries) at.entries (around g at) (state_of s (store_of st)) n.sets n.symb q.second q.third) y);
-                }
+                      rw (q.is, n.is) (stops _ (binding_split (expansion at.entries) (evaluation at.entries) at.entries (around g at) (state_of s (store_of st)) n.sets n.symb q.second q.third
+                      ∙ then_no _ (on_refused (v.means n.sets n.symb q.second q.third g (rw n.is at q.shown) q.shown-second q.shown-third k) y)));
+                })
+
+            module _ {o : Next} (d1 : x ≡ Ok o) where
+              pub let_next_ready : ReadyLet l st (unpaid s) tail at → length l1 ≡ length l → length st1 ≡ length st → ReadyNext l1 st1 o at
+              let_next_ready r len len2 = let q = let_binding_ready r in next_ready (let_inside q) d1 q.within.room q.within.held len len2
+
+              pub let_less : {T : ℕ} → ReadyLet l st (unpaid s) tail at → s.left * 32 + 18 ≡ T → o.state.left * 32 + 2 < T
+              let_less r z = omega (arith, next_less (let_inside (let_binding_ready r)) d1)
+
+              pub let_expanded : {st2 l2 : List ℕ} {r : Result Out Stop} → ExpandedNext at st1 st2 l1 l2 o r → ExpandedLetSyntax at st st2 l l2 s tail r
+              unfolding expand_let_syntax parts3 identifier
+              let_expanded p =
+                  record {
+                    means = λ ps g w k.
+                        let q = on_three (h.means s.top ps w) e in
+                        let n = is-identifier q.first (sym (f.means s.top q.first q.shown) ∙ t) in
+                        let y = next_goes (v.means n.sets n.symb q.second q.third g (rw n.is at q.shown) q.shown-second q.shown-third k) d1 p in
+                        rw (q.is, n.is) (beyond 1 two_cells 0 1 (later_refl l s) (owes_none s) (owes_one s) (omega arith) (omega arith) (binding_split (expansion at.entries) (evaluation at.entries) at.entries (around g at) (state_of s (store_of st)) n.sets n.symb q.second q.third) y);
+                  }
 
 -- ---- binding
 
@@ -119,12 +125,12 @@ module _ {st l : List ℕ} {s : State} {id right body : ℕ} {at : Surroundings}
   pub binding_binder_ready : ReadyBinder l st s id
   binding_binder_ready = record { sets = r.binder; symb = r.symb; shown = r.shown; room = r.within.room; held = r.within.held }
 
-  module _ {st1 l1 : List ℕ} {z : Bound} (v : BindsFresh at.phase st st1 l l1 s id z) where
-    pub binding_refused : {f : Stop} → z ≡ bounds.Refused f → OnwardBinding at st st1 l l1 s id right body (onward.Refused f)
+  module _ {st1 l1 : List ℕ} {z : Result Binder Stop} (v : BindsFresh at.phase st st1 l l1 s id z) where
+    pub binding_refused : {r : Result Next Stop} {f : Stop} → z ≡ Err f → r ≡ Err f → OnwardBinding at st st1 l l1 s id right body r
     unfolding binding_rule
-    binding_refused e = record { means = λ c x u y g a b w k. stops _ (then_no _ (on_refused (v.means c x a) (ap bound_of e))) }
+    binding_refused e same = rw same (record { means = λ c x u y g a b w k. stops _ (then_no _ (on_refused (v.means c x a) e)) })
 
-    module _ {o : Binder} (e : z ≡ bounds.Done o) where
+    module _ {o : Binder} (e : z ≡ Ok o) where
       pub binding_less : {T : ℕ} → s.left * 32 + 17 ≡ T → o.state.left * 32 + 18 < T
       binding_less t = omega (arith, (bound_to v e r.binder r.symb r.shown).later.spent)
 
@@ -141,7 +147,7 @@ module _ {st l : List ℕ} {s : State} {id right body : ℕ} {at : Surroundings}
             within = within-later r.within g.later g.shown.few len len2;
           }
 
-      pub binding_rhs : {st2 l2 : List ℕ} {q : Onward} → OnwardRhs at st1 st2 l1 l2 o right body q → OnwardBinding at st st2 l l2 s id right body q
+      pub binding_rhs : {st2 l2 : List ℕ} {q : Result Next Stop} → OnwardRhs at st1 st2 l1 l2 o right body q → OnwardBinding at st st2 l l2 s id right body q
       unfolding binding_rule
       binding_rhs f =
           record {
@@ -156,7 +162,7 @@ module _ {st l : List ℕ} {s : State} {id right body : ℕ} {at : Surroundings}
 pub rhs_up : (at : Surroundings) → at.phase < 2 → at.phase + 1 < 2 ^ 32
 rhs_up at h = omega arith
 
-pub rhs_phase : {st l : List ℕ} {b : Binder} {right body : ℕ} {at : Surroundings} {f : Stop} → 2 ≤ at.phase → f ≡ stop_of NoPhase b.state → OnwardRhs at st st l l b right body (onward.Refused f)
+pub rhs_phase : {st l : List ℕ} {b : Binder} {right body : ℕ} {at : Surroundings} {f : Stop} → 2 ≤ at.phase → f ≡ stop_of NoPhase b.state → OnwardRhs at st st l l b right body (Err f)
 unfolding rhs_rule last_phase
 rhs_phase {st} {b = b} {at = at} h same =
     rw same (record { means = λ n u y g d w z k. stops _ (then_no _ (unless-no ref.no_phase (state_of b.state (store_of st)) (lt-leb (at.phase + 1) 2 (omega arith)))) })
@@ -171,8 +177,8 @@ bare = record { meanings = core_only; stops = [] }
 bare_known : {l : List ℕ} {top : ℕ} (at : Surroundings) → RepA l top (above_of at) bare
 bare_known at = record { meant = is-core; stopped = no-stops }
 
-module _ {st l : List ℕ} {s : State} {right : ℕ} (at : Surroundings) (h : at.phase < 2) {p : Scopes} (f : p ≡ no_scopes) {st1 l1 : List ℕ} {a : Answer} (v : ExpandedInside (above_of at) st st1 l l1 s p right a) where
-  above : (g : Around) (u : Stx) → Rep l s.top right (stx u) → Agrees objects 1 two_cells l l1 s (store_of st1) (inside (λ q. no_scopes) (expand at.entries (of_right_hand_side (around g at)) u) (state_of s (store_of st))) (ended a)
+module _ {st l : List ℕ} {s : State} {right : ℕ} (at : Surroundings) (h : at.phase < 2) {p : Scopes} (f : p ≡ no_scopes) {st1 l1 : List ℕ} {a : Result Out Stop} (v : ExpandedInside (above_of at) st st1 l l1 s p right a) where
+  above : (g : Around) (u : Stx) → Rep l s.top right (stx u) → Agrees objects 1 two_cells l l1 s (store_of st1) (inside (λ q. no_scopes) (expand at.entries (of_right_hand_side (around g at)) u) (state_of s (store_of st))) a
   above g u w = rw f at (v.means u bare w (bare_known at))
 
   starts : (g : Around) (k : rules.Binder) (u y : Stx) → rhs_rule (expansion at.entries) (evaluation at.entries) at.entries (around g at) k u y (state_of s (store_of st))
@@ -180,18 +186,18 @@ module _ {st l : List ℕ} {s : State} {right : ℕ} (at : Surroundings) (h : at
   unfolding rhs_rule last_phase
   starts g k u y = then_ok _ (unless-ok ref.no_phase (state_of s (store_of st)) (le-leb (at.phase + 1) 2 (omega arith)))
 
-  right_to : {o : Out} → a ≡ Done o → (g : Around) (u : Stx) → Rep l s.top right (stx u) → Gave objects 1 two_cells l l1 s (store_of st1) (inside (λ q. no_scopes) (expand at.entries (of_right_hand_side (around g at)) u) (state_of s (store_of st))) o
-  right_to e g u w = on_done (above g u w) (ap ended e)
+  right_to : {o : Out} → a ≡ Ok o → (g : Around) (u : Stx) → Rep l s.top right (stx u) → Gave objects 1 two_cells l l1 s (store_of st1) (inside (λ q. no_scopes) (expand at.entries (of_right_hand_side (around g at)) u) (state_of s (store_of st))) o
+  right_to e g u w = on_done (above g u w) e
 
 module _ {st l : List ℕ} {b : Binder} {right body : ℕ} {at : Surroundings} (h : at.phase < 2) where
   pub rhs_expand_ready : ReadyRhs l st b right body at → ReadyToExpand l st b.state right (above_of at)
   rhs_expand_ready r = record { thing = r.thing; shown = r.shown; within = record { meant = bare; known = bare_known at; room = r.within.room; held = r.within.held } }
 
-  module _ {p : Scopes} (f : p ≡ no_scopes) {st1 l1 : List ℕ} {a : Answer} (v : ExpandedInside (above_of at) st st1 l l1 b.state p right a) where
-    pub rhs_refused : {q : Stop} → a ≡ Refused q → OnwardRhs at st st1 l l1 b right body (onward.Refused q)
-    rhs_refused e = record { means = λ n u y g d w z k. stops _ (starts at h f v g n u y ∙ then_no _ (on_refused (above at h f v g u w) (ap ended e))) }
+  module _ {p : Scopes} (f : p ≡ no_scopes) {st1 l1 : List ℕ} {a : Result Out Stop} (v : ExpandedInside (above_of at) st st1 l l1 b.state p right a) where
+    pub rhs_refused : {r : Result Next Stop} {q : Stop} → a ≡ Err q → r ≡ Err q → OnwardRhs at st st1 l l1 b right body r
+    rhs_refused e same = rw same (record { means = λ n u y g d w z k. stops _ (starts at h f v g n u y ∙ then_no _ (on_refused (above at h f v g u w) e)) })
 
-    module _ {o : Out} (e : a ≡ Done o) where
+    module _ {o : Out} (e : a ≡ Ok o) where
       pub rhs_defined_ready : ReadyRhs l st b right body at → length l1 ≡ length l → length st1 ≡ length st → ReadyDefined l1 st1 o.state b o.at body at
       unfolding last_phase
       rhs_defined_ready r len len2 =
@@ -210,7 +216,7 @@ module _ {st l : List ℕ} {b : Binder} {right body : ℕ} {at : Surroundings} (
       pub rhs_less : {T : ℕ} → ReadyRhs l st b right body at → b.state.left * 32 + 18 ≡ T → o.state.left * 32 + 2 < T
       rhs_less r z = omega (arith, (right_to at h f v e r.within.meant r.thing r.shown).later.spent)
 
-      pub rhs_defined : {st2 l2 : List ℕ} {q : Onward} → Defined at st1 st2 l1 l2 o.state b o.at body q → OnwardRhs at st st2 l l2 b right body q
+      pub rhs_defined : {st2 l2 : List ℕ} {q : Result Next Stop} → Defined at st1 st2 l1 l2 o.state b o.at body q → OnwardRhs at st st2 l l2 b right body q
       rhs_defined c =
           record {
             means = λ n u y g d w z k.
@@ -225,6 +231,7 @@ pub ruleset laws = (
   let_id_seen,
   let_no_id,
   let_binding_ready,
+  let_unbound,
   let_next_ready,
   let_less,
   let_expanded,

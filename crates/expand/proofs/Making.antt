@@ -1,4 +1,5 @@
 -- Lists made anew: one law for each way out.
+use Rattle.std.specs.Prelude.{Result, Ok, Err}
 use mathlib.Core.Path.{◌≡◌, refl, sym, ap, ◌∙◌}
 use mathlib.Core.List.{List}
 use Prim.Native.Nat.{ℕ, suc, ◌+◌, ◌-◌, ◌*◌, ◌≤◌, ◌<◌}
@@ -26,8 +27,8 @@ use Rattle.things.proofs.Weighing.{nest_from}
 use Rattle.steps.specs.States.{stop_of, state_of, raised_to}
 use Rattle.steps.specs.Agreement.{Later, gives, stops}
 use Rattle.steps.specs.declared.State.{State}
-use Rattle.steps.specs.declared.Answer.{Answer}
-use Rattle.steps.specs.declared.Answer.TheVariants.{Done, Refused}
+use Rattle.steps.specs.declared.Out.{Out}
+use Rattle.steps.specs.declared.Stop.{Stop}
 use Rattle.steps.proofs.Laws.{then_ok, then_no, unless-ok, unless-no, since}
 use Rattle.parse.specs.Parsing.{unpaid}
 use Rattle.expand.specs.Making.{Relistable, Relisted, Chainable, Chained, ReadyList, Lists, ReadyTwo, TwoLists, ReadyThree, ThreeLists}
@@ -91,12 +92,12 @@ module _ {l : List ℕ} {s : State} {i c : ℕ} (r : ReadyList l s i c) where
     unfolding nesting
     nests d ps w = ap suc (sym (nest_from ps) ∙ sym (k.means s.top (from_stxs ps) w).nesting)
 
-    pub list_deep : {r : Answer} → 64 ≤ ex.nesting → r ≡ Refused (stop_of TooDeep s) → Lists l l s i c r
+    pub list_deep : {r : Result Out Stop} → 64 ≤ ex.nesting → r ≡ Err (stop_of TooDeep s) → Lists l l s i c r
     unfolding made most_nesting
     list_deep h same = rw same (record { means = λ b d qs ps u w. stops _ (then_no _ (unless-no ref.too_deep (state_of s b) (lt-leb (nesting (list d ps)) 64 (omega (arith, nests d ps w))))) })
 
     pub list-made : {l1 : List ℕ} {m : Made} {z : State} → ex.nesting < 64 → Relisted l l1 s.top i c m.at m.top → z ≡ raised_to m.top s
-        → Lists l l1 s i c (Done (record { at = m.at; state = z }))
+        → Lists l l1 s i c (Ok (record { at = m.at; state = z }))
     unfolding made most_nesting unpaid
     list-made {m = m} h d e =
         record {
@@ -126,7 +127,7 @@ module _ {l : List ℕ} {s : State} {i a c : ℕ} (r : ReadyTwo l s i a c) where
         }
 
     pub two_made : {l2 : List ℕ} {n : Made} {z : State} → Relisted l1 l2 m.top i m.at n.at n.top → z ≡ raised_to n.top s
-        → TwoLists l l2 s i a c (Done (record { at = n.at; state = z }))
+        → TwoLists l l2 s i a c (Ok (record { at = n.at; state = z }))
     unfolding unpaid from_stxs
     two_made {l2} {n} d e =
         record {
@@ -183,7 +184,7 @@ module _ {l : List ℕ} {s : State} {i a c f : ℕ} (r : ReadyThree l s i a c f)
             few = r.few;
           })
 
-      pub three_made : {l3 : List ℕ} {q : Answer} → Lists l2 l3 t i n.at q → ThreeLists l l3 s i a c f q
+      pub three_made : {l3 : List ℕ} {q : Result Out Stop} → Lists l2 l3 t i n.at q → ThreeLists l l3 s i a c f q
       unfolding unpaid
       three_made {l3} {q} d =
           let d2 : Lists l2 l3 (raised_to n.top s) i n.at q = rw e at d in

@@ -1,4 +1,5 @@
 -- A macro's use marked, its use scope carried: one law for each way out.
+use Rattle.std.specs.Prelude.{Result, Ok, Err}
 use mathlib.Core.Path.{◌≡◌, sym, ap, ◌∙◌}
 use mathlib.Core.List.{List}
 use Prim.Native.Nat.{ℕ, ◌≤◌}
@@ -18,10 +19,8 @@ use Rattle.steps.specs.declared.State.{State}
 use Rattle.steps.specs.declared.Stop.{Stop}
 use Rattle.steps.proofs.Laws.{then_ok, then_no, on_done, on_refused}
 use Rattle.scoping.specs.Changing.{ReadyObject}
-use Rattle.scoping.specs.Fresh.{marks, mark_rule, marking_of, MarksFresh}
+use Rattle.scoping.specs.Fresh.{marks, mark_rule, MarksFresh}
 use Rattle.scoping.specs.declared.Mark.{Mark}
-use Rattle.scoping.specs.declared.Marking.{Marking}
-use Rattle.scoping.specs.declared.Marking.TheVariants as marking
 use Rattle.expand.specs.Leaves.{UsesScope, used_rule, MarksUse}
 use Rattle.expand.proofs.Carried.{put_state}
 use Rattle.table.specs.Sizes.{node_spare}
@@ -29,14 +28,14 @@ use Rattle.table.specs.Sizes.{node_spare}
 pub marked-wide : {st : List ℕ} {s : State} → Held st s → held_size ≤ length st
 marked-wide h = h.wide
 
-module _ {ph : ℕ} {l l1 : List ℕ} {s : State} {i : ℕ} {z : Marking} (v : MarksFresh ph l l1 s i z) where
-  pub marked_refused : {st : List ℕ} {f : Stop} → z ≡ marking.Refused f → MarksUse ph st st l l1 s i (marking.Refused f)
+module _ {ph : ℕ} {l l1 : List ℕ} {s : State} {i : ℕ} {z : Result Mark Stop} (v : MarksFresh ph l l1 s i z) where
+  pub marked_refused : {r : Result Mark Stop} {st : List ℕ} {f : Stop} → z ≡ Err f → r ≡ Err f → MarksUse ph st st l l1 s i r
   unfolding used_rule
-  marked_refused {st} e = record { means = λ x a. stops _ (then_no _ (on_refused (v.means (store_of st) x a) (ap marking_of e))) }
+  marked_refused {st = st} e same = rw same (record { means = λ x a. stops _ (then_no _ (on_refused (v.means (store_of st) x a) e)) })
 
-  module _ {o : Mark} (e : z ≡ marking.Done o) where
+  module _ {o : Mark} (e : z ≡ Ok o) where
     marked-to : (q : Store) (x : Stx) → Rep l s.top i (stx x) → Gave marks 1 node_spare l l1 s q (mark_rule ph x (state_of s q)) o
-    marked-to q x a = on_done (v.means q x a) (ap marking_of e)
+    marked-to q x a = on_done (v.means q x a) e
 
     pub marked-declared : ReadyObject l s i → Declared o.uses
     marked-declared r = (marked-to no_store r.thing r.shown).shown.uses-declared
@@ -50,7 +49,7 @@ module _ {ph : ℕ} {l l1 : List ℕ} {s : State} {i : ℕ} {z : Marking} (v : M
           ap (λ (y : ms.State). ok tt y)
           ((λ c. carrying (add ((sym j.shown.uses) c) (prunable_of st)) (add ((sym j.shown.uses) c) (uses_of st)) (state_of o.state (store_of st))) ∙ sym (put_state o.state put.carries j.shown.few))
 
-      pub marked-done : MarksUse ph st st1 l l1 s i (marking.Done o)
+      pub marked-done : MarksUse ph st st1 l l1 s i (Ok o)
       unfolding used_rule
       marked-done =
           record {

@@ -19,7 +19,6 @@ use Rattle.environment.specs.Meanings.{has, unclear, meaning_found}
 use Rattle.environment.proofs.Laws.{head-means, head-unclear}
 use Rattle.forms.specs.Names.{name_found}
 use Rattle.steps.proofs.Laws.{Entry, then_ok, then_no, after-after}
-use Rattle.model.specs.Trees.{Trees}
 use Rattle.scoping.specs.Changing.{change_rule}
 use Rattle.scoping.specs.Fresh.{Marked, marks_rule, mark_rule}
 use Rattle.expand.specs.Leaves.{name_rule, quote_rule, used_rule, back_rule}

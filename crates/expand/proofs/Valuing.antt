@@ -1,7 +1,9 @@
 -- The value of a right-hand side, and the body with it: one law for each way out.
-use mathlib.Core.Path.{◌≡◌, ap}
+use Rattle.expand.specs.declared.rewriting.Next.{Next}
+use Rattle.std.specs.Prelude.{Result, Ok, Err}
+use mathlib.Core.Path.{◌≡◌}
 use mathlib.Core.List.{List}
-use Prim.Native.Nat.{ℕ, ◌+◌, ◌*◌, ◌^◌, ◌≤◌, ◌<◌}
+use Prim.Native.Nat.{ℕ, ◌+◌, ◌*◌, ◌^◌, ◌<◌}
 use native.Mathlib.Omega.{arith}
 use lib.ListN.{length}
 use Rattle.model.specs.Limits.{last_phase}
@@ -12,12 +14,10 @@ use Rattle.model.specs.Parsing.{parse}
 use Rattle.things.specs.Rep.{Rep}
 use Rattle.things.proofs.Frame.{carry}
 use Rattle.steps.specs.States.{store_of, state_of}
-use Rattle.steps.specs.Agreement.{ended, Gave, stops}
+use Rattle.steps.specs.Agreement.{Gave, stops}
 use Rattle.steps.specs.declared.State.{State}
 use Rattle.steps.specs.declared.Stop.{Stop}
 use Rattle.steps.specs.declared.Out.{Out}
-use Rattle.steps.specs.declared.Answer.{Answer}
-use Rattle.steps.specs.declared.Answer.TheVariants.{Done, Refused}
 use Rattle.steps.proofs.Laws.{then_ok, then_no, room-later, on_done, on_refused, since}
 use Rattle.parse.specs.Shown.{trees}
 use Rattle.parse.specs.Parsing as pp
@@ -30,8 +30,6 @@ use Rattle.expand.specs.Values.{evaluation, ReadyValue, value_rule, GivesValue}
 use Rattle.expand.specs.InPlace.{ReadyScoped, Scoped, ReadyDefined, defined_rule, Defined}
 use Rattle.expand.specs.Evaluation.{ReadyToEvaluate, Evaluates}
 use Rattle.expand.specs.declared.Surroundings.{Surroundings}
-use Rattle.expand.specs.declared.rewriting.Onward.{Onward}
-use Rattle.expand.specs.declared.rewriting.Onward.TheVariants as onward
 use Rattle.expand.proofs.Surrounding.{carry_a}
 use Rattle.table.specs.Sizes.{cell_size, two_cells}
 
@@ -40,14 +38,14 @@ use Rattle.table.specs.Sizes.{cell_size, two_cells}
 pub value-parse : {l st : List ℕ} {s : State} {i : ℕ} → ReadyValue l st s i → pp.ReadyToParse l st s i
 value-parse r = record { thing = r.thing; shown = r.shown; room = r.room; held = r.held }
 
-module _ {entries ph : ℕ} {st l l1 : List ℕ} {s : State} {i : ℕ} {a : Answer} (v : Parsed entries ph st l l1 s i a) where
-  pub value-refused : {f : Stop} → a ≡ Refused f → GivesValue entries ph st st l l1 s i (Refused f)
+module _ {entries ph : ℕ} {st l l1 : List ℕ} {s : State} {i : ℕ} {a : Result Out Stop} (v : Parsed entries ph st l l1 s i a) where
+  pub value-refused : {r : Result Out Stop} {f : Stop} → a ≡ Err f → r ≡ Err f → GivesValue entries ph st st l l1 s i r
   unfolding value_rule
-  value-refused e = record { means = λ x w. stops _ (then_no _ (on_refused (v.means x w) (ap ended e))) }
+  value-refused e same = rw same (record { means = λ x w. stops _ (then_no _ (on_refused (v.means x w) e)) })
 
-  module _ {o : Out} (e : a ≡ Done o) where
+  module _ {o : Out} (e : a ≡ Ok o) where
     parsed-to : (x : Stx) → Rep l s.top i (stx x) → Gave trees 1 two_cells l l1 s (store_of st) (parse entries ph x (state_of s (store_of st))) o
-    parsed-to x w = on_done (v.means x w) (ap ended e)
+    parsed-to x w = on_done (v.means x w) e
 
     module _ {place : Place} (n : place.intro.0 ≡ 0) where
       pub value-evaluate : ReadyValue l st s i → length l1 ≡ length l → ReadyToEvaluate l1 st o.state o.at place
@@ -59,7 +57,7 @@ module _ {entries ph : ℕ} {st l l1 : List ℕ} {s : State} {i : ℕ} {a : Answ
             placed = record { where_it_is = nowhere; stands = is-nowhere n; room = room-later r.room g.later len; few = g.shown.few; wide = λ k here z. r.held.wide };
           }
 
-      pub value-done : {st1 l2 : List ℕ} {q : Answer} → Evaluates entries place st st1 l1 l2 o.state o.at q → GivesValue entries ph st st1 l l2 s i q
+      pub value-done : {st1 l2 : List ℕ} {q : Result Out Stop} → Evaluates entries place st st1 l1 l2 o.state o.at q → GivesValue entries ph st st1 l l2 s i q
       unfolding value_rule
       value-done d =
           record {
@@ -84,14 +82,14 @@ module _ {st l : List ℕ} {s : State} {b : Binder} {right body : ℕ} {at : Sur
 pub defined_less : (s : State) {T : ℕ} → s.left * 32 + 2 ≡ T → s.left * 32 + 1 < T
 defined_less s z = omega arith
 
-module _ (at : Surroundings) {st st1 l l1 : List ℕ} {s : State} {right : ℕ} {a : Answer} (v : GivesValue at.entries (at.phase + 1) st st1 l l1 s right a) where
-  pub defined_refused : {b : Binder} {body : ℕ} {f : Stop} → a ≡ Refused f → Defined at st st1 l l1 s b right body (onward.Refused f)
+module _ (at : Surroundings) {st st1 l l1 : List ℕ} {s : State} {right : ℕ} {a : Result Out Stop} (v : GivesValue at.entries (at.phase + 1) st st1 l l1 s right a) where
+  pub defined_refused : {r : Result Next Stop} {b : Binder} {body : ℕ} {f : Stop} → a ≡ Err f → r ≡ Err f → Defined at st st1 l l1 s b right body r
   unfolding defined_rule
-  defined_refused e = record { means = λ k u y g n w z c. stops _ (then_no _ (on_refused (v.means u w) (ap ended e))) }
+  defined_refused e same = rw same (record { means = λ k u y g n w z c. stops _ (then_no _ (on_refused (v.means u w) e)) })
 
-  module _ {o : Out} (e : a ≡ Done o) where
+  module _ {o : Out} (e : a ≡ Ok o) where
     value-to : (u : Stx) → Rep l s.top right (stx u) → Gave trees 1 two_cells l l1 s (store_of st1) (value_rule (evaluation at.entries) at.entries (at.phase + 1) u (state_of s (store_of st))) o
-    value-to u w = on_done (v.means u w) (ap ended e)
+    value-to u w = on_done (v.means u w) e
 
     pub defined_scoped_ready : {b : Binder} {body : ℕ} → ReadyDefined l st s b right body at → length l1 ≡ length l → ReadyScoped l1 o.state b 1 o.at body at
     defined_scoped_ready r len =
@@ -109,7 +107,7 @@ module _ (at : Surroundings) {st st1 l l1 : List ℕ} {s : State} {right : ℕ} 
           few = g.shown.few;
         }
 
-    pub defined_scoped : {b : Binder} {body : ℕ} {l2 : List ℕ} {q : Onward} → Scoped at l1 l2 o.state b 1 o.at body q → Defined at st st1 l l2 s b right body q
+    pub defined_scoped : {b : Binder} {body : ℕ} {l2 : List ℕ} {q : Result Next Stop} → Scoped at l1 l2 o.state b 1 o.at body q → Defined at st st1 l l2 s b right body q
     unfolding defined_rule
     defined_scoped c =
         record {

@@ -1,5 +1,5 @@
 -- What the functions of the cycle ask and give. Those of an entry are told of the state before the entry was charged.
-use Rattle.std.specs.Prelude.{◌≡◌, List, ℕ, ◌+◌, ◌≤◌, length}
+use Rattle.std.specs.Prelude.{List, ℕ, ◌+◌, ◌≤◌, length, Result}
 use Rattle.model.specs.Objects.{Sets, symbol, Stx, atom, list, Stxs, nil, cons}
 use Rattle.model.specs.Trees.{Tree, stx, from_stxs}
 use Rattle.model.specs.Scopes.{Scopes}
@@ -11,11 +11,9 @@ use Rattle.model.specs.Expanding as rules
 use Rattle.model.specs.Expanding.{expand_all, expand_application, expand_function, expand_lambda, expand_let_syntax, expand_macro, expand_entry, expand}
 use Rattle.store.specs.Sizes.{most_bindings}
 use Rattle.steps.specs.States.{store_of, Held, state_of, end, Room}
-use Rattle.steps.specs.Agreement.{Shape, ended, Agrees}
+use Rattle.steps.specs.Agreement.{Shape, Agrees}
 use Rattle.steps.specs.declared.State.{State}
 use Rattle.steps.specs.declared.Out.{Out}
-use Rattle.steps.specs.declared.Answer.{Answer}
-use Rattle.steps.specs.declared.Answer.TheVariants.{Refused}
 use Rattle.steps.specs.declared.Stop.{Stop}
 use Rattle.things.specs.Rep.{Rep, RepP}
 use Rattle.parse.specs.Parsing.{unpaid}
@@ -24,11 +22,9 @@ use Rattle.scoping.specs.Fresh.{ShownBinder}
 use Rattle.scoping.specs.declared.Binder.{Binder}
 use Rattle.expand.specs.Leaves.{Around, around, RepA, Within}
 use Rattle.expand.specs.Values.{evaluation}
-use Rattle.expand.specs.InPlace.{Further, further_rule, Named, ShownNext, nexts, onward_of, scoped_rule, rhs_rule, binding_rule}
+use Rattle.expand.specs.InPlace.{Further, further_rule, Named, ShownNext, nexts, scoped_rule, rhs_rule, binding_rule}
 use Rattle.expand.specs.declared.Surroundings.{Surroundings}
 use Rattle.expand.specs.declared.rewriting.Next.{Next}
-use Rattle.expand.specs.declared.rewriting.Onward.{Onward}
-use Rattle.expand.specs.declared.rewriting.Onward.TheVariants as onward
 use Rattle.table.specs.Sizes.{cell_size, two_cells, node_spare, triple_spare, unit_size}
 
 abbrev pub expansion : ℕ → Expander
@@ -112,9 +108,6 @@ pub record ReadyNext (l st : List ℕ) (o : Next) (at : Surroundings) : Type 0 w
   pub room : Room l o.state
   pub held : Held st o.state
 
-pub record ReadyOnward (l st : List ℕ) (n : Onward) (at : Surroundings) : Type 0 where
-  pub next : (o : Next) → n ≡ onward.Done o → ReadyNext l st o at
-
 pub record ReadyBinding (l st : List ℕ) (s : State) (id right body : ℕ) (at : Surroundings) : Type 0 where
   pub binder : Sets
   pub symb : ℕ
@@ -145,64 +138,62 @@ abstraction_rule self here c h b x body = do
 -- ---- what is given
 
 module _ (at : Surroundings) (st st' l l' : List ℕ) (s : State) where
-  pub record Expanded (i : ℕ) (r : Answer) : Type 0 where
+  pub record Expanded (i : ℕ) (r : Result Out Stop) : Type 0 where
     pub means : (x : Stx) (e : Around) → Rep l s.top i (stx x) → RepA l s.top at e
-        → Agrees objects 1 two_cells l l' s (store_of st') (expand at.entries (around e at) x (state_of s (store_of st))) (ended r)
+        → Agrees objects 1 two_cells l l' s (store_of st') (expand at.entries (around e at) x (state_of s (store_of st))) r
 
   -- an expansion of its own, with p prunable
-  pub record ExpandedInside (p : Scopes) (i : ℕ) (r : Answer) : Type 0 where
+  pub record ExpandedInside (p : Scopes) (i : ℕ) (r : Result Out Stop) : Type 0 where
     pub means : (x : Stx) (e : Around) → Rep l s.top i (stx x) → RepA l s.top at e
-        → Agrees objects 1 two_cells l l' s (store_of st') (inside (λ q. p) (expand at.entries (around e at) x) (state_of s (store_of st))) (ended r)
+        → Agrees objects 1 two_cells l l' s (store_of st') (inside (λ q. p) (expand at.entries (around e at) x) (state_of s (store_of st))) r
 
-  pub record ExpandedEntry (i : ℕ) (r : Answer) : Type 0 where
+  pub record ExpandedEntry (i : ℕ) (r : Result Out Stop) : Type 0 where
     pub means : (x : Stx) (e : Around) → Rep l s.top i (stx x) → RepA l s.top at e
-        → Agrees objects 1 two_cells l l' (unpaid s) (store_of st') (expand_entry (expansion at.entries) (evaluation at.entries) at.entries (around e at) x (state_of s (store_of st))) (ended r)
+        → Agrees objects 1 two_cells l l' (unpaid s) (store_of st') (expand_entry (expansion at.entries) (evaluation at.entries) at.entries (around e at) x (state_of s (store_of st))) r
 
-  pub record ExpandedList (i c : ℕ) (r : Answer) : Type 0 where
+  pub record ExpandedList (i c : ℕ) (r : Result Out Stop) : Type 0 where
     pub means : (k : Sets) (ps : Stxs) (e : Around) → Rep l s.top i (stx (list k ps)) → RepP l s.top c (from_stxs ps) → RepA l s.top at e
-        → Agrees objects 1 two_cells l l' (unpaid s) (store_of st') (expand_entry (expansion at.entries) (evaluation at.entries) at.entries (around e at) (list k ps) (state_of s (store_of st))) (ended r)
+        → Agrees objects 1 two_cells l l' (unpaid s) (store_of st') (expand_entry (expansion at.entries) (evaluation at.entries) at.entries (around e at) (list k ps) (state_of s (store_of st))) r
 
-  pub record ExpandedApplication (i c : ℕ) (r : Answer) : Type 0 where
+  pub record ExpandedApplication (i c : ℕ) (r : Result Out Stop) : Type 0 where
     pub means : (k : Sets) (ps : Stxs) (e : Around) → Rep l s.top i (stx (list k ps)) → RepP l s.top c (from_stxs ps) → RepA l s.top at e
-        → Agrees objects 1 two_cells l l' (unpaid s) (store_of st') (expand_application (expansion at.entries) (around e at) k ps (state_of s (store_of st))) (ended r)
+        → Agrees objects 1 two_cells l l' (unpaid s) (store_of st') (expand_application (expansion at.entries) (around e at) k ps (state_of s (store_of st))) r
 
-  pub record ExpandedParts (c : ℕ) (r : Answer) : Type 0 where
+  pub record ExpandedParts (c : ℕ) (r : Result Out Stop) : Type 0 where
     pub means : (ps : Stxs) (e : Around) → RepP l s.top c (from_stxs ps) → RepA l s.top at e
-        → Agrees parts_of 0 0 l l' s (store_of st') (expand_all (λ x. inside (λ p. p) (expand at.entries (around e at) x)) ps (state_of s (store_of st))) (ended r)
+        → Agrees parts_of 0 0 l l' s (store_of st') (expand_all (λ x. inside (λ p. p) (expand at.entries (around e at) x)) ps (state_of s (store_of st))) r
 
-  pub record ExpandedLambda (i head tail : ℕ) (r : Answer) : Type 0 where
+  pub record ExpandedLambda (i head tail : ℕ) (r : Result Out Stop) : Type 0 where
     pub means : (k : Sets) (h : Stx) (ps : Stxs) (e : Around) → Rep l s.top i (stx (list k (cons h ps))) → Rep l s.top head (stx h) → RepP l s.top tail (from_stxs ps) → RepA l s.top at e
-        → Agrees objects 1 two_cells l l' (unpaid s) (store_of st') (expand_lambda (expansion at.entries) (around e at) k h ps (state_of s (store_of st))) (ended r)
+        → Agrees objects 1 two_cells l l' (unpaid s) (store_of st') (expand_lambda (expansion at.entries) (around e at) k h ps (state_of s (store_of st))) r
 
-  pub record ExpandedFunction (i head id body : ℕ) (r : Answer) : Type 0 where
+  pub record ExpandedFunction (i head id body : ℕ) (r : Result Out Stop) : Type 0 where
     pub means : (k : Sets) (qs : Stxs) (h : Stx) (c : Sets) (x : ℕ) (y : Stx) (e : Around) → Rep l s.top i (stx (list k qs)) → Rep l s.top head (stx h) → Rep l s.top id (stx (atom c (symbol x))) → Rep l s.top body (stx y)
         → RepA l s.top at e
-        → Agrees objects 1 two_cells l l' (unpaid s) (store_of st') (expand_function (expansion at.entries) (around e at) k h c x y (state_of s (store_of st))) (ended r)
+        → Agrees objects 1 two_cells l l' (unpaid s) (store_of st') (expand_function (expansion at.entries) (around e at) k h c x y (state_of s (store_of st))) r
 
-  pub record ExpandedLetSyntax (tail : ℕ) (r : Answer) : Type 0 where
+  pub record ExpandedLetSyntax (tail : ℕ) (r : Result Out Stop) : Type 0 where
     pub means : (ps : Stxs) (e : Around) → RepP l s.top tail (from_stxs ps) → RepA l s.top at e
-        → Agrees objects 1 two_cells l l' (unpaid s) (store_of st') (expand_let_syntax (expansion at.entries) (evaluation at.entries) at.entries (around e at) ps (state_of s (store_of st))) (ended r)
+        → Agrees objects 1 two_cells l l' (unpaid s) (store_of st') (expand_let_syntax (expansion at.entries) (evaluation at.entries) at.entries (around e at) ps (state_of s (store_of st))) r
 
-  pub record OnwardBinding (id right body : ℕ) (r : Onward) : Type 0 where
+  pub record OnwardBinding (id right body : ℕ) (r : Result Next Stop) : Type 0 where
     pub means : (c : Sets) (x : ℕ) (u y : Stx) (e : Around) → Rep l s.top id (stx (atom c (symbol x))) → Rep l s.top right (stx u) → Rep l s.top body (stx y) → RepA l s.top at e
-        → Agrees (nexts at) 1 cell_size l l' s (store_of st') (binding_rule (expansion at.entries) (evaluation at.entries) at.entries (around e at) c x u y (state_of s (store_of st))) (onward_of r)
+        → Agrees (nexts at) 1 cell_size l l' s (store_of st') (binding_rule (expansion at.entries) (evaluation at.entries) at.entries (around e at) c x u y (state_of s (store_of st))) r
 
-  pub record ExpandedMacro (i v : ℕ) (r : Answer) : Type 0 where
+  pub record ExpandedMacro (i v : ℕ) (r : Result Out Stop) : Type 0 where
     pub means : (x : Stx) (t : Tree) (e : Around) → Rep l s.top i (stx x) → Rep l s.top v t → RepA l s.top at e
-        → Agrees objects 1 two_cells l l' s (store_of st') (expand_macro (expansion at.entries) (evaluation at.entries) (around e at) t x (state_of s (store_of st))) (ended r)
+        → Agrees objects 1 two_cells l l' s (store_of st') (expand_macro (expansion at.entries) (evaluation at.entries) (around e at) t x (state_of s (store_of st))) r
 
 module _ (at : Surroundings) (st st' l l' : List ℕ) (b : Binder) where
-  pub record ExpandedAbstraction (i head body : ℕ) (r : Answer) : Type 0 where
+  pub record ExpandedAbstraction (i head body : ℕ) (r : Result Out Stop) : Type 0 where
     pub means : (c : Sets) (qs : Stxs) (h : Stx) (k : rules.Binder) (x : ℕ) (y : Stx) (e : Around) → Rep l b.state.top i (stx (list c qs)) → Rep l b.state.top head (stx h) → ShownBinder x l b k → Rep l b.state.top body (stx y)
         → RepA l b.state.top at e
-        → Agrees objects 2 (node_spare + triple_spare) l l' (unpaid (unpaid b.state)) (store_of st') (abstraction_rule (expansion at.entries) (around e at) c h k x y (state_of b.state (store_of st))) (ended r)
+        → Agrees objects 2 (node_spare + triple_spare) l l' (unpaid (unpaid b.state)) (store_of st') (abstraction_rule (expansion at.entries) (around e at) c h k x y (state_of b.state (store_of st))) r
 
-  pub record OnwardRhs (right body : ℕ) (r : Onward) : Type 0 where
+  pub record OnwardRhs (right body : ℕ) (r : Result Next Stop) : Type 0 where
     pub means : (k : rules.Binder) (u y : Stx) (e : Around) → Named b k → Rep l b.state.top right (stx u) → Rep l b.state.top body (stx y) → RepA l b.state.top at e
-        → Agrees (nexts at) 1 cell_size l l' b.state (store_of st') (rhs_rule (expansion at.entries) (evaluation at.entries) at.entries (around e at) k u y (state_of b.state (store_of st))) (onward_of r)
+        → Agrees (nexts at) 1 cell_size l l' b.state (store_of st') (rhs_rule (expansion at.entries) (evaluation at.entries) at.entries (around e at) k u y (state_of b.state (store_of st))) r
 
--- where nothing is to be expanded next, the refusal is handed on
-pub record ExpandedOnward (at : Surroundings) (st st' l l' : List ℕ) (n : Onward) (r : Answer) : Type 0 where
-  pub means : (o : Next) (k : Further) → n ≡ onward.Done o → ShownNext at l o k
-      → Agrees objects 1 two_cells l l' o.state (store_of st') (further_rule (expansion at.entries) k (state_of o.state (store_of st))) (ended r)
-  pub refused : (f : Stop) → n ≡ onward.Refused f → r ≡ Refused f
+pub record ExpandedNext (at : Surroundings) (st st' l l' : List ℕ) (o : Next) (r : Result Out Stop) : Type 0 where
+  pub means : (k : Further) → ShownNext at l o k
+      → Agrees objects 1 two_cells l l' o.state (store_of st') (further_rule (expansion at.entries) k (state_of o.state (store_of st))) r

@@ -1,5 +1,5 @@
 -- What the functions of evaluating ask and give.
-use Rattle.std.specs.Prelude.{◌≡◌, List, true, ℕ, ◌≤◌, length}
+use Rattle.std.specs.Prelude.{◌≡◌, List, true, ℕ, ◌≤◌, length, Result}
 use Rattle.model.specs.Refusals.{not_applicable, outside_use}
 use Rattle.model.specs.Meanings as m
 use Rattle.model.specs.Trees.{Tree, Trees, tcons, app, tcount}
@@ -12,13 +12,12 @@ use Rattle.environment.specs.declared.Place.{Place}
 use Rattle.environment.specs.Places.{RepPlace}
 use Rattle.store.specs.Sizes.{most_bindings, held_size}
 use Rattle.steps.specs.declared.State.{State}
-use Rattle.steps.specs.declared.Answer.{Answer}
+use Rattle.steps.specs.declared.Out.{Out}
+use Rattle.steps.specs.declared.Stop.{Stop}
 use Rattle.steps.specs.States.{store_of, Held, state_of, Room}
-use Rattle.steps.specs.Agreement.{Shape, Ended, done, refused, ended, Agrees}
+use Rattle.steps.specs.Agreement.{Shape, Agrees}
 use Rattle.parse.specs.Shown.{trees}
 use Rattle.applying.specs.declared.Values.{Values}
-use Rattle.applying.specs.declared.Gathered.{Gathered}
-use Rattle.applying.specs.declared.Gathered.TheVariants.{All, Refused}
 use Rattle.expand.specs.Values.{evaluation}
 use Rattle.expand.specs.Cycle.{expansion}
 use Rattle.table.specs.Sizes.{unit_size}
@@ -106,38 +105,34 @@ pub record ShownValues (l : List ℕ) (o : Values) (ts : Trees) : Type 0 where
 abbrev pub valued : Shape Trees Values
 valued = record { shows = λ l o ts. ShownValues l o ts; state = λ o. o.state }
 
-abbrev pub gathered : Gathered → Ended Values
-gathered (All v) = done v
-gathered (Refused f) = refused f
-
 module _ (entries : ℕ) (place : Place) (st st' l l' : List ℕ) (s : State) where
   -- an entry charges at least one unit, and needs none of the words that it pays for
-  pub record Evaluates (i : ℕ) (r : Answer) : Type 0 where
+  pub record Evaluates (i : ℕ) (r : Result Out Stop) : Type 0 where
     pub means : (t : Tree) (q : m.Place) → Rep l s.top i t → RepPlace l s.top place q
-        → Agrees trees 1 unit_size l l' s (store_of st') (evaluate entries q t (state_of s (store_of st))) (ended r)
+        → Agrees trees 1 unit_size l l' s (store_of st') (evaluate entries q t (state_of s (store_of st))) r
 
-  pub record Forms (i : ℕ) (r : Answer) : Type 0 where
+  pub record Forms (i : ℕ) (r : Result Out Stop) : Type 0 where
     pub means : (t : Tree) (q : m.Place) → Rep l s.top i t → RepPlace l s.top place q
-        → Agrees trees 0 0 l l' s (store_of st') (eval_entry (evaluation entries) (expansion entries) q t (state_of s (store_of st))) (ended r)
+        → Agrees trees 0 0 l l' s (store_of st') (eval_entry (evaluation entries) (expansion entries) q t (state_of s (store_of st))) r
 
-  pub record Applies (c : ℕ) (r : Answer) : Type 0 where
+  pub record Applies (c : ℕ) (r : Result Out Stop) : Type 0 where
     pub means : (t : Tree) (ts : Trees) (q : m.Place) → RepP l s.top c (tcons t ts) → RepPlace l s.top place q
-        → Agrees trees 0 0 l l' s (store_of st') (eval_entry (evaluation entries) (expansion entries) q (app t ts) (state_of s (store_of st))) (ended r)
+        → Agrees trees 0 0 l l' s (store_of st') (eval_entry (evaluation entries) (expansion entries) q (app t ts) (state_of s (store_of st))) r
 
-  pub record Calls (f c : ℕ) (r : Answer) : Type 0 where
+  pub record Calls (f c : ℕ) (r : Result Out Stop) : Type 0 where
     pub means : (t : Tree) (ts : Trees) (q : m.Place) → Rep l s.top f t → RepP l s.top c ts → RepPlace l s.top place q
-        → Agrees trees 0 0 l l' s (store_of st') (call_of (evaluation entries) (expansion entries) q t ts (state_of s (store_of st))) (ended r)
+        → Agrees trees 0 0 l l' s (store_of st') (call_of (evaluation entries) (expansion entries) q t ts (state_of s (store_of st))) r
 
-  pub record Gathers (c : ℕ) (r : Gathered) : Type 0 where
+  pub record Gathers (c : ℕ) (r : Result Values Stop) : Type 0 where
     pub means : (ts : Trees) (q : m.Place) → RepP l s.top c ts → RepPlace l s.top place q
-        → Agrees valued 0 0 l l' s (store_of st') (each_tree (evaluation entries q) ts (state_of s (store_of st))) (gathered r)
+        → Agrees valued 0 0 l l' s (store_of st') (each_tree (evaluation entries q) ts (state_of s (store_of st))) r
 
 module _ (entries : ℕ) (place : Place) (st st' l l' : List ℕ) where
-  pub record Does (f : ℕ) (v : Values) (r : Answer) : Type 0 where
+  pub record Does (f : ℕ) (v : Values) (r : Result Out Stop) : Type 0 where
     pub means : (t : Tree) (ts : Trees) (q : m.Place) → Rep l v.state.top f t → Given l v.state.top v.x v.y v.z ts → RepPlace l v.state.top place q
         → applicable t (tcount ts) ≡ true → allowed q t ≡ true
-        → Agrees trees 0 0 l l' v.state (store_of st') (apply (evaluation entries) (expansion entries) q t ts (state_of v.state (store_of st))) (ended r)
+        → Agrees trees 0 0 l l' v.state (store_of st') (apply (evaluation entries) (expansion entries) q t ts (state_of v.state (store_of st))) r
 
-  pub record DoesWithin (v : Values) (r : Answer) : Type 0 where
+  pub record DoesWithin (v : Values) (r : Result Out Stop) : Type 0 where
     pub means : (ts : Trees) (k : ℕ) (here : m.Surroundings) → Given l v.state.top v.x v.y v.z ts → 2 ≤ tcount ts → RepPlace l v.state.top place (m.macro_use k here)
-        → Agrees trees 0 0 l l' v.state (store_of st') (within_of (expansion entries) (m.macro_use k here) ts (state_of v.state (store_of st))) (ended r)
+        → Agrees trees 0 0 l l' v.state (store_of st') (within_of (expansion entries) (m.macro_use k here) ts (state_of v.state (store_of st))) r

@@ -1,5 +1,5 @@
 -- What a form leaves to be expanded in its place, and what a macro makes of its use: what is asked and given.
-use Rattle.std.specs.Prelude.{◌≡◌, List, ℕ, ◌+◌, ◌≤◌, ◌<◌, leb}
+use Rattle.std.specs.Prelude.{◌≡◌, List, ℕ, ◌+◌, ◌≤◌, ◌<◌, leb, Result}
 use Rattle.model.specs.Limits.{last_phase}
 use Rattle.model.specs.Refusals.{no_phase}
 use Rattle.model.specs.Scopes.{no_scopes, add}
@@ -14,9 +14,10 @@ use Rattle.model.specs.Expanding.{bind_fresh, of_right_hand_side, of_body}
 use Rattle.scopes.specs.Sets.{Declared}
 use Rattle.store.specs.Sizes.{most_bindings}
 use Rattle.steps.specs.States.{Store, store_of, state_of, Room}
-use Rattle.steps.specs.Agreement.{Shape, Ended, done as ends, refused, ended, Agrees}
+use Rattle.steps.specs.Agreement.{Shape, Agrees}
 use Rattle.steps.specs.declared.State.{State}
-use Rattle.steps.specs.declared.Answer.{Answer}
+use Rattle.steps.specs.declared.Out.{Out}
+use Rattle.steps.specs.declared.Stop.{Stop}
 use Rattle.things.specs.Rep.{Rep}
 use Rattle.environment.specs.Meanings.{most_names, Meant}
 use Rattle.scoping.specs.Changing.{objects}
@@ -25,8 +26,6 @@ use Rattle.expand.specs.Leaves.{Around, around, RepA, Within, used_rule}
 use Rattle.expand.specs.Values.{evaluation, value_rule, transcribe_rule}
 use Rattle.expand.specs.declared.Surroundings.{Surroundings}
 use Rattle.expand.specs.declared.rewriting.Next.{Next}
-use Rattle.expand.specs.declared.rewriting.Onward.{Onward}
-use Rattle.expand.specs.declared.rewriting.Onward.TheVariants as onward
 use Rattle.table.specs.Sizes.{cell_size, node_spare}
 
 -- a body, where it is expanded, and the scope that is prunable in it
@@ -53,10 +52,6 @@ pub record ShownNext (at : Surroundings) (l : List ℕ) (o : Next) (k : Further)
 
 abbrev pub nexts : Surroundings → Shape Further Next
 nexts at = record { shows = λ l o k. ShownNext at l o k; state = λ o. o.state }
-
-abbrev pub onward_of : Onward → Ended Next
-onward_of (onward.Done o) = ends o
-onward_of (onward.Refused f) = refused f
 
 -- b has the name and the scope of k
 pub record Named (b : Binder) (k : rules.Binder) : Type 0 where
@@ -85,9 +80,9 @@ scoped_rule here b w body = do
   in_scope_lem ← add_to b.scope here.phase body
   done (record { object = in_scope_lem; there = of_body b w here; scope = b.scope })
 
-pub record Scoped (at : Surroundings) (l l' : List ℕ) (s : State) (b : Binder) (kind thing body : ℕ) (r : Onward) : Type 0 where
+pub record Scoped (at : Surroundings) (l l' : List ℕ) (s : State) (b : Binder) (kind thing body : ℕ) (r : Result Next Stop) : Type 0 where
   pub means : (q : Store) (k : rules.Binder) (w : Meaning) (y : Stx) (e : Around) → Named b k → Meant l s.top kind thing w → Rep l s.top body (stx y) → RepA l s.top at e
-      → Agrees (nexts at) 1 cell_size l l' s q (scoped_rule (around e at) k w y (state_of s q)) (onward_of r)
+      → Agrees (nexts at) 1 cell_size l l' s q (scoped_rule (around e at) k w y (state_of s q)) r
 
 -- ---- the body, with the value of an expanded right-hand side
 
@@ -107,9 +102,9 @@ defined_rule value d here b right body = do
   v ← value_rule value d (here.phase + 1) right
   scoped_rule here b (macro v) body
 
-pub record Defined (at : Surroundings) (st st' l l' : List ℕ) (s : State) (b : Binder) (right body : ℕ) (r : Onward) : Type 0 where
+pub record Defined (at : Surroundings) (st st' l l' : List ℕ) (s : State) (b : Binder) (right body : ℕ) (r : Result Next Stop) : Type 0 where
   pub means : (k : rules.Binder) (u y : Stx) (e : Around) → Named b k → Rep l s.top right (stx u) → Rep l s.top body (stx y) → RepA l s.top at e
-      → Agrees (nexts at) 1 cell_size l l' s (store_of st') (defined_rule (evaluation at.entries) at.entries (around e at) k u y (state_of s (store_of st))) (onward_of r)
+      → Agrees (nexts at) 1 cell_size l l' s (store_of st') (defined_rule (evaluation at.entries) at.entries (around e at) k u y (state_of s (store_of st))) r
 
 -- ---- the right-hand side, expanded one phase up, and the binder before it
 
@@ -141,6 +136,6 @@ rewritten_rule value here v x = do
   k ← used_rule here.phase x
   transcribe_rule value k.intro here v k.object
 
-pub record Rewritten (at : Surroundings) (st st' l l' : List ℕ) (s : State) (i v : ℕ) (r : Answer) : Type 0 where
+pub record Rewritten (at : Surroundings) (st st' l l' : List ℕ) (s : State) (i v : ℕ) (r : Result Out Stop) : Type 0 where
   pub means : (y : Stx) (t : Tree) (e : Around) → Rep l s.top i (stx y) → Rep l s.top v t → RepA l s.top at e
-      → Agrees objects 1 node_spare l l' s (store_of st') (rewritten_rule (evaluation at.entries) (around e at) t y (state_of s (store_of st))) (ended r)
+      → Agrees objects 1 node_spare l l' s (store_of st') (rewritten_rule (evaluation at.entries) (around e at) t y (state_of s (store_of st))) r

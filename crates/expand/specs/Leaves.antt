@@ -1,5 +1,5 @@
 -- What the functions that expand no part ask and give.
-use Rattle.std.specs.Prelude.{List, ℕ, ◌≤◌}
+use Rattle.std.specs.Prelude.{List, ℕ, ◌≤◌, Result}
 use Rattle.model.specs.Scopes.{add}
 use Rattle.model.specs.Objects.{Sets, symbol, Stx, atom, list, Stxs, nil, cons}
 use Rattle.model.specs.Trees.{Tree, stx, from_stxs, as_stx}
@@ -10,16 +10,17 @@ use Rattle.model.specs.Expanding.{expand_name, expand_syntax, or_no_syntax}
 use Rattle.store.specs.Sizes.{most_bindings}
 use Rattle.store.specs.Words.{prunable_of, uses_of, Carries}
 use Rattle.steps.specs.States.{Store, store_of, Held, state_of, Room}
-use Rattle.steps.specs.Agreement.{ended, Agrees}
+use Rattle.steps.specs.Agreement.{Agrees}
 use Rattle.steps.specs.declared.State.{State}
-use Rattle.steps.specs.declared.Answer.{Answer}
+use Rattle.steps.specs.declared.Out.{Out}
+use Rattle.scoping.specs.declared.Mark.{Mark}
+use Rattle.steps.specs.declared.Stop.{Stop}
 use Rattle.things.specs.Rep.{Rep, RepP}
 use Rattle.parse.specs.Parsing.{unpaid}
 use Rattle.stops.specs.Stops.{RepZ}
 use Rattle.environment.specs.Meanings.{RepE}
 use Rattle.scoping.specs.Changing.{objects}
-use Rattle.scoping.specs.Fresh.{Marked, mark_rule, marks, marking_of}
-use Rattle.scoping.specs.declared.Marking.{Marking}
+use Rattle.scoping.specs.Fresh.{Marked, mark_rule, marks}
 use Rattle.expand.specs.declared.Surroundings.{Surroundings}
 use Rattle.table.specs.Sizes.{two_cells, node_spare}
 
@@ -61,9 +62,9 @@ name_rule here c x = do
   n ← resolve_at here.phase c x
   expand_name (meaning_among n here.meanings here.stops)
 
-pub record ExpandedName (at : Surroundings) (st l : List ℕ) (s : State) (i : ℕ) (r : Answer) : Type 0 where
+pub record ExpandedName (at : Surroundings) (st l : List ℕ) (s : State) (i : ℕ) (r : Result Out Stop) : Type 0 where
   pub means : (c : Sets) (x : ℕ) (e : Around) → Rep l s.top i (stx (atom c (symbol x))) → RepA l s.top at e
-      → Agrees objects 1 two_cells l l (unpaid s) (store_of st) (name_rule (around e at) c x (state_of s (store_of st))) (ended r)
+      → Agrees objects 1 two_cells l l (unpaid s) (store_of st) (name_rule (around e at) c x (state_of s (store_of st))) r
 
 -- ---- quote and syntax: a list, and its parts after the head
 
@@ -81,13 +82,13 @@ unfoldable pub quote_rule : Stx → Stxs → Step Stx
 unfolding parts1
 quote_rule x l = parts1 l (λ s. done x)
 
-pub record ExpandedQuote (l : List ℕ) (s : State) (i tail : ℕ) (r : Answer) : Type 0 where
+pub record ExpandedQuote (l : List ℕ) (s : State) (i tail : ℕ) (r : Result Out Stop) : Type 0 where
   pub means : (b : Store) (x : Stx) (ps : Stxs) → Rep l s.top i (stx x) → RepP l s.top tail (from_stxs ps)
-      → Agrees objects 1 two_cells l l (unpaid s) b (quote_rule x ps (state_of s b)) (ended r)
+      → Agrees objects 1 two_cells l l (unpaid s) b (quote_rule x ps (state_of s b)) r
 
-pub record ExpandedSyntax (ph : ℕ) (st l l' : List ℕ) (s : State) (i head tail : ℕ) (r : Answer) : Type 0 where
+pub record ExpandedSyntax (ph : ℕ) (st l l' : List ℕ) (s : State) (i head tail : ℕ) (r : Result Out Stop) : Type 0 where
   pub means : (k : Sets) (h : Stx) (ps : Stxs) → Rep l s.top i (stx (list k (cons h ps))) → Rep l s.top head (stx h) → RepP l s.top tail (from_stxs ps)
-      → Agrees objects 1 two_cells l l' (unpaid s) (store_of st) (expand_syntax ph k h ps (state_of s (store_of st))) (ended r)
+      → Agrees objects 1 two_cells l l' (unpaid s) (store_of st) (expand_syntax ph k h ps (state_of s (store_of st))) r
 
 pub record ReadyPruned (l : List ℕ) (s : State) (i head x : ℕ) : Type 0 where
   pub sets : Sets
@@ -107,9 +108,9 @@ pruned_rule ph c h s = do
   t ← prune_from p ph s
   done (list c (cons h (cons t nil)))
 
-pub record Pruned (ph : ℕ) (st l l' : List ℕ) (s : State) (i head x : ℕ) (r : Answer) : Type 0 where
+pub record Pruned (ph : ℕ) (st l l' : List ℕ) (s : State) (i head x : ℕ) (r : Result Out Stop) : Type 0 where
   pub means : (k : Sets) (qs : Stxs) (h y : Stx) → Rep l s.top i (stx (list k qs)) → Rep l s.top head (stx h) → Rep l s.top x (stx y)
-      → Agrees objects 1 two_cells l l' (unpaid s) (store_of st) (pruned_rule ph k h y (state_of s (store_of st))) (ended r)
+      → Agrees objects 1 two_cells l l' (unpaid s) (store_of st) (pruned_rule ph k h y (state_of s (store_of st))) r
 
 -- ---- a macro's use
 
@@ -124,8 +125,8 @@ used_rule ph x = do
   use_scope k.uses
   done k
 
-pub record MarksUse (ph : ℕ) (st st' l l' : List ℕ) (s : State) (i : ℕ) (r : Marking) : Type 0 where
-  pub means : (x : Stx) → Rep l s.top i (stx x) → Agrees marks 1 node_spare l l' s (store_of st') (used_rule ph x (state_of s (store_of st))) (marking_of r)
+pub record MarksUse (ph : ℕ) (st st' l l' : List ℕ) (s : State) (i : ℕ) (r : Result Mark Stop) : Type 0 where
+  pub means : (x : Stx) → Rep l s.top i (stx x) → Agrees marks 1 node_spare l l' s (store_of st') (used_rule ph x (state_of s (store_of st))) r
 
 -- what it evaluated to
 
@@ -141,5 +142,5 @@ back_rule ph k r = do
   s ← or_no_syntax (as_stx r)
   flip_in k ph s
 
-pub record Backs (ph k : ℕ) (l l' : List ℕ) (s : State) (i : ℕ) (r : Answer) : Type 0 where
-  pub means : (b : Store) (t : Tree) → Rep l s.top i t → Agrees objects 1 node_spare l l' s b (back_rule ph k t (state_of s b)) (ended r)
+pub record Backs (ph k : ℕ) (l l' : List ℕ) (s : State) (i : ℕ) (r : Result Out Stop) : Type 0 where
+  pub means : (b : Store) (t : Tree) → Rep l s.top i t → Agrees objects 1 node_spare l l' s b (back_rule ph k t (state_of s b)) r

@@ -1,5 +1,5 @@
 -- Lists made anew: what is asked and given.
-use Rattle.std.specs.Prelude.{◌≡◌, List, ℕ, ◌+◌, ◌≤◌, length}
+use Rattle.std.specs.Prelude.{◌≡◌, List, ℕ, ◌+◌, ◌≤◌, length, Result}
 use Rattle.model.specs.Objects.{Sets, Stx, list, Stxs, nil, cons}
 use Rattle.model.specs.Trees.{Tree, stx, tnil, tcons, from_stxs}
 use Rattle.model.specs.Steps.{ok, made}
@@ -8,9 +8,10 @@ use Rattle.things.specs.Rep.{Rep, RepP}
 use Rattle.things.specs.Making.{Roomy}
 use Rattle.store.specs.Sizes.{most_bindings}
 use Rattle.steps.specs.States.{Store, state_of, end, Room}
-use Rattle.steps.specs.Agreement.{ended, Agrees}
+use Rattle.steps.specs.Agreement.{Agrees}
 use Rattle.steps.specs.declared.State.{State}
-use Rattle.steps.specs.declared.Answer.{Answer}
+use Rattle.steps.specs.declared.Out.{Out}
+use Rattle.steps.specs.declared.Stop.{Stop}
 use Rattle.parse.specs.Parsing.{unpaid}
 use Rattle.scoping.specs.Changing.{objects}
 use Rattle.table.specs.Sizes.{two_cells, node_size, node_spare, pair_size, pair_spare, triple_size, triple_spare}
@@ -49,9 +50,9 @@ pub record ReadyList (l : List ℕ) (s : State) (i c : ℕ) : Type 0 where
   pub free : end s + node_size ≤ length l
   pub few : s.bindings ≤ most_bindings
 
-pub record Lists (l l' : List ℕ) (s : State) (i c : ℕ) (r : Answer) : Type 0 where
+pub record Lists (l l' : List ℕ) (s : State) (i c : ℕ) (r : Result Out Stop) : Type 0 where
   pub means : (b : Store) (k : Sets) (qs ps : Stxs) → Rep l s.top i (stx (list k qs)) → RepP l s.top c (from_stxs ps)
-      → Agrees objects 1 node_spare l l' (unpaid s) b (made (list k ps) (state_of s b)) (ended r)
+      → Agrees objects 1 node_spare l l' (unpaid s) b (made (list k ps) (state_of s b)) r
 
 pub record ReadyTwo (l : List ℕ) (s : State) (i a c : ℕ) : Type 0 where
   pub sets : Sets
@@ -65,9 +66,9 @@ pub record ReadyTwo (l : List ℕ) (s : State) (i a c : ℕ) : Type 0 where
   pub free : end s + pair_size ≤ length l
   pub few : s.bindings ≤ most_bindings
 
-pub record TwoLists (l l' : List ℕ) (s : State) (i a c : ℕ) (r : Answer) : Type 0 where
+pub record TwoLists (l l' : List ℕ) (s : State) (i a c : ℕ) (r : Result Out Stop) : Type 0 where
   pub means : (b : Store) (k : Sets) (qs : Stxs) (x y : Stx) → Rep l s.top i (stx (list k qs)) → Rep l s.top a (stx x) → Rep l s.top c (stx y)
-      → Agrees objects 2 pair_spare l l' (unpaid (unpaid s)) b (ok (list k (cons x (cons y nil))) (state_of s b)) (ended r)
+      → Agrees objects 2 pair_spare l l' (unpaid (unpaid s)) b (ok (list k (cons x (cons y nil))) (state_of s b)) r
 
 pub record ReadyThree (l : List ℕ) (s : State) (i a c d : ℕ) : Type 0 where
   pub sets : Sets
@@ -83,6 +84,6 @@ pub record ReadyThree (l : List ℕ) (s : State) (i a c d : ℕ) : Type 0 where
   pub free : end s + triple_size ≤ length l
   pub few : s.bindings ≤ most_bindings
 
-pub record ThreeLists (l l' : List ℕ) (s : State) (i a c d : ℕ) (r : Answer) : Type 0 where
+pub record ThreeLists (l l' : List ℕ) (s : State) (i a c d : ℕ) (r : Result Out Stop) : Type 0 where
   pub means : (b : Store) (k : Sets) (qs : Stxs) (x y z : Stx) → Rep l s.top i (stx (list k qs)) → Rep l s.top a (stx x) → Rep l s.top c (stx y) → Rep l s.top d (stx z)
-      → Agrees objects 2 triple_spare l l' (unpaid (unpaid s)) b (made (list k (cons x (cons y (cons z nil)))) (state_of s b)) (ended r)
+      → Agrees objects 2 triple_spare l l' (unpaid (unpaid s)) b (made (list k (cons x (cons y (cons z nil)))) (state_of s b)) r

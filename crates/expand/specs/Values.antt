@@ -1,5 +1,5 @@
 -- What evaluating gives to expanding: the value of a right-hand side, and what a macro makes of a marked form.
-use Rattle.std.specs.Prelude.{List, ℕ}
+use Rattle.std.specs.Prelude.{List, ℕ, Result}
 use Rattle.model.specs.Objects.{Stx}
 use Rattle.model.specs.Trees.{Tree, app, stx, tnil, tcons}
 use Rattle.model.specs.Steps.{Entries, Step, ◌>>=◌}
@@ -10,9 +10,10 @@ use Rattle.model.specs.Expanding.{evaluate}
 use Rattle.environment.specs.declared.Place.{Place}
 use Rattle.environment.specs.Places.{RepPlace}
 use Rattle.steps.specs.States.{store_of, Held, state_of, Room}
-use Rattle.steps.specs.Agreement.{ended, Agrees}
+use Rattle.steps.specs.Agreement.{Agrees}
 use Rattle.steps.specs.declared.State.{State}
-use Rattle.steps.specs.declared.Answer.{Answer}
+use Rattle.steps.specs.declared.Out.{Out}
+use Rattle.steps.specs.declared.Stop.{Stop}
 use Rattle.things.specs.Rep.{Rep}
 use Rattle.parse.specs.Shown.{trees}
 use Rattle.scoping.specs.Changing.{objects}
@@ -36,8 +37,8 @@ value_rule value d ph x = do
   t ← parse d ph x
   value m.nowhere t
 
-pub record GivesValue (entries ph : ℕ) (st st' l l' : List ℕ) (s : State) (i : ℕ) (r : Answer) : Type 0 where
-  pub means : (x : Stx) → Rep l s.top i (stx x) → Agrees trees 1 two_cells l l' s (store_of st') (value_rule (evaluation entries) entries ph x (state_of s (store_of st))) (ended r)
+pub record GivesValue (entries ph : ℕ) (st st' l l' : List ℕ) (s : State) (i : ℕ) (r : Result Out Stop) : Type 0 where
+  pub means : (x : Stx) → Rep l s.top i (stx x) → Agrees trees 1 two_cells l l' s (store_of st') (value_rule (evaluation entries) entries ph x (state_of s (store_of st))) r
 
 -- ---- what a macro makes of a marked form
 
@@ -58,6 +59,6 @@ transcribe_rule value k here v x = do
   r ← value (m.macro_use k here) (app v (tcons (stx x) tnil))
   back_rule here.phase k r
 
-pub record Transcribes (entries : ℕ) (place : Place) (st st' l l' : List ℕ) (s : State) (v form : ℕ) (r : Answer) : Type 0 where
+pub record Transcribes (entries : ℕ) (place : Place) (st st' l l' : List ℕ) (s : State) (v form : ℕ) (r : Result Out Stop) : Type 0 where
   pub means : (t : Tree) (x : Stx) (k : ℕ) (here : m.Surroundings) → Rep l s.top v t → Rep l s.top form (stx x) → RepPlace l s.top place (m.macro_use k here)
-      → Agrees objects 1 node_spare l l' s (store_of st') (transcribe_rule (evaluation entries) k here t x (state_of s (store_of st))) (ended r)
+      → Agrees objects 1 node_spare l l' s (store_of st') (transcribe_rule (evaluation entries) k here t x (state_of s (store_of st))) r

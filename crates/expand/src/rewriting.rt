@@ -10,8 +10,8 @@ ghost use Rattle.expand.specs.InPlace.{ReadyScoped, Scoped};
 use crate::Surroundings;
 use refusals::Refusal;
 use scopes::Scope;
-use scoping::{Binder, Marking};
-use steps::{Answer, State, Stop};
+use scoping::{Binder, Mark};
+use steps::{Out, State, Stop};
 use store::carried;
 use store::carried::Carried;
 use table::Node;
@@ -19,44 +19,45 @@ use table::Node;
 // ---- a macro's use
 
 // From here on k is prunable in the expansion in progress, and one of its use scopes.
+#[tactic(auto, using(crate::proofs::Marking::laws))]
 fn use_scope(store: &mut [u64], k: Scope)
     requires { (held_size ≤ length store.old) × Declared k }
     ensures { UsesScope k.0 store.old store.new }
 {
     let now = carried::get(store);
-    let prunable = now.prunable;
-    let uses = now.uses;
     carried::put(
         store,
         Carried {
-            prunable: prunable.add(k),
-            uses: uses.add(k),
+            prunable: now.prunable.add(k),
+            uses: now.uses.add(k),
         },
     );
 }
 
 // Its form i, marked by two fresh scopes, the first of which is its use scope.
-pub fn marked(table: &mut [u32], store: &mut [u64], s: State, i: u32, phase: u32) -> Marking
+#[tactic(auto, using(crate::proofs::Marking::laws))]
+pub fn marked(
+    table: &mut [u32],
+    store: &mut [u64],
+    s: State,
+    i: u32,
+    phase: u32,
+) -> Result<Mark, Stop>
     requires { ReadyObject table.old s i × Held store.old s }
     ensures { MarksUse phase store.old store.new table.old table.new s i result }
 {
-    match scoping::mark_form(table, s, i, phase) {
-        Marking::Refused(f) => Marking::Refused(f),
-        Marking::Done(m) => {
-            let k = m.uses;
-            use_scope(store, k);
-            Marking::Done(m)
-        }
-    }
+    let m = scoping::mark_form(table, s, i, phase)?;
+    use_scope(store, m.uses);
+    Ok(m)
 }
 
 // What a macro's use evaluated to, with the introduction scope flipped again.
-pub fn back(table: &mut [u32], s: State, i: u32, phase: u32, intro: Scope) -> Answer
+#[tactic(auto, using(crate::proofs::Leaves::laws))]
+pub fn back(table: &mut [u32], s: State, i: u32, phase: u32, intro: Scope) -> Result<Out, Stop>
     requires { ReadyBack table.old s i × Declared intro }
     ensures { Backs phase intro.0 table.old table.new s i result }
 {
-    let n = table::get_node(table, i);
-    if Node::LIST < n.tag {
+    if Node::LIST < table::get_node(table, i).tag {
         return s.refuse(Refusal::NoSyntax);
     }
     scoping::flip_in(table, s, i, phase, intro)
@@ -73,13 +74,8 @@ pub struct Next {
     pub state: State,
 }
 
-#[derive(Clone, Copy)]
-pub enum Onward {
-    Done(Next),
-    Refused(Stop),
-}
-
 // The body with the binder's scope added, and the binder's name meaning the thing.
+#[tactic(auto, using(crate::proofs::InPlace::laws))]
 pub fn scoped(
     table: &mut [u32],
     s: State,
@@ -88,24 +84,16 @@ pub fn scoped(
     thing: u32,
     body: u32,
     at: Surroundings,
-) -> Onward
+) -> Result<Next, Stop>
     requires { ReadyScoped table.old s b kind thing body at }
     ensures { Scoped at table.old table.new s b kind thing body result }
 {
-    let scope = b.scope;
-    match scoping::add_to(table, s, body, at.phase, scope) {
-        Answer::Refused(f) => Onward::Refused(f),
-        Answer::Done(o) => {
-            let s1 = o.state;
-            let name = b.name;
-            let m = environment::extend(table, s1.top, name, kind, thing, at.meanings);
-            let state = s1.raised(m.top);
-            Onward::Done(Next {
-                at: o.at,
-                scope,
-                meanings: m.at,
-                state,
-            })
-        }
-    }
+    let o = scoping::add_to(table, s, body, at.phase, b.scope)?;
+    let m = environment::extend(table, o.state.top, b.name, kind, thing, at.meanings);
+    Ok(Next {
+        at: o.at,
+        scope: b.scope,
+        meanings: m.at,
+        state: o.state.raised(m.top),
+    })
 }

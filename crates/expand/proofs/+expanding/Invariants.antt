@@ -1,5 +1,4 @@
 use Prim.Native.Nat.{◌+◌, ◌*◌}
-use Rattle.expand.proofs.InPlace.{left_of}
 use Rattle.expand.proofs.InTurn.{Going}
 use Rattle.expand.proofs.+expanding.Given as goal
 
@@ -40,7 +39,7 @@ abbrev pub decreases-head : goal.decreases-head
 decreases-head l = l.s.left * 32 + 2
 
 abbrev pub decreases-inner : goal.decreases-inner
-decreases-inner l = left_of l.n * 32 + 2
+decreases-inner l = l.n.state.left * 32 + 2
 
 abbrev pub decreases-inside : goal.decreases-inside
 decreases-inside l = l.s.left * 32 + 1

@@ -1,5 +1,5 @@
-use Rattle.expand.proofs.Making.{laws}
 use Rattle.std.proofs.Common.{rules}
+use Rattle.expand.proofs.Making.{laws}
 use Rattle.expand.proofs.lists.chain.Goals as goal
 
 pub link-m-requires : goal.link-m-requires

@@ -1,15 +1,9 @@
-use Rattle.expand.proofs.Leaves.{laws}
 use Rattle.std.proofs.Common.{rules}
+use Rattle.expand.proofs.Leaves.{laws}
 use Rattle.expand.proofs.plain.quote.Goals as goal
 
-pub one_part-requires : goal.one_part-requires
-one_part-requires c = search (laws, rules)
+pub returns-in-Some : goal.returns-in-Some
+returns-in-Some c = search (laws, rules)
 
-pub refuse-requires : goal.refuse-requires
-refuse-requires c = search (laws, rules)
-
-pub returns-in-Not : goal.returns-in-Not
-returns-in-Not c = search (laws, rules)
-
-pub returns-in-Is : goal.returns-in-Is
-returns-in-Is c = search (laws, rules)
+pub returns-in-None : goal.returns-in-None
+returns-in-None c = search (laws, rules)

@@ -1,15 +1,6 @@
-use Rattle.expand.proofs.Marking.{laws}
-use Rattle.std.proofs.Common.{rules}
+use Rattle.expand.proofs.Agreeing.{handed}
+use Rattle.expand.proofs.Marking.{marked_refused}
 use Rattle.expand.proofs.rewriting.marked.Goals as goal
 
-pub mark_form-requires : goal.mark_form-requires
-mark_form-requires c = search (laws, rules)
-
-pub use_scope-requires : goal.use_scope-requires
-use_scope-requires c = search (laws, rules)
-
-pub returns-in-Refused : goal.returns-in-Refused
-returns-in-Refused c = search (laws, rules)
-
-pub returns-in-Done : goal.returns-in-Done
-returns-in-Done c = search (laws, rules)
+pub returns-in_err-m : goal.returns-in_err-m
+returns-in_err-m c = marked_refused c.mark_form.ensures c.in_err-m.was (handed c.from_residual.ensures.1)

@@ -1,18 +1,13 @@
-use Rattle.expand.proofs.InPlace.{laws}
 use Rattle.std.proofs.Common.{rules}
+use Rattle.expand.proofs.Agreeing.{handed}
+use Rattle.expand.proofs.InPlace.{laws, scoped_refused}
 use Rattle.expand.proofs.rewriting.scoped.Goals as goal
 
-pub add_to-requires : goal.add_to-requires
-add_to-requires c = search (laws, rules)
+pub returns-in_err-o : goal.returns-in_err-o
+returns-in_err-o c = scoped_refused _ _ c.add_to.ensures c.in_err-o.was (handed c.from_residual.ensures.1)
 
 pub extend-m-requires : goal.extend-m-requires
-extend-m-requires c = search (laws, rules)
+extend-m-requires c = search (laws, rules, c.in_ok-o.was)
 
-pub raised-state-requires : goal.raised-state-requires
-raised-state-requires c = search (laws, rules)
-
-pub returns-in-Refused : goal.returns-in-Refused
-returns-in-Refused c = search (laws, rules)
-
-pub returns-in-Done : goal.returns-in-Done
-returns-in-Done c = search (laws, rules)
+pub returns : goal.returns
+returns c = search (laws, rules, c.in_ok-o.was)
