@@ -356,4 +356,4 @@ pub ruleset walking = (walk_start, walk_inside, walk_less, walk_more, walk_fits,
 
 pub ruleset laws = (node-inside, stx-seen, app-seen, lst-seen, stx-number, app-number, lst-number, own_number, sets-counted, led_prefix, bare_prefix, one-prefix, two-prefix, front_fits, front-counted, front-short, list_countable, app_countable, lst_countable, fun_countable, list_counts, app-counts, lst-counts, fun-counts, plain-counts, list_less, app_less, lst_less, fun_less, object-counts, tree-counts)
 
-pub ruleset Chain-laws = (count-start, count-over, count-done, part-inside, head_countable, head_less, tail_less, count-more)
+pub ruleset chain_laws = (count-start, count-over, count-done, part-inside, head_countable, head_less, tail_less, count-more)

@@ -20,7 +20,7 @@ use Rattle.things.specs.Rep.{Rep, RepP, is-var, is-app, is-fun, is-lst, is-datum
 use Rattle.things.specs.Measuring.{Seen}
 use Rattle.things.proofs.Frame.{below}
 use Rattle.things.proofs.ByTag.{tag-low, tag_is, app-at, fun-at, lst-at, list_at, PartAt, part_at, none-at}
-use Rattle.writer.specs.Bytes.{leading, prefix_stx, prefix, number, front, parts, written, written_all}
+use Rattle.writer.specs.Bytes.{leading, prefix_stx, prefix, front, parts, written, written_all}
 use Rattle.writer.specs.Counting.{NumberIs}
 use Rattle.writer.specs.Putting.{Fitting, FittingP, FittingPrefix, FittingObject, Wrote, Puts, PutsP, PutsObject}
 use Rattle.writer.proofs.Bytes.{written-stx, written-tree, front_long, written-long, all_none, all-long, parts-list, parts-app, parts-lst, parts-fun}
@@ -435,4 +435,4 @@ pub ruleset fronts = (fitting-seen, fitting-inside, tag_fits, object-inside, set
 
 pub ruleset laws = (fitting-seen, fitting-inside, front-fitting, list-fitting, app-fitting, lst-fitting, fun-fitting, list_puts, app-puts, lst-puts, fun-puts, plain-puts, list_less, app_less, lst_less, fun_less, object-fitting, object-puts, tree-fitting, tree-puts)
 
-pub ruleset Chain-laws = (put_start, put_same, put_done, part-inside, head-fitting, head_less, tail_less, put_more)
+pub ruleset chain_laws = (put_start, put_same, put_done, part-inside, head-fitting, head_less, tail_less, put_more)

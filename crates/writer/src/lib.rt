@@ -37,43 +37,34 @@ fn count(table: &[u32], c: u32) -> u32
 }
 
 // The number that comes last before the parts: how many they are, or an atom's or a name's own.
+#[tactic(auto, using(crate::proofs::Counting::laws))]
 fn number_of(table: &[u32], i: u32) -> u32
     requires { Seen table.now i }
     ensures { NumberIs table.now i result }
 {
-    let node = table::get_node(table, i);
-    let tag = node.tag;
-    if tag == Node::LIST {
-        return count(table, node.content);
+    let Node { tag, content } = table::get_node(table, i);
+    if tag == Node::LIST || tag == Node::APPLICATION || tag == Node::LIST_VALUE {
+        count(table, content)
+    } else {
+        content
     }
-    if tag == Node::APPLICATION {
-        return count(table, node.content);
-    }
-    if tag == Node::LIST_VALUE {
-        return count(table, node.content);
-    }
-    node.content
 }
 
 // Of the bytes before that number: tags, and an object's sets. Where `lead` is set, a syntax value's tag comes before its object.
+#[tactic(auto, using(crate::proofs::Counting::laws))]
 fn prefix_len(table: &[u32], i: u32, lead: bool) -> usize
     requires { Seen table.now i }
     ensures { LengthIs (prefix lead) longest_prefix table.now i result }
 {
     let node = table::get_node(table, i);
-    let tag = node.tag;
-    if tag <= Node::LIST {
-        let three = table::get_sets(table, i);
-        let n = sets::sets_len(three.at0, three.at1, three.at2);
-        if lead {
-            return n + 2;
-        }
-        return n + 1;
+    if node.tag <= Node::LIST {
+        let n = sets::sets_len(table::get_sets(table, i));
+        if lead { n + 2 } else { n + 1 }
+    } else if node.tag < Node::ATOM_VALUE {
+        1
+    } else {
+        2
     }
-    if tag < Node::ATOM_VALUE {
-        return 1;
-    }
-    2
 }
 
 fn front_len(table: &[u32], i: u32, lead: bool) -> usize
@@ -89,8 +80,7 @@ fn more(n: usize, k: usize, cap: usize) -> usize
     requires { (n ≤ cap + 1) × (k ≤ most_image) × (cap ≤ most_image) }
     ensures { result ≡ min (cap + 1) (n + k) }
 {
-    let m = n + k;
-    if m <= cap { m } else { cap + 1 }
+    (n + k).min(cap + 1)
 }
 
 #[cycle(thing_lengths)]
@@ -98,24 +88,17 @@ fn thing_len(table: &[u32], i: u32, lead: bool, n: usize, cap: usize) -> usize
     requires { Countable table.now i n cap }
     ensures { Counts (written lead) table.now i n cap result }
 {
-    let k = front_len(table, i, lead);
-    let m = more(n, k, cap);
-    let node = table::get_node(table, i);
-    let tag = node.tag;
+    let m = more(n, front_len(table, i, lead), cap);
+    let Node { tag, content } = table::get_node(table, i);
     if tag == Node::LIST {
-        return things_len(table, node.content, false, m, cap);
+        things_len(table, content, false, m, cap)
+    } else if tag == Node::APPLICATION || tag == Node::LIST_VALUE {
+        things_len(table, content, true, m, cap)
+    } else if tag == Node::FUNCTION {
+        thing_len(table, table::get_body(table, i).at, true, m, cap)
+    } else {
+        m
     }
-    if tag == Node::APPLICATION {
-        return things_len(table, node.content, true, m, cap);
-    }
-    if tag == Node::LIST_VALUE {
-        return things_len(table, node.content, true, m, cap);
-    }
-    if tag == Node::FUNCTION {
-        let body = table::get_body(table, i);
-        return thing_len(table, body.at, true, m, cap);
-    }
-    m
 }
 
 // Of a chain. Nothing is looked at once the cap is passed: parts are shared, and there may be more of them than could be counted.
@@ -126,10 +109,7 @@ fn things_len(table: &[u32], c: u32, lead: bool, n: usize, cap: usize) -> usize
 {
     let mut place = c;
     let mut m = n;
-    while place != 0 {
-        if cap < m {
-            return m;
-        }
+    while place != 0 && m <= cap {
         let cell = table::get_cell(table, place);
         m = thing_len(table, cell.head, lead, m, cap);
         place = cell.tail;
@@ -138,6 +118,7 @@ fn things_len(table: &[u32], c: u32, lead: bool, n: usize, cap: usize) -> usize
 }
 
 // Of a syntax object.
+#[tactic(auto, using(crate::proofs::Counting::laws))]
 pub fn object_len(table: &[u32], i: u32, n: usize, cap: usize) -> usize
     requires { Countable table.now i n cap }
     ensures { CountsObject stx_bytes table.now i n cap result }
@@ -145,6 +126,7 @@ pub fn object_len(table: &[u32], i: u32, n: usize, cap: usize) -> usize
     thing_len(table, i, false, n, cap)
 }
 
+#[tactic(auto, using(crate::proofs::Counting::laws))]
 pub fn tree_len(table: &[u32], i: u32, n: usize, cap: usize) -> usize
     requires { Countable table.now i n cap }
     ensures { Counts tree_bytes table.now i n cap result }
@@ -160,31 +142,29 @@ fn put_object_prefix(out: &mut [u8], at: usize, table: &[u32], i: u32, tag: u32)
     ensures { Puts (prefix false) table.now i out.old out.new at result }
 {
     let mid = numbers::put_number(out, at, tag);
-    let three = table::get_sets(table, i);
-    sets::put_sets(out, mid, three.at0, three.at1, three.at2)
+    sets::put_sets(out, mid, table::get_sets(table, i))
 }
 
 fn put_prefix(out: &mut [u8], at: usize, table: &[u32], i: u32, lead: bool) -> usize
     requires { Fitting (prefix lead) table.now i out.old at }
     ensures { Puts (prefix lead) table.now i out.old out.new at result }
 {
-    let node = table::get_node(table, i);
-    let tag = node.tag;
+    let tag = table::get_node(table, i).tag;
     if tag <= Node::LIST {
         if lead {
             let mid = numbers::put_number(out, at, SYNTAX_VALUE);
-            return put_object_prefix(out, mid, table, i, tag);
+            put_object_prefix(out, mid, table, i, tag)
+        } else {
+            put_object_prefix(out, at, table, i, tag)
         }
-        return put_object_prefix(out, at, table, i, tag);
+    } else if tag < Node::LIST_VALUE {
+        numbers::put_number(out, at, tag - Node::VARIABLE)
+    } else if tag == Node::LIST_VALUE {
+        numbers::put_number(out, at, LIST_VALUE)
+    } else {
+        let mid = numbers::put_number(out, at, ATOM);
+        numbers::put_number(out, mid, tag - Node::ATOM_VALUE)
     }
-    if tag < Node::LIST_VALUE {
-        return numbers::put_number(out, at, tag - Node::VARIABLE);
-    }
-    if tag == Node::LIST_VALUE {
-        return numbers::put_number(out, at, LIST_VALUE);
-    }
-    let mid = numbers::put_number(out, at, ATOM);
-    numbers::put_number(out, mid, tag - Node::ATOM_VALUE)
 }
 
 fn put_front(out: &mut [u8], at: usize, table: &[u32], i: u32, lead: bool) -> usize
@@ -192,8 +172,7 @@ fn put_front(out: &mut [u8], at: usize, table: &[u32], i: u32, lead: bool) -> us
     ensures { Puts (front lead) table.now i out.old out.new at result }
 {
     let mid = put_prefix(out, at, table, i, lead);
-    let n = number_of(table, i);
-    numbers::put_number(out, mid, n)
+    numbers::put_number(out, mid, number_of(table, i))
 }
 
 #[cycle(putting)]
@@ -202,22 +181,16 @@ fn put_thing(out: &mut [u8], at: usize, table: &[u32], i: u32, lead: bool) -> us
     ensures { Puts (written lead) table.now i out.old out.new at result }
 {
     let mid = put_front(out, at, table, i, lead);
-    let node = table::get_node(table, i);
-    let tag = node.tag;
+    let Node { tag, content } = table::get_node(table, i);
     if tag == Node::LIST {
-        return put_things(out, mid, table, node.content, false);
+        put_things(out, mid, table, content, false)
+    } else if tag == Node::APPLICATION || tag == Node::LIST_VALUE {
+        put_things(out, mid, table, content, true)
+    } else if tag == Node::FUNCTION {
+        put_thing(out, mid, table, table::get_body(table, i).at, true)
+    } else {
+        mid
     }
-    if tag == Node::APPLICATION {
-        return put_things(out, mid, table, node.content, true);
-    }
-    if tag == Node::LIST_VALUE {
-        return put_things(out, mid, table, node.content, true);
-    }
-    if tag == Node::FUNCTION {
-        let body = table::get_body(table, i);
-        return put_thing(out, mid, table, body.at, true);
-    }
-    mid
 }
 
 // A chain.
@@ -237,6 +210,7 @@ fn put_things(out: &mut [u8], at: usize, table: &[u32], c: u32, lead: bool) -> u
 }
 
 // A syntax object.
+#[tactic(auto, using(crate::proofs::Putting::laws))]
 pub fn put_object(out: &mut [u8], at: usize, table: &[u32], i: u32) -> usize
     requires { FittingObject stx_bytes table.now i out.old at }
     ensures { PutsObject stx_bytes table.now i out.old out.new at result }
@@ -244,6 +218,7 @@ pub fn put_object(out: &mut [u8], at: usize, table: &[u32], i: u32) -> usize
     put_thing(out, at, table, i, false)
 }
 
+#[tactic(auto, using(crate::proofs::Putting::laws))]
 pub fn put_tree(out: &mut [u8], at: usize, table: &[u32], i: u32) -> usize
     requires { Fitting tree_bytes table.now i out.old at }
     ensures { Puts tree_bytes table.now i out.old out.new at result }

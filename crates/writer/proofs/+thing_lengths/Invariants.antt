@@ -1,4 +1,4 @@
-use Rattle.std.proofs.Common.{◌+◌, ◌-◌, ◌*◌}
+use Rattle.std.proofs.Common.{◌+◌, ◌*◌}
 use Rattle.writer.proofs.+thing_lengths.Given as goal
 use Rattle.writer.proofs.Counting.{Count}
 

@@ -1,4 +1,3 @@
-use Rattle.std.proofs.Common.{◌-◌}
 use Rattle.writer.proofs.count.Given as goal
 use Rattle.writer.proofs.Counting.{Walk}
 

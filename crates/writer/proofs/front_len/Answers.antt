@@ -1,4 +1,4 @@
-use Rattle.std.proofs.Common.{rules, ◌-◌}
+use Rattle.std.proofs.Common.{rules}
 use Rattle.writer.proofs.front_len.Goals as goal
 use Rattle.writer.proofs.Counting.{laws}
 

@@ -1,15 +1,9 @@
-use Rattle.std.proofs.Common.{rules, ◌-◌}
+use Rattle.std.proofs.Common.{rules}
 use Rattle.writer.proofs.prefix_len.Goals as goal
-use Rattle.writer.proofs.Counting.{laws}
+use Rattle.writer.proofs.Counting.{one-prefix, two-prefix}
 
-pub returns-then-lead : goal.returns-then-lead
-returns-then-lead c = search (laws, rules)
+pub returns-then-node-lt-ATOM_VALUE : goal.returns-then-node-lt-ATOM_VALUE
+returns-then-node-lt-ATOM_VALUE c = search (one-prefix, rules)
 
-pub returns-then-tag-le-LIST : goal.returns-then-tag-le-LIST
-returns-then-tag-le-LIST c = search (laws, rules)
-
-pub returns-then-tag-lt-ATOM_VALUE : goal.returns-then-tag-lt-ATOM_VALUE
-returns-then-tag-lt-ATOM_VALUE c = search (laws, rules)
-
-pub returns : goal.returns
-returns c = search (laws, rules)
+pub returns-else-node-lt-ATOM_VALUE : goal.returns-else-node-lt-ATOM_VALUE
+returns-else-node-lt-ATOM_VALUE c = search (two-prefix, rules)

@@ -1,4 +1,4 @@
-use Rattle.std.proofs.Common.{rules, ◌-◌}
+use Rattle.std.proofs.Common.{rules}
 use Rattle.writer.proofs.put_object_prefix.Goals as goal
 use Rattle.writer.proofs.Putting.{fronts}
 
