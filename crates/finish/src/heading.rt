@@ -12,11 +12,7 @@ fn copy(out: &mut [u8], image: &[u8], from: usize, to: usize)
     requires { (from ≤ to) × (to ≤ length image.now) × (to ≤ length out.old) }
     ensures { out.new ≡ sets out.old from (take (to - from) (drop from image.now)) }
 {
-    let mut i = from;
-    while i < to {
-        out[i] = image[i];
-        i += 1;
-    }
+    out[from..to].copy_from_slice(&image[from..to]);
 }
 
 // Where the word section ends, of an image with the front f: the two counts behind it have a known length.
@@ -24,9 +20,8 @@ fn words_end(image: &[u8], f: Front) -> usize
     requires { Headed image.now f }
     ensures { WordsEnd image.now f result }
 {
-    let h = f.head;
-    let made = h.names - Head::CORE_NAMES - h.words;
-    f.end - numbers::number_len(made) - numbers::number_len(h.scopes)
+    let made = f.head.names - Head::CORE_NAMES - f.head.words;
+    f.end - numbers::number_len(made) - numbers::number_len(f.head.scopes)
 }
 
 // How long the head is with the counts of a later state.
@@ -34,8 +29,7 @@ pub fn head_len(image: &[u8], f: Front, t: State) -> usize
     requires { Longer image.now f t }
     ensures { HeadLength image.now f t result }
 {
-    let h = f.head;
-    let made = t.names - Head::CORE_NAMES - h.words;
+    let made = t.names - Head::CORE_NAMES - f.head.words;
     words_end(image, f) + numbers::number_len(made) + numbers::number_len(t.scopes)
 }
 
@@ -48,8 +42,7 @@ pub fn put_head(out: &mut [u8], image: &[u8], f: Front, kind: u32, t: State) -> 
     let start = numbers::put_number(out, 0, kind);
     let behind = words_end(image, f);
     copy(out, image, start, behind);
-    let h = f.head;
-    let made = t.names - Head::CORE_NAMES - h.words;
+    let made = t.names - Head::CORE_NAMES - f.head.words;
     let mid = numbers::put_number(out, behind, made);
     numbers::put_number(out, mid, t.scopes)
 }

@@ -32,7 +32,7 @@ const MOST_IMAGE: usize = numbers::Cursor::MOST_IMAGE;
 fn most_for(room: usize) -> usize
     ensures { result ≡ min most_image room }
 {
-    if room < MOST_IMAGE { room } else { MOST_IMAGE }
+    room.min(MOST_IMAGE)
 }
 
 // The length n, one over the cap for all that is longer.
@@ -40,7 +40,7 @@ fn capped(n: usize, cap: usize) -> usize
     requires { cap ≤ most_image }
     ensures { result ≡ min (cap + 1) n }
 {
-    if n <= cap { n } else { cap + 1 }
+    n.min(cap + 1)
 }
 
 // ---- a tree image
@@ -49,8 +49,7 @@ fn put_tree_image(out: &mut [u8], image: &[u8], f: Front, table: &[u32], o: Out)
     requires { Fits tree_images image.now f table.now o out.old }
     ensures { PutsImage tree_images image.now f table.now o out.old out.new }
 {
-    let t = o.state;
-    let root = heading::put_head(out, image, f, Head::TREE, t);
+    let root = heading::put_head(out, image, f, Head::TREE, o.state);
     writer::put_tree(out, root, table, o.at);
 }
 
@@ -67,10 +66,9 @@ pub fn finish_tree(
     requires within { o.state.left ≤ budget }
     ensures { Finishes tree_images image.now f table.now o budget out.old out.new result }
 {
-    let t = o.state;
-    let units = budget - t.left;
+    let units = budget - o.state.left;
     let cap = most_for(out.len());
-    let front = capped(heading::head_len(image, f, t), cap);
+    let front = capped(heading::head_len(image, f, o.state), cap);
     let n = writer::tree_len(table, o.at, front, cap);
     if cap < n {
         return Ending::Refused(Refusal::TooLong, units);
@@ -97,9 +95,8 @@ fn put_syntax_image(out: &mut [u8], image: &[u8], f: Front, store: &[u64], table
     requires fits { Fits (syntax_images (binds_of store.now o.state.bindings)) image.now f table.now o out.old }
     ensures { PutsImage (syntax_images (binds_of store.now o.state.bindings)) image.now f table.now o out.old out.new }
 {
-    let t = o.state;
-    let count = t.bindings;
-    let behind = heading::put_head(out, image, f, Head::SYNTAX, t);
+    let count = o.state.bindings;
+    let behind = heading::put_head(out, image, f, Head::SYNTAX, o.state);
     let first = numbers::put_number(out, behind, count);
     let root = bindings::storing::put_bindings(out, first, store, count as usize);
     writer::put_object(out, root, table, o.at);
@@ -120,10 +117,9 @@ pub fn finish_syntax(
     requires within { o.state.left ≤ budget }
     ensures { Finishes (syntax_images (binds_of store.now o.state.bindings)) image.now f table.now o budget out.old out.new result }
 {
-    let t = o.state;
-    let units = budget - t.left;
+    let units = budget - o.state.left;
     let cap = most_for(out.len());
-    let front = capped(before_root(image, f, store, t), cap);
+    let front = capped(before_root(image, f, store, o.state), cap);
     let n = writer::object_len(table, o.at, front, cap);
     if cap < n {
         return Ending::Refused(Refusal::TooLong, units);
