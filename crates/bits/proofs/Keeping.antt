@@ -1,4 +1,4 @@
--- What the code keeps of the tokens met, by the tests that it makes; and what it keeps of one token more.
+-- What the code keeps of one token more.
 use Prim.Native.Nat.{ℕ, ◌+◌, ◌≤◌, ◌<◌}
 use mathlib.Core.Path.{◌≡◌, refl, sym, ◌∙◌}
 use mathlib.Core.Bool.{Bool, true, false, not, ◌&&◌, ◌||◌, or-false}
@@ -8,84 +8,14 @@ use native.Mathlib.Numerals.{add-one}
 use lib.Dec.{eqb, ltb}
 use lib.ListN.{length, get_or, set, take, length-append}
 use lib.Seq.{get_or-set_same, get_or-set_other, take-suc-set}
-use borrow.Author.Tests.{eq-eqb, ne_eqb, lt-ltb, le-ltb, ltb-true, eqb-true, eqb-false, not-true, not-false}
+use borrow.Author.Tests.{eq-eqb, ne_eqb, lt-ltb, ltb-true, eqb-true, eqb-false}
 use Rattle.model.specs.Choice.{when◌then◌else◌}
 use Rattle.model.specs.Meanings.{is_among}
 use Rattle.laws.proofs.Tests.{and_both, among-more}
 use Rattle.requests.specs.Panel.{all_differ}
-use Rattle.bits.specs.Meeting.{last_mark, points, room, is_out, meet, marked_at, driven_before, counted_at, named_at, Noted}
+use Rattle.bits.specs.Meeting.{points, room, is_out, meet, marked_at, driven_before, counted_at, named_at, Noted}
 use Rattle.bits.specs.declared.Token.{Token}
 use Rattle.bits.specs.declared.Gathered.{Gathered}
-
--- ---- the word `out`
-
-module _ (t : Token) where
-  pub out_no_atom : (t.tag ≡ 3 → ⊥) → false ≡ is_out t
-  unfolding is_out
-  out_no_atom h = rw (ne_eqb t.tag 3 h)
-
-  module _ (a : t.tag ≡ 3) where
-    pub out_no_rung : (t.kind ≡ 4 → ⊥) → false ≡ is_out t
-    unfolding is_out
-    out_no_rung h = rw (eq-eqb t.tag 3 a, ne_eqb t.kind 4 h)
-
-    pub out-rung : t.kind ≡ 4 → eqb t.content 3 ≡ is_out t
-    unfolding is_out
-    out-rung h = rw (eq-eqb t.tag 3 a, eq-eqb t.kind 4 h)
-
--- ---- a point
-
-module _ (marks : List ℕ) (x : ℕ) (d : Bool) where
-  pub idle_before : not d ≡ true → false ≡ driven_before marks d x
-  unfolding driven_before
-  idle_before e = rw (not-true d e)
-
-  pub idle_marks : not d ≡ true → marks ≡ marked_at marks d x
-  unfolding marked_at
-  idle_marks e = rw (not-true d e)
-
-  module _ (e : not d ≡ false) where
-    pub past_before : last_mark < x → false ≡ driven_before marks d x
-    unfolding driven_before
-    past_before l = rw (not-false d e, le-ltb x points (omega arith))
-
-    pub past_marks : last_mark < x → marks ≡ marked_at marks d x
-    unfolding marked_at
-    past_marks l = rw (not-false d e, le-ltb x points (omega arith))
-
-    pub drives_before : x ≤ last_mark → not (eqb (get_or marks x 0) 0) ≡ driven_before marks d x
-    unfolding driven_before
-    drives_before l = rw (not-false d e, lt-ltb x points (omega arith))
-
-    pub drives_marks : x ≤ last_mark → set marks x 1 ≡ marked_at marks d x
-    unfolding marked_at
-    drives_marks l = rw (not-false d e, lt-ltb x points (omega arith))
-
--- ---- a name
-
-module _ (names : List ℕ) (bits : ℕ) (t : Token) where
-  pub no_name_count : (t.tag ≡ 2 → ⊥) → bits ≡ counted_at bits t
-  unfolding counted_at
-  no_name_count h = rw (ne_eqb t.tag 2 h)
-
-  pub no_name_kept : (t.tag ≡ 2 → ⊥) → names ≡ named_at names bits t
-  unfolding named_at
-  no_name_kept h = rw (ne_eqb t.tag 2 h)
-
-  module _ (e : t.tag ≡ 2) where
-    pub name-count : bits + 1 ≡ counted_at bits t
-    unfolding counted_at
-    name-count = rw (eq-eqb t.tag 2 e)
-
-    pub name-over : room ≤ bits → names ≡ named_at names bits t
-    unfolding named_at
-    name-over l = rw (eq-eqb t.tag 2 e, le-ltb bits room l)
-
-    pub name-kept : {i : ℕ} → i ≡ bits → bits < room → set names i t.content ≡ named_at names bits t
-    unfolding named_at
-    name-kept i l = rw (eq-eqb t.tag 2 e, lt-ltb bits room l, i)
-
-pub ruleset leaf_laws = (out_no_atom, out_no_rung, out-rung, idle_before, idle_marks, past_before, past_marks, drives_before, drives_marks, no_name_count, no_name_kept, name-count, name-over, name-kept)
 
 -- ---- one more at the end of a list
 

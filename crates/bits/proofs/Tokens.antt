@@ -2,29 +2,18 @@
 use Prim.Native.Nat.{ℕ, ◌+◌, ◌-◌}
 use mathlib.Core.Path.{◌≡◌, refl}
 use mathlib.Core.List.{List}
-use native.Mathlib.Omega.{arith}
 use lib.Dec.{eqb}
 use lib.ListN.{length, drop}
+use Rattle.std.specs.Prelude.{Result, Ok, Err}
 use borrow.Author.Tests.{eq-eqb, ne_eqb}
 use Rattle.model.specs.Reading.{num}
 use Rattle.refusals.specs.declared.Refusal.{Refusal}
 use Rattle.numbers.specs.declared.Cursor.{Cursor}
-use Rattle.numbers.specs.declared.Number.{Number}
-use Rattle.numbers.specs.declared.Number.TheVariants as number
-use Rattle.numbers.specs.Answers.{number_at}
+use Rattle.numbers.specs.Answers.{read_at, beside}
 use Rattle.numbers.proofs.Tails.{Tail, tail_give, tail_next, tail_if, num_tail}
-use Rattle.numbers.proofs.Answering.{Shape, number_shape, goes, gives, stops}
-use Rattle.bits.specs.Tokens.{token_at, read_content, read_kind, read_behind, read_token}
-use Rattle.bits.specs.declared.TokenRead.{TokenRead}
-use Rattle.bits.specs.declared.TokenRead.TheVariants.{Read, Fault}
-
-pub token_shape : Shape Read Fault
-token_shape = record {
-  value = λ v w c d e. (cc);
-  place = λ v w c d e. (cc);
-  fault = λ f h e. (cc);
-  apart = λ v c f e. (let z : ◌≡◌ {A = ℕ} 0 1 = cc in omega arith);
-}
+use Rattle.numbers.proofs.Answering.{read_shape, goes, gives, stops}
+use Rattle.bits.specs.Tokens.{read_content, read_kind, read_behind, read_token}
+use Rattle.bits.specs.declared.Token.{Token}
 
 -- ---- what is left is a tail
 
@@ -46,34 +35,32 @@ token_tail s = tail_next _ (num_tail s) behind_tail
 
 -- ---- one law for each way out
 
-module _ (at : ℕ) (s : List ℕ) {r : Number} (h : r ≡ number_at (at + length s) (num s)) where
-  pub content-stops : (tag kind : ℕ) {f : Refusal} → r ≡ number.Fault f → Fault f ≡ token_at (at + length s) (read_content tag kind s)
+module _ (at : ℕ) (s : List ℕ) {r : Result (ℕ × Cursor) Refusal} (h : r ≡ read_at (at + length s) (num s)) where
+  pub content-stops : (tag kind : ℕ) {f : Refusal} → r ≡ Err f → Err f ≡ read_at (at + length s) (read_content tag kind s)
   unfolding read_content
-  content-stops tag kind e = stops number_shape Read Fault (at + length s) (num s) _ h e
+  content-stops tag kind e = stops read_shape beside (at + length s) (num s) _ h e
 
-  pub content-read : (tag kind : ℕ) {x : ℕ} {past : Cursor} → r ≡ number.Read x past → Read (record { tag = tag; kind = kind; content = x }) past ≡ token_at (at + length s) (read_content tag kind s)
+  pub content-read : (tag kind : ℕ) {x : ℕ} {past : Cursor} → r ≡ Ok (x, past) → Ok (record { tag = tag; kind = kind; content = x }, past) ≡ read_at (at + length s) (read_content tag kind s)
   unfolding read_content
-  content-read tag kind e = gives number_shape Read Fault at (num s) _ h e (num_tail s) (λ u. refl)
+  content-read tag kind e = gives read_shape beside at (num s) _ h e (num_tail s) (λ u. refl)
 
-  pub kind-stops : {f : Refusal} → r ≡ number.Fault f → Fault f ≡ token_at (at + length s) (read_kind s)
+  pub kind-stops : {f : Refusal} → r ≡ Err f → Err f ≡ read_at (at + length s) (read_kind s)
   unfolding read_kind
-  kind-stops e = stops number_shape Read Fault (at + length s) (num s) _ h e
+  kind-stops e = stops read_shape beside (at + length s) (num s) _ h e
 
-  pub kind-read : {k : ℕ} {past : Cursor} {u : List ℕ} {x : TokenRead} → r ≡ number.Read k past → u ≡ drop (past.at - at) s → x ≡ token_at (past.at + length u) (read_content 3 k u) → x ≡ token_at (at + length s) (read_kind s)
+  pub kind-read : {k : ℕ} {past : Cursor} {u : List ℕ} {x : Result (Token × Cursor) Refusal} → r ≡ Ok (k, past) → u ≡ drop (past.at - at) s → x ≡ read_at (past.at + length u) (read_content 3 k u) → x ≡ read_at (at + length s) (read_kind s)
   unfolding read_kind
-  kind-read e i a = goes number_shape Read Fault at (num s) _ h e (num_tail s) i a
+  kind-read e i a = goes read_shape beside at (num s) _ h e (num_tail s) i a
 
-  pub token-stops : {f : Refusal} → r ≡ number.Fault f → Fault f ≡ token_at (at + length s) (read_token s)
+  pub token-stops : {f : Refusal} → r ≡ Err f → Err f ≡ read_at (at + length s) (read_token s)
   unfolding read_token
-  token-stops e = stops number_shape Read Fault (at + length s) (num s) _ h e
+  token-stops e = stops read_shape beside (at + length s) (num s) _ h e
 
-  module _ {t : ℕ} {past : Cursor} {u : List ℕ} {x : TokenRead} (e : r ≡ number.Read t past) (i : u ≡ drop (past.at - at) s) where
-    pub token-atom : t ≡ 3 → x ≡ token_at (past.at + length u) (read_kind u) → x ≡ token_at (at + length s) (read_token s)
+  module _ {t : ℕ} {past : Cursor} {u : List ℕ} {x : Result (Token × Cursor) Refusal} (e : r ≡ Ok (t, past)) (i : u ≡ drop (past.at - at) s) where
+    pub token-atom : t ≡ 3 → x ≡ read_at (past.at + length u) (read_kind u) → x ≡ read_at (at + length s) (read_token s)
     unfolding read_token read_behind
-    token-atom q a = goes number_shape Read Fault at (num s) _ h e (num_tail s) i (rw (eq-eqb t 3 q) a)
+    token-atom q a = goes read_shape beside at (num s) _ h e (num_tail s) i (rw (eq-eqb t 3 q) a)
 
-    pub token-other : (t ≡ 3 → ⊥) → x ≡ token_at (past.at + length u) (read_content t 0 u) → x ≡ token_at (at + length s) (read_token s)
+    pub token-other : (t ≡ 3 → ⊥) → x ≡ read_at (past.at + length u) (read_content t 0 u) → x ≡ read_at (at + length s) (read_token s)
     unfolding read_token read_behind
-    token-other q a = goes number_shape Read Fault at (num s) _ h e (num_tail s) i (rw (ne_eqb t 3 q) a)
-
-pub ruleset token_laws = (content-stops, content-read, kind-stops, kind-read, token-stops, token-atom, token-other)
+    token-other q a = goes read_shape beside at (num s) _ h e (num_tail s) i (rw (ne_eqb t 3 q) a)

@@ -1,15 +1,8 @@
 -- The tokens that the bytes of a tree are, where it has neither list nor syntax values.
 use Rattle.std.specs.Prelude.{ℕ, eqb}
 use Rattle.model.specs.Choice.{when◌then◌else◌}
-use Rattle.model.specs.Reading as m
 use Rattle.model.specs.Reading.{Reader, ◌>>=◌, give, num}
-use Rattle.numbers.specs.Answers.{answer_at}
 use Rattle.bits.specs.declared.Token.{Token}
-use Rattle.bits.specs.declared.TokenRead.{TokenRead}
-use Rattle.bits.specs.declared.TokenRead.TheVariants.{Read, Fault}
-
-abbrev pub token_at : ℕ → m.Read Token → TokenRead
-token_at end g = answer_at Read Fault end g
 
 unfoldable pub read_content : ℕ → ℕ → Reader Token
 unfolding num

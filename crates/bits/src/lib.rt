@@ -3,27 +3,23 @@
 // function's name, an atom. The point that `out` drives is the token behind that word.
 #![tactic(auto)]
 
-ghost use Rattle.std.specs.Prelude.{◌≡◌, ◌||◌, ◌+◌, ◌≤◌, ◌<◌, length};
+ghost use Rattle.std.specs.Prelude.{◌≡◌, ◌+◌, ◌≤◌, ◌<◌, length};
 ghost use Rattle.numbers.specs.Limits.{most_image};
-ghost use Rattle.bits.specs.Tokens.{token_at, read_content, read_kind, read_token};
+ghost use Rattle.numbers.specs.Answers.{read_at};
+ghost use Rattle.bits.specs.Tokens.{read_content, read_kind, read_token};
 ghost use Rattle.bits.specs.Meeting.{points, room, is_out, marked_at, driven_before, named_at, counted_at, NoMarks, Noted, along, none, Holds};
 
-use numbers::{Cursor, Number};
-use refusals::Refusal;
+use numbers::{Cursor, Read};
 use scopes::Point;
+use std::mem;
 
-// `content` is a name, a count, or what an atom holds; `kind` is an atom's, else 0.
+// `content` is a name, a count, or what an atom holds; `kind` is an atom's, else 0. Tag and kind stay numbers: `read_token` of
+// specs/Tokens.antt takes any number there, since which ones there may be was tested with the image.
 #[derive(Clone, Copy)]
 pub struct Token {
     pub tag: u32,
     pub kind: u32,
     pub content: u32,
-}
-
-#[derive(Clone, Copy)]
-pub enum TokenRead {
-    Read(Token, Cursor),
-    Fault(Refusal),
 }
 
 // How many functions were met, whether a point was driven twice, and whether what comes next is a point that is driven.
@@ -47,16 +43,11 @@ impl Token {
     const OUT: u32 = 3;
 
     // The word `out`.
+    #[tactic(auto, unfolding(crate::specs::Meeting::is_out))]
     fn is_out(self) -> bool
         ensures { result ≡ is_out self }
     {
-        if self.tag != Token::ATOM {
-            return false;
-        }
-        if self.kind != Token::RUNG {
-            return false;
-        }
-        self.content == Token::OUT
+        self.tag == Token::ATOM && self.kind == Token::RUNG && self.content == Token::OUT
     }
 }
 
@@ -68,58 +59,46 @@ impl Gathered {
     pub const POINTS: usize = Point::LAST as usize + 1;
 }
 
-fn read_content(c: Cursor, s: &[u8], tag: u32, kind: u32) -> TokenRead
+fn read_content(c: Cursor, s: &[u8], tag: u32, kind: u32) -> Read<Token>
     requires { c.at + length s.now ≤ most_image }
-    ensures { result ≡ token_at (c.at + length s.now) (read_content tag kind s.now) }
+    ensures { result ≡ read_at (c.at + length s.now) (read_content tag kind s.now) }
 {
-    match c.number(s) {
-        Number::Read(content, past) => TokenRead::Read(Token { tag, kind, content }, past),
-        Number::Fault(f) => TokenRead::Fault(f),
-    }
+    let (content, past) = c.number(s)?;
+    Ok((Token { tag, kind, content }, past))
 }
 
-fn read_kind(c: Cursor, s: &[u8]) -> TokenRead
+fn read_kind(c: Cursor, s: &[u8]) -> Read<Token>
     requires { c.at + length s.now ≤ most_image }
-    ensures { result ≡ token_at (c.at + length s.now) (read_kind s.now) }
+    ensures { result ≡ read_at (c.at + length s.now) (read_kind s.now) }
 {
-    match c.number(s) {
-        Number::Read(kind, past) => read_content(past, c.after(s, past), Token::ATOM, kind),
-        Number::Fault(f) => TokenRead::Fault(f),
-    }
+    let (kind, past) = c.number(s)?;
+    read_content(past, c.after(s, past), Token::ATOM, kind)
 }
 
 // The token at a cursor, where `s` is the image from there on.
-pub fn read_token(c: Cursor, s: &[u8]) -> TokenRead
+pub fn read_token(c: Cursor, s: &[u8]) -> Read<Token>
     requires { c.at + length s.now ≤ most_image }
-    ensures { result ≡ token_at (c.at + length s.now) (read_token s.now) }
+    ensures { result ≡ read_at (c.at + length s.now) (read_token s.now) }
 {
-    match c.number(s) {
-        Number::Read(tag, past) => {
-            if tag == Token::ATOM {
-                return read_kind(past, c.after(s, past));
-            }
-            read_content(past, c.after(s, past), tag, 0)
-        }
-        Number::Fault(f) => TokenRead::Fault(f),
+    let (tag, past) = c.number(s)?;
+    if tag == Token::ATOM {
+        read_kind(past, c.after(s, past))
+    } else {
+        read_content(past, c.after(s, past), tag, 0)
     }
 }
 
 // Marks the point where it is driven: whether it was marked before.
+#[tactic(auto, unfolding(crate::specs::Meeting::marked_at, crate::specs::Meeting::driven_before))]
 fn drive(marks: &mut [u8], driving: bool, point: u32) -> bool
     requires { points ≤ length marks.old }
     ensures again { result ≡ driven_before marks.old driving point }
     ensures marks { marks.new ≡ marked_at marks.old driving point }
 {
-    if !driving {
+    if !driving || Point::LAST < point {
         return false;
     }
-    if Point::LAST < point {
-        return false;
-    }
-    let i = point as usize;
-    let before = marks[i];
-    marks[i] = 1;
-    before != 0
+    mem::replace(&mut marks[point as usize], 1) != 0
 }
 
 // The address of a function that is met behind `bits` others.
@@ -131,6 +110,7 @@ fn address(bits: u32) -> usize
 }
 
 // Keeps a function's name at its address, where there is room: how many functions there are now.
+#[tactic(auto, unfolding(crate::specs::Meeting::counted_at, crate::specs::Meeting::named_at))]
 fn count(names: &mut [u32], bits: u32, t: Token) -> u32
     requires { (room ≤ length names.old) × (bits < 4294967295) }
     ensures bits { result ≡ counted_at bits t }
@@ -139,18 +119,10 @@ fn count(names: &mut [u32], bits: u32, t: Token) -> u32
     if t.tag != Token::FUNCTION {
         return bits;
     }
-    if Gathered::ROOM <= bits {
-        return bits + 1;
+    if bits < Gathered::ROOM {
+        names[address(bits)] = t.content;
     }
-    let i = address(bits);
-    names[i] = t.content;
     bits + 1
-}
-
-fn either(a: bool, b: bool) -> bool
-    ensures { result ≡ (a || b) }
-{
-    if a { true } else { b }
 }
 
 // What is gathered once this token is met too.
@@ -159,13 +131,10 @@ fn note(marks: &mut [u8], names: &mut [u32], g: Gathered, t: Token) -> Gathered
     ensures { Noted marks.old names.old g t marks.new names.new result }
 {
     let again = drive(marks, g.driving, t.content);
-    let bits = count(names, g.bits, t);
-    let twice = either(g.twice, again);
-    let driving = t.is_out();
     Gathered {
-        bits,
-        twice,
-        driving,
+        bits: count(names, g.bits, t),
+        twice: g.twice || again,
+        driving: t.is_out(),
     }
 }
 
@@ -177,21 +146,17 @@ pub fn gather(c: Cursor, s: &[u8], marks: &mut [u8], names: &mut [u32]) -> Gathe
     ensures { Holds (along (length s.now) none s.now) marks.new names.new result }
 {
     let mut here = c;
-    let mut left = s.len();
     let mut g = Gathered {
         bits: 0,
         twice: false,
         driving: false,
     };
-    while 0 < left {
-        match read_token(here, c.after(s, here)) {
-            TokenRead::Read(t, past) => {
-                g = note(marks, names, g, t);
-                here = past;
-                left -= 1;
-            }
-            TokenRead::Fault(_) => return g,
-        }
+    for _ in 0..s.len() {
+        let Ok((t, past)) = read_token(here, c.after(s, here)) else {
+            return g;
+        };
+        g = note(marks, names, g, t);
+        here = past;
     }
     g
 }

@@ -1,10 +1,9 @@
-use Rattle.std.proofs.Common.{rules, ◌-◌}
+use Rattle.refusals.proofs.Handing.{handed_on}
 use Rattle.bits.proofs.read_content.Goals as goal
-use Rattle.numbers.proofs.Answering.{answering}
-use Rattle.bits.proofs.Tokens.{token_laws}
+use Rattle.bits.proofs.Tokens.{content-stops, content-read}
 
-pub returns-in-Read : goal.returns-in-Read
-returns-in-Read c = search (token_laws, answering, rules)
+pub returns-in_err-content : goal.returns-in_err-content
+returns-in_err-content c = handed_on c.from_residual.ensures.1 (content-stops _ _ c.number.ensures _ _ c.in_err-content.was)
 
-pub returns-in-Fault : goal.returns-in-Fault
-returns-in-Fault c = search (token_laws, answering, rules)
+pub returns : goal.returns
+returns c = content-read _ _ c.number.ensures _ _ c.in_ok-content.was
