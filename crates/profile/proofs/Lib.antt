@@ -1,4 +1,3 @@
-pub mod RuleLaws
 pub mod Tails
 pub mod Taking
 pub mod Suits

@@ -6,6 +6,7 @@ use mathlib.Core.List.{List, ◌∷◌}
 use native.Mathlib.Omega.{arith}
 use lib.Dec.{eqb, ltb, leb, eqb-suc-zero}
 use lib.ListN.{set}
+use Rattle.std.specs.Prelude.{Option, Some, None}
 use Rattle.model.specs.Refusals.{layout, over_limit}
 use Rattle.model.specs.Limits.{last_point, last_primitive, last_rung_word}
 use Rattle.model.specs.Objects.{Atom, symbol, number, point, prim, rung, tag_of, content_of, Stx}
@@ -85,11 +86,11 @@ atom-num h (suc (suc (suc (suc (suc t))))) a s rest e = absurd (fault≢got layo
 -- ---- a head
 
 -- the rule behind a head, where there is one
-abbrev ruled : Bool → Rule → List ℕ → m.Read Rule
+abbrev ruled : Bool → Option Rule → List ℕ → m.Read (Option Rule)
 ruled true r rest = got r rest
 ruled false r rest = fault layout
 
-abbrev head_verdict : List ℕ → Wanted → Tree → List ℕ → m.Read Rule
+abbrev head_verdict : List ℕ → Wanted → Tree → List ℕ → m.Read (Option Rule)
 head_verdict a w (var n) rest = fault layout
 head_verdict a w (app h l) rest = fault layout
 head_verdict a w (fun n b) rest = ruled (good (n ∷ a) Program b) (bit_rule w) rest
@@ -105,7 +106,7 @@ head_verdict a w (stx s) rest = fault layout
 abbrev Takes : List ℕ → Reader Tree → (Wanted → Reader (Unit {0})) → Type 0
 Takes a tree part = (w : Wanted) (t : Tree) (s rest : List ℕ) → tree s ≡ got t rest → part w s ≡ verdict (good a w t) rest
 
-abbrev Heads : List ℕ → Reader Tree → (Wanted → Reader Rule) → Type 0
+abbrev Heads : List ℕ → Reader Tree → (Wanted → Reader (Option Rule)) → Type 0
 Heads a tree head = (w : Wanted) (t : Tree) (s rest : List ℕ) → tree s ≡ got t rest → head w s ≡ head_verdict a w t rest
 
 abbrev Bodies : List ℕ → ℕ → Reader Tree → (ℕ → Reader (Unit {0})) → Type 0
@@ -191,16 +192,17 @@ module _ (a : List ℕ) (tree : Reader Tree) (part : Wanted → Reader (Unit {0}
       )
 
   -- of the parts behind a head
-  arguments_take : (r : Rule) (c : ℕ) (l : Trees) (s rest : List ℕ) → read_trees c tree s ≡ got l rest
+  arguments_take : (r : Option Rule) (c : ℕ) (l : Trees) (s rest : List ℕ) → read_trees c tree s ≡ got l rest
       → take_arguments part r c s ≡ verdict (arguments_good a r l) rest
   unfolding read_trees take_arguments
-  arguments_take r zero l s rest e = moved (λ x u. take_arguments part r 0 s ≡ verdict (arguments_good a r x) u) tnil l s rest e (rw (none-taken r))
-  arguments_take r (suc c) l s rest e =
+  arguments_take None c l s rest e = refl
+  arguments_take (Some r) zero l s rest e = moved (λ x u. take_arguments part (Some r) 0 s ≡ verdict (arguments_good a (Some r) x) u) tnil l s rest e (rw (none-taken r))
+  arguments_take (Some r) (suc c) l s rest e =
       let g = next-got (tree s) _ l rest e in
       let k = next-got (read_trees c tree g.1) _ l rest g.3 in
       let q = all-takes r.others c k.0 g.1 k.1 k.2 in
       let z : suc c - 1 ≡ c = omega arith in
-      moved (λ x u. take_arguments part r (suc c) s ≡ verdict (arguments_good a r x) u) (tcons g.0 k.0) l k.1 rest k.3
+      moved (λ x u. take_arguments part (Some r) (suc c) s ≡ verdict (arguments_good a (Some r) x) u) (tcons g.0 k.0) l k.1 rest k.3
       (rw (q.0, z, need-is (takes_count r (suc c)) s)
       (verdict_next (takes_count r (suc c)) (good a r.first g.0 && all_good a r.others k.0) s k.1 _
       (rw (takes r.first g.0 s g.1 g.2) (verdict_next (good a r.first g.0) (all_good a r.others k.0) g.1 k.1 (take_all c (part r.others)) q.1))))
@@ -208,8 +210,8 @@ module _ (a : List ℕ) (tree : Reader Tree) (part : Wanted → Reader (Unit {0}
 -- ---- an application
 
 -- a head, and what its rule makes of the arguments l
-module _ (a : List ℕ) (w : Wanted) (l : Trees) (s rest : List ℕ) (j : Rule → Reader (Unit {0})) (h : (r : Rule) → j r s ≡ verdict (arguments_good a r l) rest) where
-  ruled-next : (g : Bool) (r : Rule) → next (ruled g r s) j ≡ verdict (g && arguments_good a r l) rest
+module _ (a : List ℕ) (w : Wanted) (l : Trees) (s rest : List ℕ) (j : Option Rule → Reader (Unit {0})) (h : (r : Option Rule) → j r s ≡ verdict (arguments_good a r l) rest) where
+  ruled-next : (g : Bool) (r : Option Rule) → next (ruled g r s) j ≡ verdict (g && arguments_good a r l) rest
   ruled-next true r = h r
   ruled-next false r = refl
 
@@ -250,14 +252,14 @@ unfolding take_atom closed
 atom-is a w k c s u rest e t d l =
     rw (e, d, ← t) (need-is (takes_atom w (tag_of c) (content_of c)) rest ∙ ap (λ (z : Bool). verdict z rest) (atom_suits w c l ∙ sym (and-true (suits w (datum c)))))
 
-application_is : (a : List ℕ) (part : Wanted → Reader (Unit {0})) (head : Wanted → Reader Rule) (w : Wanted) (c : ℕ) (f : Tree) (l : Trees) (s u v rest : List ℕ) → num s ≡ got (suc c) u → head w u ≡ head_verdict a w f v
-    → ((r : Rule) → take_arguments part r c v ≡ verdict (arguments_good a r l) rest) → take_application part head w s ≡ verdict (good a w (app f l)) rest
+application_is : (a : List ℕ) (part : Wanted → Reader (Unit {0})) (head : Wanted → Reader (Option Rule)) (w : Wanted) (c : ℕ) (f : Tree) (l : Trees) (s u v rest : List ℕ) → num s ≡ got (suc c) u → head w u ≡ head_verdict a w f v
+    → ((r : Option Rule) → take_arguments part r c v ≡ verdict (arguments_good a r l) rest) → take_application part head w s ≡ verdict (good a w (app f l)) rest
 unfolding take_application
 application_is a part head w c f l s u v rest e d q =
     let z : suc c - 1 ≡ c = omega arith in
     rw (e, eqb-suc-zero c, d, z) (app_suits a w l v rest (λ r. take_arguments part r c) q f)
 
-module _ (h : m.Head) (tree value : Reader Tree) (object : Reader Stx) (table a : List ℕ) (A : Around h.names table a) (part : Wanted → Reader (Unit {0})) (head : Wanted → Reader Rule) (takes : Takes a tree part) (heads : Heads a tree head) where
+module _ (h : m.Head) (tree value : Reader Tree) (object : Reader Stx) (table a : List ℕ) (A : Around h.names table a) (part : Wanted → Reader (Unit {0})) (head : Wanted → Reader (Option Rule)) (takes : Takes a tree part) (heads : Heads a tree head) where
   abbrev BodyIs : Wanted → ℕ → List ℕ → Tree → List ℕ → Type 0
   BodyIs w t s v rest = take_body h.names table part head w t s ≡ verdict (good a w v) rest
 

@@ -6,6 +6,7 @@ use mathlib.Core.List.{List}
 use native.Mathlib.Omega.{arith}
 use lib.Dec.{eqb, leb}
 use lib.ListN.{get_or, set}
+use Rattle.std.specs.Prelude.{Option, Some, None}
 use borrow.Author.Tests.{le-leb, eqb-true}
 use Rattle.model.specs.Refusals.{layout, over_limit}
 use Rattle.model.specs.Limits.{last_point, last_rung_word}
@@ -91,7 +92,7 @@ word_read : (h : m.Head) (k x : ℕ) (u rest : List ℕ) → eqb k 4 ≡ true �
 unfolding read_atom
 word_read h k x u rest t e = record { value = rung x; is = rw (eqb-true k 4 t, e) }
 
-word-reads : (h : m.Head) (w : Wanted) (r : Rule) (s rest : List ℕ) → take_word w s ≡ got r rest → AtomAt h s rest
+word-reads : (h : m.Head) (w : Wanted) (r : Option Rule) (s rest : List ℕ) → take_word w s ≡ got r rest → AtomAt h s rest
 unfolding take_word
 word-reads h w r s rest e =
     let g = next-got (num s) _ r rest e in
@@ -113,13 +114,14 @@ module _ (tree : Reader Tree) (part : Wanted → Reader (Unit {0})) (reads : (w 
       let l = all_read w c g.1 rest g.3 in
       record { value = tcons t.value l.value; is = rw (t.is, l.is) }
 
-  arguments_read : (r : Rule) (c : ℕ) (s rest : List ℕ) → take_arguments part r c s ≡ got tt rest → Reads (read_trees c tree s) rest
+  arguments_read : (r : Option Rule) (c : ℕ) (s rest : List ℕ) → take_arguments part r c s ≡ got tt rest → Reads (read_trees c tree s) rest
   unfolding take_arguments read_trees
-  arguments_read r zero s rest e =
+  arguments_read None c s rest e = absurd (fault≢got layout tt rest e)
+  arguments_read (Some r) zero s rest e =
       let n = next-got (need layout (takes_count r 0) s) _ tt rest e in
       let q = need-got layout (takes_count r 0) n.0 s n.1 n.2 in
       absurd (false≢true (sym (none-taken r) ∙ q.0))
-  arguments_read r (suc c) s rest e =
+  arguments_read (Some r) (suc c) s rest e =
       let n = next-got (need layout (takes_count r (suc c)) s) _ tt rest e in
       let q = need-got layout (takes_count r (suc c)) n.0 s n.1 n.2 in
       let g = next-got (part r.first n.1) _ tt rest n.3 in
@@ -140,8 +142,8 @@ application_read tree (suc c) u v rest f l t d e =
 
 module _ (h : m.Head) (tree value : Reader Tree) (object : Reader Stx) where
   -- what follows the tag
-  module _ (table : List ℕ) (part : Wanted → Reader (Unit {0})) (head : Wanted → Reader Rule) (reads : (w : Wanted) (s rest : List ℕ) → part w s ≡ got tt rest → Reads (tree s) rest)
-      (heads : (w : Wanted) (r : Rule) (s rest : List ℕ) → head w s ≡ got r rest → Reads (tree s) rest) where
+  module _ (table : List ℕ) (part : Wanted → Reader (Unit {0})) (head : Wanted → Reader (Option Rule)) (reads : (w : Wanted) (s rest : List ℕ) → part w s ≡ got tt rest → Reads (tree s) rest)
+      (heads : (w : Wanted) (r : Option Rule) (s rest : List ℕ) → head w s ≡ got r rest → Reads (tree s) rest) where
     application_reads : (w : Wanted) (s rest : List ℕ) → take_application part head w s ≡ got tt rest → Reads (next (num s) (λ n. read_app n tree)) rest
     unfolding take_application
     application_reads w s rest e =
@@ -168,7 +170,7 @@ module _ (h : m.Head) (tree value : Reader Tree) (object : Reader Stx) where
 
   -- what follows the head's tag
   module _ (inside : ℕ → Reader (Unit {0})) (reads : (n : ℕ) (s rest : List ℕ) → inside n s ≡ got tt rest → Reads (tree s) rest) where
-    bit-reads : (w : Wanted) (r : Rule) (s rest : List ℕ) → bit_with h.names inside w s ≡ got r rest → Reads (next (num_below h.names s) (λ n u. next (tree u) (λ b v. got (fun n b) v))) rest
+    bit-reads : (w : Wanted) (r : Option Rule) (s rest : List ℕ) → bit_with h.names inside w s ≡ got r rest → Reads (next (num_below h.names s) (λ n u. next (tree u) (λ b v. got (fun n b) v))) rest
     unfolding bit_with
     bit-reads w r s rest e =
         let g = next-got (num_below h.names s) _ r rest e in
@@ -180,7 +182,7 @@ module _ (h : m.Head) (tree value : Reader Tree) (object : Reader Stx) where
           is = then_got (num_below h.names s) g.0 g.1 (λ n u. next (tree u) (λ b v. got (fun n b) v)) _ g.2 (then_got (tree g.1) b.value rest (λ b v. got (fun g.0 b) v) _ (b.is ∙ ap (got b.value) z) refl);
         }
 
-    head-reads : (w : Wanted) (t : ℕ) (r : Rule) (s rest : List ℕ) → head_by h.names inside w t s ≡ got r rest → Reads (read_tree_body h tree value object t s) rest
+    head-reads : (w : Wanted) (t : ℕ) (r : Option Rule) (s rest : List ℕ) → head_by h.names inside w t s ≡ got r rest → Reads (read_tree_body h tree value object t s) rest
     unfolding head_by read_tree_body
     head-reads w zero r s rest e = absurd (fault≢got layout r rest e)
     head-reads w (suc zero) r s rest e = absurd (fault≢got layout r rest e)
@@ -205,7 +207,7 @@ mutual
       (body_reads h (read_tree l h 0) (read_tree l h 2) (read_stx (suc l) h) table (take_tree h.names l table) (take_head h.names l table)
       (λ w s rest e. tree-read l h table w s rest e) (λ w r s rest e. head_read l h table w r s rest e) w g.0 g.1 rest g.3)
 
-  head_read : (l : ℕ) (h : m.Head) (table : List ℕ) (w : Wanted) (r : Rule) (s rest : List ℕ) → take_head h.names l table w s ≡ got r rest → Reads (read_tree l h 0 s) rest
+  head_read : (l : ℕ) (h : m.Head) (table : List ℕ) (w : Wanted) (r : Option Rule) (s rest : List ℕ) → take_head h.names l table w s ≡ got r rest → Reads (read_tree l h 0 s) rest
   head_read zero h table w r s rest e = absurd (fault≢got layout r rest e)
   head_read (suc l) h table w r s rest e =
       let g = next-got (num s) _ r rest e in

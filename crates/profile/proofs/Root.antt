@@ -6,6 +6,7 @@ use mathlib.Core.List.{List, [], ◌∷◌}
 use native.Mathlib.Omega.{arith}
 use lib.Dec.{eqb}
 use lib.ListN.{length, drop}
+use Rattle.std.specs.Prelude.{Result, Ok, Err}
 use borrow.Author.Tests.{eqb-true}
 use Rattle.model.specs.Refusals as r
 use Rattle.model.specs.Refusals.{layout}
@@ -20,8 +21,6 @@ use Rattle.requests.specs.Panel.{is_program}
 use Rattle.refusals.specs.declared.Refusal.{Refusal}
 use Rattle.refusals.specs.Refusing.{refusal_of}
 use Rattle.numbers.specs.declared.Cursor.{Cursor}
-use Rattle.numbers.specs.declared.Place.{Place}
-use Rattle.numbers.specs.declared.Place.TheVariants as place
 use Rattle.numbers.proofs.Answering.{Took, took, refused, place_shape}
 use Rattle.roots.specs.Measuring.{none_around}
 use Rattle.roots.proofs.Kept.{around-none}
@@ -77,11 +76,11 @@ module _ (h : m.Head) (few : h.names ≤ 1024) (s : List ℕ) where
 
 -- ---- the answers
 
-module _ (at names : ℕ) (around s : List ℕ) (few : names ≤ 1024) (none : around ≡ none_around) {r : Place} (k : r ≡ taken_at (at + length s) (take_tree names 64 around Program s)) where
+module _ (at names : ℕ) (around s : List ℕ) (few : names ≤ 1024) (none : around ≡ none_around) {r : Result Cursor Refusal} (k : r ≡ taken_at (at + length s) (take_tree names 64 around Program s)) where
   from-none : r ≡ taken_at (at + length s) (take_tree names 64 none_around Program s)
   from-none = k ∙ ap (λ (z : List ℕ). taken_at (at + length s) (take_tree names 64 z Program s)) none
 
-  pub other-told : {f : Refusal} → r ≡ place.Fault f → Tells names s false
+  pub other-told : {f : Refusal} → r ≡ Err f → Tells names s false
   other-told {f} e =
       let g : take_tree names 64 none_around Program s ≡ fault (refusal_of f) = refused place_shape (at + length s) (take_tree names 64 none_around Program s) from-none e in
       record {
@@ -90,7 +89,7 @@ module _ (at names : ℕ) (around s : List ℕ) (few : names ≤ 1024) (none : a
             refused-missed h (subst (λ (z : ℕ). z ≤ 1024) (sym n) few) s (subst (λ (z : ℕ). take_tree z 64 none_around Program s ≡ fault (refusal_of f)) (sym n) g);
       }
 
-  pub root_told : {past : Cursor} {u : List ℕ} → r ≡ place.At past → u ≡ drop (past.at - at) s → Tells names s (eqb (length u) 0)
+  pub root_told : {past : Cursor} {u : List ℕ} → r ≡ Ok past → u ≡ drop (past.at - at) s → Tells names s (eqb (length u) 0)
   root_told {past} {u} e i =
       let T : Took at s (take_tree names 64 none_around Program s) tt past.at = took place_shape {k = tt} from-none e (tree_tail names 64 none_around Program s) in
       let g : take_tree names 64 none_around Program s ≡ got tt u = T.is ∙ ap (got tt) (sym i) in

@@ -4,14 +4,16 @@ use mathlib.Core.Path.{◌≡◌, refl, sym, ap, ◌∙◌}
 use mathlib.Core.Bool.{Bool, true, false, ◌&&◌, and-false}
 use mathlib.Core.List.{List, ◌∷◌}
 use lib.Dec.{eqb, leb, eqb-suc-zero, eqb-suc-suc}
+use Rattle.std.specs.Prelude.{Option, Some, None}
 use Rattle.model.specs.Objects.{Atom, symbol, number, point, prim, rung, tag_of, content_of, Stx}
 use Rattle.model.specs.Trees.{Tree, var, app, fun, datum, lst, stx, Trees, tnil, tcons, tcount}
 use Rattle.model.specs.Jobs.{closed, closed_all}
 use Rattle.requests.specs.Panel.{Word, bit, and, or, not, out, set, all, free, word_numbered, word_of, head_word, is_point, is_point_tree, is_variable, is_binary, is_start, is_expression_of, is_expression, are_expressions, is_rung, is_program_of, is_program, is_program_inside, are_programs}
 use Rattle.profile.specs.declared.rules.Wanted.{Wanted}
 use Rattle.profile.specs.declared.rules.Wanted.TheVariants.{Program, Expression, Point, Variable, Start}
+use Rattle.profile.specs.declared.rules.Count.TheVariants.{Exactly, AtLeast}
 use Rattle.profile.specs.declared.rules.Rule.{Rule}
-use Rattle.profile.specs.Rules.{no_rule, rung_rule, contacts_rule, rule_of, bit_rule, takes_count, takes_variable, takes_point, takes_atom}
+use Rattle.profile.specs.Rules.{rung_rule, contacts_rule, rule_of, bit_rule, takes_count, takes_variable, takes_point, takes_atom}
 
 -- ---- what is wanted, of a tree
 
@@ -26,9 +28,10 @@ unfoldable pub all_suit : Wanted → Trees → Bool
 all_suit w tnil = true
 all_suit w (tcons t l) = suits w t && all_suit w l
 
-abbrev pub arguments_suit : Rule → Trees → Bool
-arguments_suit r tnil = false
-arguments_suit r (tcons t l) = takes_count r (suc (tcount l)) && (suits r.first t && all_suit r.others l)
+abbrev pub arguments_suit : Option Rule → Trees → Bool
+arguments_suit None l = false
+arguments_suit (Some r) tnil = false
+arguments_suit (Some r) (tcons t l) = takes_count r (suc (tcount l)) && (suits r.first t && all_suit r.others l)
 
 -- ---- the rules are those of the definition
 
@@ -42,25 +45,17 @@ unfolding all_suit are_programs
 programs_are tnil = refl
 programs_are (tcons t l) = ap (λ (z : Bool). is_program t && z) (programs_are l)
 
-takes_exactly : (k n : ℕ) (f o : Wanted) → takes_count (record { count = suc k; exactly = true; first = f; others = o }) (suc n) ≡ eqb n k
+takes_exactly : (k n : ℕ) (f o : Wanted) → takes_count (record { count = Exactly (suc k); first = f; others = o }) (suc n) ≡ eqb n k
 unfolding takes_count
 takes_exactly k n f o = rw (eqb-suc-zero n) (eqb-suc-suc n k)
 
-takes_least : (k n : ℕ) (f o : Wanted) → takes_count (record { count = k; exactly = false; first = f; others = o }) (suc n) ≡ leb k (suc n)
+takes_least : (k n : ℕ) (f o : Wanted) → takes_count (record { count = AtLeast k; first = f; others = o }) (suc n) ≡ leb k (suc n)
 unfolding takes_count
 takes_least k n f o = rw (eqb-suc-zero n)
-
-takes_none : (n : ℕ) → takes_count no_rule (suc n) ≡ false
-unfolding takes_count
-takes_none n = rw (eqb-suc-zero n)
 
 pub none-taken : (r : Rule) → takes_count r 0 ≡ false
 unfolding takes_count
 none-taken r = refl
-
-no_rule_lem : (l : Trees) → arguments_suit no_rule l ≡ false
-no_rule_lem tnil = refl
-no_rule_lem (tcons t l) = rw (takes_none (tcount l))
 
 -- a place and one expression
 swap : (p c e : Bool) → (c && (p && e)) ≡ (p && c && e)
@@ -69,7 +64,7 @@ swap false true e = refl
 swap false false e = refl
 
 rung-is : (w : Wanted) (is : Tree → Bool) → ((t : Tree) → suits w t ≡ is t) → (l : Trees)
-    → arguments_suit (record { count = 2; exactly = true; first = w; others = Expression }) l ≡ is_rung is l
+    → arguments_suit (Some (record { count = Exactly 2; first = w; others = Expression })) l ≡ is_rung is l
 unfolding is_rung
 rung-is w is h tnil = refl
 rung-is w is h (tcons p l) =
@@ -89,50 +84,50 @@ suits_by Point v l = false
 suits_by Variable v l = false
 suits_by Start v l = false
 
-several-is : (l : Trees) → arguments_suit (record { count = 2; exactly = false; first = Expression; others = Expression }) l ≡ (leb 2 (tcount l) && are_expressions l)
+several-is : (l : Trees) → arguments_suit (Some (record { count = AtLeast 2; first = Expression; others = Expression })) l ≡ (leb 2 (tcount l) && are_expressions l)
 unfolding tcount are_expressions
 several-is tnil = refl
 several-is (tcons t l) = rw (takes_least 2 (tcount l) Expression Expression, expressions_are l)
 
-not_is : (l : Trees) → arguments_suit (record { count = 1; exactly = true; first = Expression; others = Expression }) l ≡ (eqb (tcount l) 1 && are_expressions l)
+not_is : (l : Trees) → arguments_suit (Some (record { count = Exactly 1; first = Expression; others = Expression })) l ≡ (eqb (tcount l) 1 && are_expressions l)
 unfolding tcount are_expressions
 not_is tnil = refl
 not_is (tcons t l) = rw (takes_exactly 0 (tcount l) Expression Expression, expressions_are l, eqb-suc-suc (tcount l) 0)
 
-all-is : (l : Trees) → arguments_suit (record { count = 1; exactly = false; first = Program; others = Program }) l ≡ (leb 1 (tcount l) && are_programs l)
+all-is : (l : Trees) → arguments_suit (Some (record { count = AtLeast 1; first = Program; others = Program })) l ≡ (leb 1 (tcount l) && are_programs l)
 unfolding tcount are_programs
 all-is tnil = refl
 all-is (tcons t l) = rw (takes_least 1 (tcount l) Program Program, programs_are l)
 
 pub by_word : (w : Wanted) (v : Word) (l : Trees) → arguments_suit (rule_of w v) l ≡ suits_by w v l
 unfolding rule_of rung_rule contacts_rule is_program_of is_expression_of
-by_word Program bit l = no_rule_lem l
-by_word Program and l = no_rule_lem l
-by_word Program or l = no_rule_lem l
-by_word Program not l = no_rule_lem l
+by_word Program bit l = refl
+by_word Program and l = refl
+by_word Program or l = refl
+by_word Program not l = refl
 by_word Program out l = rung-is Point is_point_tree (λ t. refl) l
 by_word Program set l = rung-is Variable is_variable (λ t. refl) l
 by_word Program all l = all-is l
-by_word Program free l = no_rule_lem l
-by_word Expression bit l = no_rule_lem l
+by_word Program free l = refl
+by_word Expression bit l = refl
 by_word Expression and l = several-is l
 by_word Expression or l = several-is l
 by_word Expression not l = not_is l
-by_word Expression out l = no_rule_lem l
-by_word Expression set l = no_rule_lem l
-by_word Expression all l = no_rule_lem l
-by_word Expression free l = no_rule_lem l
-by_word Point v l = no_rule_lem l
-by_word Variable v l = no_rule_lem l
-by_word Start v l = no_rule_lem l
+by_word Expression out l = refl
+by_word Expression set l = refl
+by_word Expression all l = refl
+by_word Expression free l = refl
+by_word Point v l = refl
+by_word Variable v l = refl
+by_word Start v l = refl
 
 pub by_bit : (w : Wanted) (n : ℕ) (b : Tree) (l : Trees) → (is_program b && arguments_suit (bit_rule w) l) ≡ suits w (app (fun n b) l)
 unfolding is_program is_program_inside is_expression is_point_tree is_variable is_binary head_word is_program_of is_expression_of bit_rule
 by_bit Program n b l = ap (λ (z : Bool). is_program b && z) (start_is l)
-by_bit Expression n b l = rw (no_rule_lem l) (and-false (is_program b))
-by_bit Point n b l = rw (no_rule_lem l) (and-false (is_program b))
-by_bit Variable n b l = rw (no_rule_lem l) (and-false (is_program b))
-by_bit Start n b l = rw (no_rule_lem l) (and-false (is_program b))
+by_bit Expression n b l = and-false (is_program b)
+by_bit Point n b l = and-false (is_program b)
+by_bit Variable n b l = and-false (is_program b)
+by_bit Start n b l = and-false (is_program b)
 
 -- ---- what has no parts
 
@@ -219,9 +214,10 @@ unfoldable pub all_good : List ℕ → Wanted → Trees → Bool
 all_good a w tnil = true
 all_good a w (tcons t l) = good a w t && all_good a w l
 
-abbrev pub arguments_good : List ℕ → Rule → Trees → Bool
-arguments_good a r tnil = false
-arguments_good a r (tcons t l) = takes_count r (suc (tcount l)) && (good a r.first t && all_good a r.others l)
+abbrev pub arguments_good : List ℕ → Option Rule → Trees → Bool
+arguments_good a None l = false
+arguments_good a (Some r) tnil = false
+arguments_good a (Some r) (tcons t l) = takes_count r (suc (tcount l)) && (good a r.first t && all_good a r.others l)
 
 crossed : (a b c d : Bool) → ((a && b) && (c && d)) ≡ ((a && c) && (b && d))
 crossed true true c d = refl
@@ -237,10 +233,11 @@ unfolding all_good all_suit closed_all
 all-good a w tnil = refl
 all-good a w (tcons t l) = ap (λ (z : Bool). good a w t && z) (all-good a w l) ∙ crossed (suits w t) (closed a t) (all_suit w l) (closed_all a l)
 
-pub arguments_good_lem : (a : List ℕ) (r : Rule) (l : Trees) → arguments_good a r l ≡ (arguments_suit r l && closed_all a l)
+pub arguments_good_lem : (a : List ℕ) (r : Option Rule) (l : Trees) → arguments_good a r l ≡ (arguments_suit r l && closed_all a l)
 unfolding closed_all
-arguments_good_lem a r tnil = refl
-arguments_good_lem a r (tcons t l) =
+arguments_good_lem a None l = refl
+arguments_good_lem a (Some r) tnil = refl
+arguments_good_lem a (Some r) (tcons t l) =
     let n = takes_count r (suc (tcount l)) in
     ap (λ (z : Bool). n && (good a r.first t && z)) (all-good a r.others l)
     ∙ ap (λ (z : Bool). n && z) (crossed (suits r.first t) (closed a t) (all_suit r.others l) (closed_all a l))

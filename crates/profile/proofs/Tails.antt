@@ -4,6 +4,7 @@ use mathlib.Core.Bool.{not}
 use mathlib.Core.List.{List}
 use lib.Dec.{eqb}
 use lib.ListN.{get_or, set}
+use Rattle.std.specs.Prelude.{Option, Some, None}
 use Rattle.model.specs.Refusals.{layout, over_limit}
 use Rattle.model.specs.Reading.{Reader}
 use Rattle.requests.specs.Panel.{word_numbered}
@@ -42,10 +43,11 @@ head_by_tail names inside h w (suc (suc zero)) s = tail_next _ (below_tail names
 head_by_tail names inside h w (suc (suc (suc zero))) s = word_tail w s
 head_by_tail names inside h w (suc (suc (suc (suc t)))) s = tail_fault
 
-module _ (part : Wanted → Reader (Unit {0})) (head : Wanted → Reader Rule) (h : (w : Wanted) (s : List ℕ) → Tail s (part w s)) (k : (w : Wanted) (s : List ℕ) → Tail s (head w s)) where
-  arguments_tail : (r : Rule) (n : ℕ) (s : List ℕ) → Tail s (take_arguments part r n s)
+module _ (part : Wanted → Reader (Unit {0})) (head : Wanted → Reader (Option Rule)) (h : (w : Wanted) (s : List ℕ) → Tail s (part w s)) (k : (w : Wanted) (s : List ℕ) → Tail s (head w s)) where
+  arguments_tail : (r : Option Rule) (n : ℕ) (s : List ℕ) → Tail s (take_arguments part r n s)
   unfolding take_arguments
-  arguments_tail r n s =
+  arguments_tail None n s = tail_fault
+  arguments_tail (Some r) n s =
       tail_next _ (tail_need layout (takes_count r n) s) (λ x t. tail_next _ (h r.first t) (λ y u. all_tail (part r.others) (h r.others) (n - 1) u))
 
   application_tail : (w : Wanted) (s : List ℕ) → Tail s (take_application part head w s)

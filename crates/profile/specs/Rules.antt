@@ -1,53 +1,56 @@
 -- T-01: the rules of the profile as the code has them, by what a place asks for.
-use Rattle.std.specs.Prelude.{ℕ, Bool, true, false, ◌&&◌, eqb, leb}
+use Rattle.std.specs.Prelude.{ℕ, Bool, true, false, ◌&&◌, eqb, leb, Option, Some, None}
 use Rattle.model.specs.Choice.{when◌then◌else◌}
 use Rattle.model.specs.Limits.{last_point}
 use Rattle.requests.specs.Panel.{Word, bit, and, or, not, out, set, all, free}
 use Rattle.profile.specs.declared.rules.Wanted.{Wanted}
 use Rattle.profile.specs.declared.rules.Wanted.TheVariants.{Program, Expression, Point, Variable, Start}
+use Rattle.profile.specs.declared.rules.Count.{Count}
+use Rattle.profile.specs.declared.rules.Count.TheVariants.{Exactly, AtLeast}
 use Rattle.profile.specs.declared.rules.Rule.{Rule}
 
-abbrev pub no_rule : Rule
-no_rule = record { count = 0; exactly = true; first = Start; others = Start }
+unfoldable pub rung_rule : Word → Option Rule
+rung_rule bit = None
+rung_rule and = None
+rung_rule or = None
+rung_rule not = None
+rung_rule out = Some (record { count = Exactly 2; first = Point; others = Expression })
+rung_rule set = Some (record { count = Exactly 2; first = Variable; others = Expression })
+rung_rule all = Some (record { count = AtLeast 1; first = Program; others = Program })
+rung_rule free = None
 
-unfoldable pub rung_rule : Word → Rule
-rung_rule bit = no_rule
-rung_rule and = no_rule
-rung_rule or = no_rule
-rung_rule not = no_rule
-rung_rule out = record { count = 2; exactly = true; first = Point; others = Expression }
-rung_rule set = record { count = 2; exactly = true; first = Variable; others = Expression }
-rung_rule all = record { count = 1; exactly = false; first = Program; others = Program }
-rung_rule free = no_rule
+unfoldable pub contacts_rule : Word → Option Rule
+contacts_rule bit = None
+contacts_rule and = Some (record { count = AtLeast 2; first = Expression; others = Expression })
+contacts_rule or = Some (record { count = AtLeast 2; first = Expression; others = Expression })
+contacts_rule not = Some (record { count = Exactly 1; first = Expression; others = Expression })
+contacts_rule out = None
+contacts_rule set = None
+contacts_rule all = None
+contacts_rule free = None
 
-unfoldable pub contacts_rule : Word → Rule
-contacts_rule bit = no_rule
-contacts_rule and = record { count = 2; exactly = false; first = Expression; others = Expression }
-contacts_rule or = record { count = 2; exactly = false; first = Expression; others = Expression }
-contacts_rule not = record { count = 1; exactly = true; first = Expression; others = Expression }
-contacts_rule out = no_rule
-contacts_rule set = no_rule
-contacts_rule all = no_rule
-contacts_rule free = no_rule
-
-unfoldable pub rule_of : Wanted → Word → Rule
+unfoldable pub rule_of : Wanted → Word → Option Rule
 unfolding rung_rule contacts_rule
 rule_of Program w = rung_rule w
 rule_of Expression w = contacts_rule w
-rule_of Point w = no_rule
-rule_of Variable w = no_rule
-rule_of Start w = no_rule
+rule_of Point w = None
+rule_of Variable w = None
+rule_of Start w = None
 
-unfoldable pub bit_rule : Wanted → Rule
-bit_rule Program = record { count = 1; exactly = true; first = Start; others = Start }
-bit_rule Expression = no_rule
-bit_rule Point = no_rule
-bit_rule Variable = no_rule
-bit_rule Start = no_rule
+unfoldable pub bit_rule : Wanted → Option Rule
+bit_rule Program = Some (record { count = Exactly 1; first = Start; others = Start })
+bit_rule Expression = None
+bit_rule Point = None
+bit_rule Variable = None
+bit_rule Start = None
+
+abbrev pub counted : Count → ℕ → Bool
+counted (Exactly k) n = eqb n k
+counted (AtLeast k) n = leb k n
 
 -- every rule asks for a first argument
 unfoldable pub takes_count : Rule → ℕ → Bool
-takes_count r n = when eqb n 0 then false else when r.exactly then eqb n r.count else leb r.count n
+takes_count r n = when eqb n 0 then false else counted r.count n
 
 unfoldable pub takes_variable : Wanted → Bool
 takes_variable Program = false

@@ -1,7 +1,7 @@
 -- T-01: a tree of an image read as what a place of a program asks for. It is read by the definition's rules, and any fault here means that it
 -- is no program or not owned: the general judgement then says which. `names` is how many names the head declares, and `around` holds for each
 -- whether a function of that name is around the place: not 0.
-use Rattle.std.specs.Prelude.{ℕ, zero, suc, ◌-◌, ◌≡◌, Bool, true, false, not, List, [], eqb, get_or, set}
+use Rattle.std.specs.Prelude.{ℕ, zero, suc, ◌-◌, ◌≡◌, Bool, true, false, not, List, [], eqb, get_or, set, Option, Some, None, Result}
 use Rattle.model.specs.Limits.{most_nesting, last_rung_word}
 use Rattle.model.specs.Refusals.{layout, over_limit}
 use Rattle.model.specs.Trees.{Tree}
@@ -9,21 +9,16 @@ use Rattle.model.specs.Reading as m
 use Rattle.model.specs.Reading.{Reader, ◌>>=◌, ◌>>◌, give, fail, need, num, num_up_to, num_below, got, read_tree}
 use Rattle.model.specs.Jobs.{closed}
 use Rattle.requests.specs.Panel.{word_numbered, is_program}
-use Rattle.numbers.specs.declared.Place.{Place}
-use Rattle.numbers.specs.declared.Place.TheVariants as place
+use Rattle.refusals.specs.declared.Refusal.{Refusal}
+use Rattle.numbers.specs.declared.Cursor.{Cursor}
 use Rattle.numbers.specs.Answers.{answer_at, placed}
 use Rattle.profile.specs.declared.rules.Wanted.{Wanted}
 use Rattle.profile.specs.declared.rules.Wanted.TheVariants.{Program}
 use Rattle.profile.specs.declared.rules.Rule.{Rule}
-use Rattle.profile.specs.declared.RuleRead.{RuleRead}
-use Rattle.profile.specs.declared.RuleRead.TheVariants.{Read, Fault}
 use Rattle.profile.specs.Rules.{rule_of, bit_rule, takes_count, takes_variable, takes_atom}
 
-abbrev pub taken_at : ℕ → m.Read (Unit {0}) → Place
-taken_at end g = answer_at placed place.Fault end g
-
-abbrev pub rule_at : ℕ → m.Read Rule → RuleRead
-rule_at end g = answer_at Read Fault end g
+abbrev pub taken_at : ℕ → m.Read (Unit {0}) → Result Cursor Refusal
+taken_at end g = answer_at placed end g
 
 unfoldable pub take_variable : ℕ → List ℕ → Wanted → Reader (Unit {0})
 unfolding num_below
@@ -39,7 +34,7 @@ take_atom w = do
   x ← num
   need layout (takes_atom w k x)
 
-unfoldable pub take_word : Wanted → Reader Rule
+unfoldable pub take_word : Wanted → Reader (Option Rule)
 unfolding num num_up_to last_rung_word
 take_word w = do
   k ← num
@@ -56,21 +51,22 @@ take_all (suc n) part = do
   part
   take_all n part
 
-unfoldable pub take_arguments : (Wanted → Reader (Unit {0})) → Rule → ℕ → Reader (Unit {0})
+unfoldable pub take_arguments : (Wanted → Reader (Unit {0})) → Option Rule → ℕ → Reader (Unit {0})
 unfolding take_all
-take_arguments part r n = do
+take_arguments part None n = fail layout
+take_arguments part (Some r) n = do
   need layout (takes_count r n)
   part r.first
   take_all (n - 1) (part r.others)
 
-unfoldable pub bit_with : ℕ → (ℕ → Reader (Unit {0})) → Wanted → Reader Rule
+unfoldable pub bit_with : ℕ → (ℕ → Reader (Unit {0})) → Wanted → Reader (Option Rule)
 unfolding num_below
 bit_with names inside w = do
   n ← num_below names
   inside n
   give (bit_rule w)
 
-unfoldable pub head_by : ℕ → (ℕ → Reader (Unit {0})) → Wanted → ℕ → Reader Rule
+unfoldable pub head_by : ℕ → (ℕ → Reader (Unit {0})) → Wanted → ℕ → Reader (Option Rule)
 unfolding bit_with take_word
 head_by names inside w zero = fail layout
 head_by names inside w (suc zero) = fail layout
@@ -78,7 +74,7 @@ head_by names inside w (suc (suc zero)) = bit_with names inside w
 head_by names inside w (suc (suc (suc zero))) = take_word w
 head_by names inside w (suc (suc (suc (suc t)))) = fail layout
 
-unfoldable pub take_application : (Wanted → Reader (Unit {0})) → (Wanted → Reader Rule) → Wanted → Reader (Unit {0})
+unfoldable pub take_application : (Wanted → Reader (Unit {0})) → (Wanted → Reader (Option Rule)) → Wanted → Reader (Unit {0})
 unfolding num take_arguments
 take_application part head w = do
   n ← num
@@ -87,7 +83,7 @@ take_application part head w = do
   take_arguments part r (n - 1)
 
 -- what follows the tag
-unfoldable pub take_body : ℕ → List ℕ → (Wanted → Reader (Unit {0})) → (Wanted → Reader Rule) → Wanted → ℕ → Reader (Unit {0})
+unfoldable pub take_body : ℕ → List ℕ → (Wanted → Reader (Unit {0})) → (Wanted → Reader (Option Rule)) → Wanted → ℕ → Reader (Unit {0})
 unfolding take_variable take_application take_atom
 take_body names around part head w zero = take_variable names around w
 take_body names around part head w (suc zero) = take_application part head w
@@ -105,14 +101,14 @@ unfoldable mutual
     t ← num
     take_body names around (λ v. take_tree names l around v) (λ v. take_head names l around v) w t
 
-  pub take_head : ℕ → ℕ → List ℕ → Wanted → Reader Rule
+  pub take_head : ℕ → ℕ → List ℕ → Wanted → Reader (Option Rule)
   take_head names zero around w = fail layout
   take_head names (suc l) around w = do
     t ← num
     head_by names (λ n. take_tree names l (set around n 1) Program) w t
 
 -- a function, whose body has l levels
-unfoldable pub take_bit : ℕ → ℕ → List ℕ → Wanted → Reader Rule
+unfoldable pub take_bit : ℕ → ℕ → List ℕ → Wanted → Reader (Option Rule)
 unfolding bit_with take_tree
 take_bit names l around w = bit_with names (λ n. take_tree names l (set around n 1) Program) w
 

@@ -4,81 +4,65 @@
 
 pub mod rules;
 
-ghost use Rattle.std.specs.Prelude.{◌≡◌, ◌+◌, ◌-◌, ◌≤◌, length};
+ghost use Rattle.std.specs.Prelude.{◌≡◌, ◌+◌, ◌-◌, ◌≤◌, length, Some};
 ghost use Rattle.numbers.specs.Limits.{most_image};
+ghost use Rattle.numbers.specs.Answers.{read_at};
 ghost use Rattle.head.specs.Fronts.{most_names};
-ghost use Rattle.profile.specs.Taking.{taken_at, rule_at, take_variable, take_atom, take_word, take_all, take_arguments, take_bit, take_head, take_application, take_body, take_tree, Tells};
+ghost use Rattle.profile.specs.Taking.{taken_at, take_variable, take_atom, take_word, take_all, take_arguments, take_bit, take_head, take_application, take_body, take_tree, Tells};
 
 use crate::rules::{Rule, Wanted};
-use numbers::{Cursor, Number, Place};
+use numbers::{Cursor, Read};
 use refusals::Refusal;
 use scopes::Name;
-
-#[derive(Clone, Copy)]
-pub enum RuleRead {
-    Read(Rule, Cursor),
-    Fault(Refusal),
-}
+use std::mem;
 
 // In `around`, a name of a function around the place is not 0.
-fn take_variable(c: Cursor, s: &[u8], around: &[u8], names: u32, wanted: Wanted) -> Place
+fn take_variable(
+    c: Cursor,
+    s: &[u8],
+    around: &[u8],
+    names: u32,
+    wanted: Wanted,
+) -> Result<Cursor, Refusal>
     requires { (c.at + length s.now ≤ most_image) × (names ≤ length around.now) }
     ensures { result ≡ taken_at (c.at + length s.now) (take_variable names around.now wanted s.now) }
 {
-    match c.number_below(s, names) {
-        Number::Read(n, past) => {
-            let i = n as usize;
-            if around[i] == 0 {
-                return Place::Fault(Refusal::Layout);
-            }
-            if rules::takes_variable(wanted) {
-                return Place::At(past);
-            }
-            Place::Fault(Refusal::Layout)
-        }
-        Number::Fault(f) => Place::Fault(f),
+    let (n, past) = c.number_below(s, names)?;
+    if around[n as usize] != 0 && wanted.takes_variable() {
+        Ok(past)
+    } else {
+        Err(Refusal::Layout)
     }
 }
 
-fn take_atom(c: Cursor, s: &[u8], wanted: Wanted) -> Place
+fn take_atom(c: Cursor, s: &[u8], wanted: Wanted) -> Result<Cursor, Refusal>
     requires { c.at + length s.now ≤ most_image }
     ensures { result ≡ taken_at (c.at + length s.now) (take_atom wanted s.now) }
 {
-    match c.number(s) {
-        Number::Read(kind, past) => match past.number(c.after(s, past)) {
-            Number::Read(content, end) => {
-                if rules::takes_atom(wanted, kind, content) {
-                    return Place::At(end);
-                }
-                Place::Fault(Refusal::Layout)
-            }
-            Number::Fault(f) => Place::Fault(f),
-        },
-        Number::Fault(f) => Place::Fault(f),
+    let (kind, past) = c.number(s)?;
+    let (content, end) = past.number(c.after(s, past))?;
+    if wanted.takes_atom(kind, content) {
+        Ok(end)
+    } else {
+        Err(Refusal::Layout)
     }
 }
 
 // A rung word at the head of an application, where `wanted` is what the application is to be.
-fn take_word(c: Cursor, s: &[u8], wanted: Wanted) -> RuleRead
+fn take_word(c: Cursor, s: &[u8], wanted: Wanted) -> Read<Option<Rule>>
     requires { c.at + length s.now ≤ most_image }
-    ensures { result ≡ rule_at (c.at + length s.now) (take_word wanted s.now) }
+    ensures { result ≡ read_at (c.at + length s.now) (take_word wanted s.now) }
 {
-    match c.number(s) {
-        Number::Read(kind, past) => {
-            if kind != rules::RUNG {
-                return RuleRead::Fault(Refusal::Layout);
-            }
-            match past.number_up_to(
-                c.after(s, past),
-                Refusal::OverLimit,
-                roots::objects::LAST_RUNG_WORD,
-            ) {
-                Number::Read(word, end) => RuleRead::Read(rules::of_word(wanted, word), end),
-                Number::Fault(f) => RuleRead::Fault(f),
-            }
-        }
-        Number::Fault(f) => RuleRead::Fault(f),
+    let (kind, past) = c.number(s)?;
+    if kind != rules::RUNG {
+        return Err(Refusal::Layout);
     }
+    let (word, end) = past.number_up_to(
+        c.after(s, past),
+        Refusal::OverLimit,
+        roots::objects::LAST_RUNG_WORD,
+    )?;
+    Ok((Rule::of_word(wanted, word), end))
 }
 
 // The tree at a cursor is what is wanted there, where `s` is the image from there on and `levels` levels are left.
@@ -90,28 +74,24 @@ fn take_tree(
     names: u32,
     levels: u32,
     wanted: Wanted,
-) -> Place
+) -> Result<Cursor, Refusal>
     requires { (c.at + length s.now ≤ most_image) × (names ≤ length around.old) }
     ensures value { result ≡ taken_at (c.at + length s.now) (take_tree names levels around.old wanted s.now) }
     ensures around_unchanged { around.new ≡ around.old }
 {
     if levels == 0 {
-        return Place::Fault(Refusal::Layout);
+        return Err(Refusal::Layout);
     }
-    match c.number(s) {
-        Number::Read(tag, past) => {
-            take_body(
-                past,
-                c.after(s, past),
-                around,
-                names,
-                levels - 1,
-                wanted,
-                tag,
-            )
-        }
-        Number::Fault(f) => Place::Fault(f),
-    }
+    let (tag, past) = c.number(s)?;
+    take_body(
+        past,
+        c.after(s, past),
+        around,
+        names,
+        levels - 1,
+        wanted,
+        tag,
+    )
 }
 
 // What follows the tag, where `levels` levels are left for the parts.
@@ -124,21 +104,17 @@ fn take_body(
     levels: u32,
     wanted: Wanted,
     tag: u32,
-) -> Place
+) -> Result<Cursor, Refusal>
     requires { (c.at + length s.now ≤ most_image) × (names ≤ length around.old) }
     ensures value { result ≡ taken_at (c.at + length s.now) (take_body names around.old (take_tree names levels around.old) (take_head names levels around.old) wanted tag s.now) }
     ensures around_unchanged { around.new ≡ around.old }
 {
-    if tag == 0 {
-        return take_variable(c, s, around, names, wanted);
+    match tag {
+        0 => take_variable(c, s, around, names, wanted),
+        1 => take_application(c, s, around, names, levels, wanted),
+        3 => take_atom(c, s, wanted),
+        _ => Err(Refusal::Layout),
     }
-    if tag == 1 {
-        return take_application(c, s, around, names, levels, wanted);
-    }
-    if tag == 3 {
-        return take_atom(c, s, wanted);
-    }
-    Place::Fault(Refusal::Layout)
 }
 
 #[cycle(taking)]
@@ -149,32 +125,28 @@ fn take_application(
     names: u32,
     levels: u32,
     wanted: Wanted,
-) -> Place
+) -> Result<Cursor, Refusal>
     requires { (c.at + length s.now ≤ most_image) × (names ≤ length around.old) }
     ensures value { result ≡ taken_at (c.at + length s.now) (take_application (take_tree names levels around.old) (take_head names levels around.old) wanted s.now) }
     ensures around_unchanged { around.new ≡ around.old }
 {
-    match c.number(s) {
-        Number::Read(count, past) => {
-            if count == 0 {
-                return Place::Fault(Refusal::Layout);
-            }
-            let rest = c.after(s, past);
-            match take_head(past, rest, around, names, levels, wanted) {
-                RuleRead::Read(rule, behind) => take_arguments(
-                    behind,
-                    past.after(rest, behind),
-                    around,
-                    names,
-                    levels,
-                    rule,
-                    count - 1,
-                ),
-                RuleRead::Fault(f) => Place::Fault(f),
-            }
-        }
-        Number::Fault(f) => Place::Fault(f),
+    let (count, past) = c.number(s)?;
+    if count == 0 {
+        return Err(Refusal::Layout);
     }
+    let rest = c.after(s, past);
+    let (Some(rule), behind) = take_head(past, rest, around, names, levels, wanted)? else {
+        return Err(Refusal::Layout);
+    };
+    take_arguments(
+        behind,
+        past.after(rest, behind),
+        around,
+        names,
+        levels,
+        rule,
+        count - 1,
+    )
 }
 
 // The head of an application, where `levels` levels are left for it: a rung word, or the function that makes a bit.
@@ -186,25 +158,20 @@ fn take_head(
     names: u32,
     levels: u32,
     wanted: Wanted,
-) -> RuleRead
+) -> Read<Option<Rule>>
     requires { (c.at + length s.now ≤ most_image) × (names ≤ length around.old) }
-    ensures value { result ≡ rule_at (c.at + length s.now) (take_head names levels around.old wanted s.now) }
+    ensures value { result ≡ read_at (c.at + length s.now) (take_head names levels around.old wanted s.now) }
     ensures around_unchanged { around.new ≡ around.old }
 {
     if levels == 0 {
-        return RuleRead::Fault(Refusal::Layout);
+        return Err(Refusal::Layout);
     }
-    match c.number(s) {
-        Number::Read(tag, past) => {
-            if tag == 2 {
-                return take_bit(past, c.after(s, past), around, names, levels - 1, wanted);
-            }
-            if tag == 3 {
-                return take_word(past, c.after(s, past), wanted);
-            }
-            RuleRead::Fault(Refusal::Layout)
-        }
-        Number::Fault(f) => RuleRead::Fault(f),
+    let (tag, past) = c.number(s)?;
+    let rest = c.after(s, past);
+    match tag {
+        2 => take_bit(past, rest, around, names, levels - 1, wanted),
+        3 => take_word(past, rest, wanted),
+        _ => Err(Refusal::Layout),
     }
 }
 
@@ -217,32 +184,24 @@ fn take_bit(
     names: u32,
     levels: u32,
     wanted: Wanted,
-) -> RuleRead
+) -> Read<Option<Rule>>
     requires { (c.at + length s.now ≤ most_image) × (names ≤ length around.old) }
-    ensures value { result ≡ rule_at (c.at + length s.now) (take_bit names levels around.old wanted s.now) }
+    ensures value { result ≡ read_at (c.at + length s.now) (take_bit names levels around.old wanted s.now) }
     ensures around_unchanged { around.new ≡ around.old }
 {
-    match c.number_below(s, names) {
-        Number::Read(n, past) => {
-            let i = n as usize;
-            let before = around[i];
-            around[i] = 1;
-            let body = take_tree(
-                past,
-                c.after(s, past),
-                around,
-                names,
-                levels,
-                Wanted::Program,
-            );
-            around[i] = before;
-            match body {
-                Place::At(end) => RuleRead::Read(rules::of_bit(wanted), end),
-                Place::Fault(f) => RuleRead::Fault(f),
-            }
-        }
-        Number::Fault(f) => RuleRead::Fault(f),
-    }
+    let (n, past) = c.number_below(s, names)?;
+    let i = n as usize;
+    let before = mem::replace(&mut around[i], 1);
+    let body = take_tree(
+        past,
+        c.after(s, past),
+        around,
+        names,
+        levels,
+        Wanted::Program,
+    );
+    around[i] = before;
+    Ok((Rule::of_bit(wanted), body?))
 }
 
 // So many arguments, as the rule asks for them.
@@ -255,28 +214,24 @@ fn take_arguments(
     levels: u32,
     rule: Rule,
     count: u32,
-) -> Place
+) -> Result<Cursor, Refusal>
     requires { (c.at + length s.now ≤ most_image) × (names ≤ length around.old) }
-    ensures value { result ≡ taken_at (c.at + length s.now) (take_arguments (take_tree names levels around.old) rule count s.now) }
+    ensures value { result ≡ taken_at (c.at + length s.now) (take_arguments (take_tree names levels around.old) (Some rule) count s.now) }
     ensures around_unchanged { around.new ≡ around.old }
 {
-    let first = rule.first;
-    let others = rule.others;
-    if rules::takes_count(rule, count) {
-        return match take_tree(c, s, around, names, levels, first) {
-            Place::At(past) => take_all(
-                past,
-                c.after(s, past),
-                around,
-                names,
-                levels,
-                others,
-                count - 1,
-            ),
-            Place::Fault(f) => Place::Fault(f),
-        };
+    if !rule.takes_count(count) {
+        return Err(Refusal::Layout);
     }
-    Place::Fault(Refusal::Layout)
+    let past = take_tree(c, s, around, names, levels, rule.first)?;
+    take_all(
+        past,
+        c.after(s, past),
+        around,
+        names,
+        levels,
+        rule.others,
+        count - 1,
+    )
 }
 
 // So many trees, each of which is what is wanted.
@@ -289,23 +244,16 @@ fn take_all(
     levels: u32,
     wanted: Wanted,
     count: u32,
-) -> Place
+) -> Result<Cursor, Refusal>
     requires { (c.at + length s.now ≤ most_image) × (names ≤ length around.old) }
     ensures value { result ≡ taken_at (c.at + length s.now) (take_all count (take_tree names levels around.old wanted) s.now) }
     ensures around_unchanged { around.new ≡ around.old }
 {
     let mut here = c;
-    let mut left = count;
-    while 0 < left {
-        match take_tree(here, c.after(s, here), around, names, levels, wanted) {
-            Place::At(past) => {
-                here = past;
-                left -= 1;
-            }
-            Place::Fault(f) => return Place::Fault(f),
-        }
+    for _ in 0..count {
+        here = take_tree(here, c.after(s, here), around, names, levels, wanted)?;
     }
-    Place::At(here)
+    Ok(here)
 }
 
 // Whether what is behind the head is a program, every bit of which is in scope, and the image ends there; `s` is the image from there on.
@@ -314,18 +262,15 @@ pub fn is_program(c: Cursor, s: &[u8], names: u32) -> bool
     ensures { Tells names s.now result }
 {
     let mut around = [0u8; Name::MOST as usize];
-    match take_tree(
+    let Ok(past) = take_tree(
         c,
         s,
         &mut around,
         names,
         Cursor::MOST_NESTING,
         Wanted::Program,
-    ) {
-        Place::At(past) => {
-            let rest = c.after(s, past);
-            rest.len() == 0
-        }
-        Place::Fault(_) => false,
-    }
+    ) else {
+        return false;
+    };
+    c.after(s, past).is_empty()
 }

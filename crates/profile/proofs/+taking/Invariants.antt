@@ -1,15 +1,12 @@
-use Rattle.profile.proofs.Taking.{All}
 use Prim.Native.Nat.{◌+◌, ◌*◌}
+use Rattle.profile.proofs.Taking.{All}
 use Rattle.profile.proofs.+taking.Given as goal
 
 abbrev pub decreases-take_all : goal.decreases-take_all
 decreases-take_all l = 8 * l.levels + 2
 
-abbrev pub invariant-take_all-loop-left : goal.invariant-take_all-loop-left
-invariant-take_all-loop-left l = All l.c.at l.names l.levels l.wanted l.s l.initial.around l.count l.around l.here.at l.left
-
-abbrev pub decreases-take_all-loop-left : goal.decreases-take_all-loop-left
-decreases-take_all-loop-left l = l.left
+abbrev pub invariant-take_all-loop : goal.invariant-take_all-loop
+invariant-take_all-loop l = All l.c.at l.names l.levels l.wanted l.s l.initial.around l.count l.around l.here.at l.counter
 
 abbrev pub decreases-take_application : goal.decreases-take_application
 decreases-take_application l = 8 * l.levels + 5

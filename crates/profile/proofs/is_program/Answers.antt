@@ -1,19 +1,13 @@
-use Rattle.numbers.proofs.Answering.{answering}
-use Rattle.profile.proofs.Root.{root_laws}
 use Rattle.std.proofs.Common.{rules}
 use Rattle.profile.proofs.is_program.Goals as goal
+use Rattle.roots.proofs.Trees.{none_is}
+use Rattle.profile.proofs.Root.{root_laws, root_told}
 
-pub slice_bounds-take_tree-end : goal.slice_bounds-take_tree-end
-slice_bounds-take_tree-end c = search (root_laws, answering, rules)
+pub returns-in_default : goal.returns-in_default
+returns-in_default c = search (root_laws, rules, c.in_default.is)
 
-pub take_tree-requires : goal.take_tree-requires
-take_tree-requires c = search (root_laws, answering, rules)
+pub after-requires : goal.after-requires
+after-requires c = search (root_laws, rules, c.in-Ok.is)
 
-pub after-rest-requires : goal.after-rest-requires
-after-rest-requires c = search (root_laws, answering, rules)
-
-pub returns-in-At : goal.returns-in-At
-returns-in-At c = search (root_laws, answering, rules)
-
-pub returns-in-Fault : goal.returns-in-Fault
-returns-in-Fault c = search (root_laws, answering, rules)
+pub returns : goal.returns
+returns c = rw c.is_empty.ensures (root_told _ _ _ _ c.requires.1 none_is c.take_tree.ensures.value c.in-Ok.is c.after.ensures)

@@ -1,28 +1,17 @@
-use Rattle.numbers.proofs.Answering.{answering}
-use Rattle.profile.proofs.Taking.{leaf_laws}
 use Rattle.std.proofs.Common.{rules}
+use Rattle.refusals.proofs.Handing.{handed_on}
+use Rattle.roots.proofs.Trees.{name-inside}
 use Rattle.profile.proofs.take_variable.Goals as goal
+use Rattle.profile.proofs.Taking.{variable-stops, variable-unowned, variable-taken, variable-refused}
 
-pub number_below-requires : goal.number_below-requires
-number_below-requires c = search (leaf_laws, answering, rules)
+pub returns-in_err-n : goal.returns-in_err-n
+returns-in_err-n c = handed_on c.from_residual.ensures.1 (variable-stops _ _ _ _ _ c.number_below.ensures c.in_err-n.was)
 
-pub overflow_cast-i : goal.overflow_cast-i
-overflow_cast-i c = search (leaf_laws, answering, rules)
-
-pub bounds-around-i : goal.bounds-around-i
-bounds-around-i c = search (leaf_laws, answering, rules)
-
-pub returns-then-around-i-eq0 : goal.returns-then-around-i-eq0
-returns-then-around-i-eq0 c = search (leaf_laws, answering, rules)
-
-pub takes_variable-requires : goal.takes_variable-requires
-takes_variable-requires c = search (leaf_laws, answering, rules)
+pub bounds-around-n : goal.bounds-around-n
+bounds-around-n c = search (name-inside, rules, c.in_ok-n.was)
 
 pub returns-then-takes_variable : goal.returns-then-takes_variable
-returns-then-takes_variable c = search (leaf_laws, answering, rules)
+returns-then-takes_variable c = search (variable-taken, rules, c.in_ok-n.was)
 
-pub returns-else-takes_variable : goal.returns-else-takes_variable
-returns-else-takes_variable c = search (leaf_laws, answering, rules)
-
-pub returns-in-Fault : goal.returns-in-Fault
-returns-in-Fault c = search (leaf_laws, answering, rules)
+pub returns-else-around-n-ne0 : goal.returns-else-around-n-ne0
+returns-else-around-n-ne0 c = search (variable-unowned, variable-refused, rules, c.in_ok-n.was)

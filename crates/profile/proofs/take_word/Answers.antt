@@ -1,28 +1,20 @@
-use Rattle.numbers.proofs.Answering.{answering}
-use Rattle.profile.proofs.Taking.{leaf_laws}
 use Rattle.std.proofs.Common.{rules}
+use Rattle.refusals.proofs.Handing.{handed_on}
+use Rattle.numbers.proofs.Answering.{answering}
 use Rattle.profile.proofs.take_word.Goals as goal
+use Rattle.profile.proofs.Taking.{word-stops, word-refused, word_content_stops, word-taken}
 
-pub number-requires : goal.number-requires
-number-requires c = search (leaf_laws, answering, rules)
+pub returns-in_err-kind : goal.returns-in_err-kind
+returns-in_err-kind c = handed_on c.from_residual.ensures.1 (word-stops _ _ _ c.number.ensures c.in_err-kind.was)
 
 pub returns-then-kind-ne-RUNG : goal.returns-then-kind-ne-RUNG
-returns-then-kind-ne-RUNG c = search (leaf_laws, answering, rules)
+returns-then-kind-ne-RUNG c = word-refused _ _ _ c.number.ensures c.in_ok-kind.was c.if-kind-ne-RUNG.true
 
 pub after-requires : goal.after-requires
-after-requires c = search (leaf_laws, answering, rules)
+after-requires c = search (answering, rules, c.in_ok-kind.was)
 
-pub number_up_to-requires : goal.number_up_to-requires
-number_up_to-requires c = search (leaf_laws, answering, rules)
+pub returns-in_err-word : goal.returns-in_err-word
+returns-in_err-word c = handed_on c.from_residual-in_err-word.ensures.1 (word_content_stops _ _ _ c.number.ensures c.in_ok-kind.was c.if-kind-ne-RUNG.false c.after.ensures c.number_up_to.ensures c.in_err-word.was)
 
-pub of_word-requires : goal.of_word-requires
-of_word-requires c = search (leaf_laws, answering, rules)
-
-pub returns-in-Read-number_up_to : goal.returns-in-Read-number_up_to
-returns-in-Read-number_up_to c = search (leaf_laws, answering, rules)
-
-pub returns-in-Fault-number_up_to : goal.returns-in-Fault-number_up_to
-returns-in-Fault-number_up_to c = search (leaf_laws, answering, rules)
-
-pub returns-in-Fault : goal.returns-in-Fault
-returns-in-Fault c = search (leaf_laws, answering, rules)
+pub returns : goal.returns
+returns c = word-taken _ _ _ c.number.ensures c.in_ok-kind.was c.if-kind-ne-RUNG.false c.after.ensures c.number_up_to.ensures c.in_ok-word.was c.of_word.ensures
