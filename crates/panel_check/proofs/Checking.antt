@@ -6,40 +6,28 @@ use mathlib.Core.List.{List, []}
 use native.Mathlib.Omega.{arith}
 use lib.Dec.{leb, ltb}
 use lib.ListN.{length, take, drop, length-drop}
-use borrow.Author.Tests.{le-leb, lt-leb, ltb-true, ltb-false, not-true, not-false, lt-ltb, le-ltb}
+use Rattle.std.specs.Prelude.{Result, Ok, Err}
+use borrow.Author.Tests.{le-leb, lt-leb, ltb-true, ltb-false, not-true, not-false}
 use Rattle.model.specs.Choice.{when◌then◌else◌}
 use Rattle.model.specs.Limits.{most_image, most_nesting}
-use Rattle.model.specs.Refusals.{Refusal, unowned, over_limit, code_of}
+use Rattle.model.specs.Refusals.{Refusal, unowned, over_limit}
 use Rattle.model.specs.Trees.{Tree}
 use Rattle.model.specs.Reading.{Read, Image, got, fault, next, need, read_tree, read_tree_image, read_image}
 use Rattle.model.specs.Jobs.{closed}
-use Rattle.requests.specs.Panel.{is_program, driven, bits_of, all_differ, most_bits, refused, listed, base, outside, driven_twice, too_many_bits, panel_code, profile, of_image, panel_of}
+use Rattle.requests.specs.Panel.{is_program, driven, bits_of, all_differ, most_bits, refused, listed, base, outside, driven_twice, too_many_bits, profile, of_image, panel_of}
 use Rattle.codec_laws.specs.WellFormed.{Bytes}
 use Rattle.codec_laws.proofs.Sequence.{bytes_drop}
 use Rattle.codec_laws.proofs.NumberTrip.{fault≢got, got-value}
 use Rattle.refusals.specs.declared.Refusal as declared
-use Rattle.refusals.specs.Refusing.{refusal_of}
-use Rattle.numbers.specs.declared.Cursor.{Cursor}
-use Rattle.numbers.specs.declared.Place.{Place}
-use Rattle.numbers.specs.declared.Place.TheVariants as place
 use Rattle.image.specs.declared.Judgement.{Judgement}
-use Rattle.image.specs.declared.Judged.{Judged}
-use Rattle.image.specs.declared.Judged.TheVariants as judged
-use Rattle.image.specs.Judging.{read_owned, tree_kind, Good, JudgesTree}
+use Rattle.image.specs.Judging.{read_owned, JudgesTree}
 use Rattle.bits.specs.declared.Gathered.{Gathered}
 use Rattle.bits.specs.Meeting.{Met, none, along, met_in, Holds, room}
 use Rattle.bits.proofs.Programs.{program-met}
-use Rattle.panel_check.specs.declared.Checked.{Checked}
-use Rattle.panel_check.specs.declared.Checked.TheVariants as checked
+use Rattle.panel_check.specs.declared.Program.{Program}
 use Rattle.panel_check.specs.declared.refusal.PanelRefusal.{PanelRefusal}
 use Rattle.panel_check.specs.declared.refusal.PanelRefusal.TheVariants.{Base, Outside, DrivenTwice, TooManyBits}
-use Rattle.panel_check.specs.Refusing.{panel_refusal_of}
-use Rattle.panel_check.specs.Checking.{RootGood, ProgramAt, NoProgram, Finds, Refuses, Passes, Checks, within_of, Within}
-
-pub base-code : {k : ℕ} {q : PanelRefusal} {f : declared.Refusal} → q ≡ Base f → k ≡ code_of (refusal_of f) → k ≡ panel_code (panel_refusal_of q)
-base-code e h = rw e h
-
-pub ruleset code_laws = (base-code)
+use Rattle.panel_check.specs.Checking.{RootGood, ProgramAt, NoProgram, Refuses, Passes, Checks, within_of, Within}
 
 -- ---- the profile of a tree that is owned, by its tests
 
@@ -83,7 +71,7 @@ panel-fault (got i s) {c} e = go (closed [] i.root) refl e
     go false q e = let z : unowned ≡ c = cc in rw (q, z)
 panel-fault (fault d) {c} e = let z : d ≡ c = cc in ap (λ (x : Refusal). refused (base x)) z
 
-pub judged-fault : {image : List ℕ} {r : Judged} {f : declared.Refusal} → JudgesTree image r → r ≡ judged.Fault f → Refuses image (Base f)
+pub judged-fault : {image : List ℕ} {r : Result Judgement declared.Refusal} {f : declared.Refusal} → JudgesTree image r → r ≡ Err f → Refuses image (Base f)
 unfolding panel_of
 judged-fault {image} {r} {f} h e = panel-fault (read_image read_tree_image image) (sym (owned-image image) ∙ (h.judges []).is ∙ rw e refl)
 
@@ -102,21 +90,12 @@ read_owned_lem (got j s) {i} e = go (closed [] j.root) refl e
 read_owned_lem (fault c) {i} e = absurd (fault≢got c i [] e)
 
 -- an image without fault that is no program
-pub judged-outside : {image : List ℕ} {r : Judged} {j : Judgement} → NoProgram image → JudgesTree image r → r ≡ judged.Good j → Refuses image Outside
+pub judged-outside : {image : List ℕ} {r : Result Judgement declared.Refusal} {j : Judgement} → NoProgram image → JudgesTree image r → r ≡ Ok j → Refuses image Outside
 unfolding panel_of of_image
 judged-outside {image} {r} {j} n h e =
     let g = (h.judges []).good j e in
     let o = read_owned_lem (read_image read_tree_image image) (sym (owned-image image) ∙ g.reads) in
     rw o.reads (profile-outside g.image.root o.owned (n g.image o.reads o.owned))
-
-pub refused_so : (marks names : List ℕ) {image : List ℕ} {f : PanelRefusal} → Refuses image f → Checks image marks names (checked.Refused f)
-refused_so marks names h = record { is = h; passes = λ q d. absurd (let z : ◌≡◌ {A = ℕ} 0 1 = cc in omega arith) }
-
-pub place-missed : {image : List ℕ} {r : Place} {f : declared.Refusal} → Finds image r → r ≡ place.Fault f → NoProgram image
-place-missed {f = f} h e = h.missed f e
-
-pub place_found : {image : List ℕ} {r : Place} {c : Cursor} → Finds image r → r ≡ place.At c → ProgramAt image c.at
-place_found {c = c} h e = h.found c e
 
 -- ---- the root
 
@@ -129,12 +108,6 @@ good-short {image} {root} {s} g e =
     let x = g.root-within in
     let y = g.short in
     omega arith
-
-pub root-fits : {image : List ℕ} {root : ℕ} (m : ℕ) → ProgramAt image root → root ≤ m + length image
-root-fits m p = good-fits m p.good
-
-pub root-short : {image : List ℕ} {root : ℕ} {s : List ℕ} → ProgramAt image root → s ≡ drop (root - 0) image → root + length s ≤ 65536
-root-short p e = good-short p.good e
 
 module _ {image : List ℕ} {root : ℕ} (g : RootGood image root) (program : is_program g.read.root ≡ true) {s : List ℕ} (i : s ≡ drop (root - 0) image) where
   reads_here : read_tree most_nesting g.read.head 0 s ≡ got g.read.root []
@@ -160,14 +133,14 @@ module _ {image : List ℕ} {root : ℕ} (g : RootGood image root) (program : is
     counted : k.bits ≡ length (bits_of g.read.root)
     counted = holds.counted
 
-    twice : k.twice ≡ true → Checks image marks names (checked.Refused DrivenTwice)
+    twice : k.twice ≡ true → Checks image marks names (Err DrivenTwice)
     twice p =
         record {
           is = panel-is ∙ profile-twice g.read.root g.owned program (differ true p);
           passes = λ q d. absurd (let z : ◌≡◌ {A = ℕ} 0 1 = cc in omega arith);
         }
 
-    many : k.twice ≡ false → ltb room k.bits ≡ true → Checks image marks names (checked.Refused TooManyBits)
+    many : k.twice ≡ false → ltb room k.bits ≡ true → Checks image marks names (Err TooManyBits)
     many p c =
         let h = ltb-true room k.bits c in
         record {
@@ -175,7 +148,7 @@ module _ {image : List ℕ} {root : ℕ} (g : RootGood image root) (program : is
           passes = λ q d. absurd (let z : ◌≡◌ {A = ℕ} 0 1 = cc in omega arith);
         }
 
-    passed : k.twice ≡ false → ltb room k.bits ≡ false → Checks image marks names (checked.Passed (record { root = root; bits = k.bits }))
+    passed : k.twice ≡ false → ltb room k.bits ≡ false → Checks image marks names (Ok (record { root = root; bits = k.bits }))
     passed p c =
         let few : k.bits ≤ 256 = ltb-false room k.bits c in
         let short : length (bits_of g.read.root) ≤ 256 = omega (arith, counted) in
@@ -188,32 +161,16 @@ module _ {image : List ℕ} {root : ℕ} (g : RootGood image root) (program : is
               (record { good = g; program = program; few = few; counted = counted; named = names-are; marked = holds.marked });
         }
 
-    in_profile : {r : Checked} → Within root k r → Checks image marks names r
+    in_profile : {r : Result Program PanelRefusal} → Within root k r → Checks image marks names r
     unfolding within_of
     in_profile {r} w = subst (Checks image marks names) (sym w) (go k.twice (ltb room k.bits) refl refl)
       where
         go : (a c : Bool) → k.twice ≡ a → ltb room k.bits ≡ c
-            → Checks image marks names (when a then checked.Refused DrivenTwice else when c then checked.Refused TooManyBits else checked.Passed (record { root = root; bits = k.bits }))
+            → Checks image marks names (when a then Err DrivenTwice else when c then Err TooManyBits else Ok (record { root = root; bits = k.bits }))
         go true c p q = twice p
         go false true p q = many p q
         go false false p q = passed p q
 
 pub root_in_profile : {image : List ℕ} {root : ℕ} → ProgramAt image root → {s : List ℕ} → s ≡ drop (root - 0) image → (marks names : List ℕ) {k : Gathered} → Holds (along (length s) none s) marks names k
-    → {r : Checked} → Within root k r → Checks image marks names r
+    → {r : Result Program PanelRefusal} → Within root k r → Checks image marks names r
 root_in_profile p i marks names h w = in_profile p.good p.program i marks names h w
-
--- ---- the tests in turn
-
-pub twice-first : (root : ℕ) (k : Gathered) → k.twice ≡ true → Within root k (checked.Refused DrivenTwice)
-unfolding within_of
-twice-first root k e = rw e
-
-pub then_many : (root : ℕ) (k : Gathered) → k.twice ≡ false → room < k.bits → Within root k (checked.Refused TooManyBits)
-unfolding within_of
-then_many root k e h = rw (e, lt-ltb room k.bits h)
-
-pub then_passed : (root : ℕ) (k : Gathered) → k.twice ≡ false → k.bits ≤ room → Within root k (checked.Passed (record { root = root; bits = k.bits }))
-unfolding within_of
-then_passed root k e h = rw (e, le-ltb room k.bits h)
-
-pub ruleset check_laws = (judged-fault, judged-outside, refused_so, place-missed, place_found, root-fits, root-short, root_in_profile, twice-first, then_many, then_passed)

@@ -1,21 +1,18 @@
-use Rattle.panel_check.proofs.Checking.{check_laws}
-use Rattle.std.proofs.Common.{rules}
+use Rattle.std.proofs.Common.{rules, arith}
 use Rattle.panel_check.proofs.check.Goals as goal
+use Rattle.panel_check.proofs.Checking.{good-fits, good-short, root_in_profile}
 
-pub find_program-requires : goal.find_program-requires
-find_program-requires c = search (check_laws, rules)
+pub after-requires : goal.after-requires
+after-requires c =
+    let p = c.find_program.ensures.found c.in-Some.c c.in-Some.is in
+    search (arith, rules, good-fits 0 p.good)
 
-pub check_program-requires-clause-good : goal.check_program-requires-clause-good
-check_program-requires-clause-good c = search (check_laws, rules)
+pub gather-requires-clause-image : goal.gather-requires-clause-image
+gather-requires-clause-image c =
+    let p = c.find_program.ensures.found c.in-Some.c c.in-Some.is in
+    good-short p.good c.after.ensures
 
-pub check_program-requires-clause-held : goal.check_program-requires-clause-held
-check_program-requires-clause-held c = search (check_laws, rules)
-
-pub refusal_of-requires : goal.refusal_of-requires
-refusal_of-requires c = search (check_laws, rules)
-
-pub returns-in-At : goal.returns-in-At
-returns-in-At c = search (check_laws, rules)
-
-pub returns-in-Fault : goal.returns-in-Fault
-returns-in-Fault c = search (check_laws, rules)
+pub returns : goal.returns
+returns c =
+    let p = c.find_program.ensures.found c.in-Some.c c.in-Some.is in
+    root_in_profile p c.after.ensures _ _ c.gather.ensures c.within.ensures
