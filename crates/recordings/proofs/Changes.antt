@@ -5,6 +5,7 @@ use mathlib.Core.List.{List}
 use native.Mathlib.Omega.{arith}
 use lib.Dec.{leb}
 use lib.ListN.{length, drop}
+use Rattle.std.specs.Prelude.{Result, Ok, Err}
 use borrow.Author.Tests.{le-leb, lt-leb}
 use mir.Syntax.{w8}
 use mir.Val.{Fits}
@@ -16,27 +17,15 @@ use Rattle.refusals.specs.Refusing.{refusal_of}
 use Rattle.refusals.specs.declared.Refusal.{Refusal}
 use Rattle.refusals.specs.declared.Refusal.TheVariants.{Layout}
 use Rattle.numbers.specs.declared.Cursor.{Cursor}
-use Rattle.numbers.specs.declared.Number.{Number}
-use Rattle.numbers.specs.declared.Number.TheVariants as number
-use Rattle.numbers.specs.Answers.{number_at, kept}
+use Rattle.numbers.specs.Answers.{read_at, beside, kept}
 use Rattle.numbers.proofs.Tails.{Tail, tail_give, tail_next, tail_need, up_to_tail}
-use Rattle.numbers.proofs.Answering.{Shape, Took, took, refused, number_shape, goes, gives, refuses, stops, Kept, kept-got, kept-fault, kept_tail, kept_next, need-yes, need-no}
+use Rattle.numbers.proofs.Answering.{Took, took, refused, read_shape, goes, gives, refuses, stops, Kept, kept-got, kept-fault, kept_tail, kept_next, need-yes, need-no}
 use Rattle.bits.specs.Meeting.{last_mark}
 use Rattle.requests.specs.Recording as r
 use Rattle.requests.specs.Recording.{read_place, read_change}
 use Rattle.requests.proofs.Recordings.{change-fits}
-use Rattle.recordings.specs.Changes.{change_at, coded, read_value}
+use Rattle.recordings.specs.Changes.{coded, read_value}
 use Rattle.recordings.specs.declared.Change.{Change}
-use Rattle.recordings.specs.declared.ChangeRead.{ChangeRead}
-use Rattle.recordings.specs.declared.ChangeRead.TheVariants.{Read, Fault}
-
-pub change_shape : Shape Read Fault
-change_shape = record {
-  value = λ v w c d e. (cc);
-  place = λ v w c d e. (cc);
-  fault = λ f h e. (cc);
-  apart = λ v c f e. (let z : ◌≡◌ {A = ℕ} 0 1 = cc in omega arith);
-}
 
 -- ---- what is left is a tail
 
@@ -50,30 +39,30 @@ change_tail least s = tail_next _ (place_tail least s) (λ x t. tail_next _ (up_
 
 -- ---- the point
 
-module _ (at : ℕ) (s : List ℕ) (least : ℕ) {r : Number} (h : r ≡ number_at (at + length s) (num_up_to layout last_mark s)) where
-  pub place-stops : {f : Refusal} → r ≡ number.Fault f → number.Fault f ≡ number_at (at + length s) (read_place least s)
+module _ (at : ℕ) (s : List ℕ) (least : ℕ) {r : Result (ℕ × Cursor) Refusal} (h : r ≡ read_at (at + length s) (num_up_to layout last_mark s)) where
+  pub place-stops : {f : Refusal} → r ≡ Err f → Err f ≡ read_at (at + length s) (read_place least s)
   unfolding read_place last_point
-  place-stops e = stops number_shape number.Read number.Fault (at + length s) (num_up_to layout last_mark s) _ h e
+  place-stops e = stops read_shape beside (at + length s) (num_up_to layout last_mark s) _ h e
 
-  module _ {x : ℕ} {past : Cursor} (e : r ≡ number.Read x past) where
-    pub place-low : x < least → number.Fault Layout ≡ number_at (at + length s) (read_place least s)
+  module _ {x : ℕ} {past : Cursor} (e : r ≡ Ok (x, past)) where
+    pub place-low : x < least → Err Layout ≡ read_at (at + length s) (read_place least s)
     unfolding read_place last_point
-    place-low l = refuses number_shape number.Read number.Fault at (num_up_to layout last_mark s) _ h e (up_to_tail layout last_mark s) (λ u. need-no layout _ u (lt-leb least x l))
+    place-low l = refuses read_shape beside at (num_up_to layout last_mark s) _ h e (up_to_tail layout last_mark s) (λ u. need-no layout _ u (lt-leb least x l))
 
-    pub place_read : least ≤ x → number.Read x past ≡ number_at (at + length s) (read_place least s)
+    pub place_read : least ≤ x → Ok (x, past) ≡ read_at (at + length s) (read_place least s)
     unfolding read_place last_point
-    place_read l = gives number_shape number.Read number.Fault at (num_up_to layout last_mark s) _ h e (up_to_tail layout last_mark s) (λ u. need-yes layout _ u (le-leb least x l))
+    place_read l = gives read_shape beside at (num_up_to layout last_mark s) _ h e (up_to_tail layout last_mark s) (λ u. need-yes layout _ u (le-leb least x l))
 
 -- ---- the value
 
-module _ (at : ℕ) (s : List ℕ) (x : ℕ) {r : Number} (h : r ≡ number_at (at + length s) (num_up_to layout 1 s)) where
-  pub value-stops : {f : Refusal} → r ≡ number.Fault f → Fault f ≡ change_at (at + length s) (read_value x s)
+module _ (at : ℕ) (s : List ℕ) (x : ℕ) {r : Result (ℕ × Cursor) Refusal} (h : r ≡ read_at (at + length s) (num_up_to layout 1 s)) where
+  pub value-stops : {f : Refusal} → r ≡ Err f → Err f ≡ read_at (at + length s) (read_value x s)
   unfolding read_value
-  value-stops e = stops number_shape Read Fault (at + length s) (num_up_to layout 1 s) _ h e
+  value-stops e = stops read_shape beside (at + length s) (num_up_to layout 1 s) _ h e
 
-  pub value_read : {v : ℕ} {past : Cursor} → r ≡ number.Read v past → Read (record { place = x; value = v }) past ≡ change_at (at + length s) (read_value x s)
+  pub value_read : {v : ℕ} {past : Cursor} → r ≡ Ok (v, past) → Ok (record { place = x; value = v }, past) ≡ read_at (at + length s) (read_value x s)
   unfolding read_value
-  value_read e = gives number_shape Read Fault at (num_up_to layout 1 s) _ h e (up_to_tail layout 1 s) (λ u. refl)
+  value_read e = gives read_shape beside at (num_up_to layout 1 s) _ h e (up_to_tail layout 1 s) (λ u. refl)
 
 -- ---- both
 
@@ -89,13 +78,13 @@ coded-change least s = go (read_place least s)
     go (got x t) = value-coded x t
     go (fault c) = refl
 
-module _ (at : ℕ) (s : List ℕ) (least : ℕ) {r : Number} (h : r ≡ number_at (at + length s) (read_place least s)) where
-  pub change-stops : {f : Refusal} → r ≡ number.Fault f → Fault f ≡ change_at (at + length s) (kept coded (read_change least s))
-  change-stops e = rw (coded-change least s) (stops number_shape Read Fault (at + length s) (read_place least s) read_value h e)
+module _ (at : ℕ) (s : List ℕ) (least : ℕ) {r : Result (ℕ × Cursor) Refusal} (h : r ≡ read_at (at + length s) (read_place least s)) where
+  pub change-stops : {f : Refusal} → r ≡ Err f → Err f ≡ read_at (at + length s) (kept coded (read_change least s))
+  change-stops e = rw (coded-change least s) (stops read_shape beside (at + length s) (read_place least s) read_value h e)
 
-  pub change-goes : {x : ℕ} {past : Cursor} {u : List ℕ} {y : ChangeRead} → r ≡ number.Read x past → u ≡ drop (past.at - at) s → y ≡ change_at (past.at + length u) (read_value x u)
-      → y ≡ change_at (at + length s) (kept coded (read_change least s))
-  change-goes e i a = rw (coded-change least s) (goes number_shape Read Fault at (read_place least s) read_value h e (place_tail least s) i a)
+  pub change-goes : {x : ℕ} {past : Cursor} {u : List ℕ} {y : Result (Change × Cursor) Refusal} → r ≡ Ok (x, past) → u ≡ drop (past.at - at) s → y ≡ read_at (past.at + length u) (read_value x u)
+      → y ≡ read_at (at + length s) (kept coded (read_change least s))
+  change-goes e i a = rw (coded-change least s) (goes read_shape beside at (read_place least s) read_value h e (place_tail least s) i a)
 
 -- ---- what a caller knows of it
 
@@ -108,14 +97,14 @@ pub record Changed (at : ℕ) (s : List ℕ) (least : ℕ) (q : Change) (past : 
   pub place_is : change.place ≡ q.place
   pub value-is : change.value ≡ q.value
 
-module _ (at : ℕ) (s : List ℕ) (least : ℕ) {x : ChangeRead} (h : x ≡ change_at (at + length s) (kept coded (read_change least s))) where
-  pub no_change : {f : Refusal} → x ≡ Fault f → read_change least s ≡ fault (refusal_of f)
-  no_change {f} e = kept-fault coded (read_change least s) (refusal_of f) (refused change_shape (at + length s) (kept coded (read_change least s)) h e)
+module _ (at : ℕ) (s : List ℕ) (least : ℕ) {x : Result (Change × Cursor) Refusal} (h : x ≡ read_at (at + length s) (kept coded (read_change least s))) where
+  pub no_change : {f : Refusal} → x ≡ Err f → read_change least s ≡ fault (refusal_of f)
+  no_change {f} e = kept-fault coded (read_change least s) (refusal_of f) (refused read_shape (at + length s) (kept coded (read_change least s)) h e)
 
-  module _ {q : Change} {past : Cursor} (e : x ≡ Read q past) where
+  module _ {q : Change} {past : Cursor} (e : x ≡ Ok (q, past)) where
     pub a_change : Changed at s least q past.at
     a_change =
-        let T : Took at s (kept coded (read_change least s)) q past.at = took change_shape h e (kept_tail coded (change_tail least s)) in
+        let T : Took at s (kept coded (read_change least s)) q past.at = took read_shape h e (kept_tail coded (change_tail least s)) in
         let K : Kept coded (read_change least s) q (drop (past.at - at) s) = kept-got coded (read_change least s) q (drop (past.at - at) s) T.is in
         record {
           moved = T.moved;
@@ -144,5 +133,3 @@ module _ (at : ℕ) (s : List ℕ) (least : ℕ) {x : ChangeRead} (h : x ≡ cha
 
     pub change-byte : Fits w8 q.value
     change-byte = let p = change-small in record { fits = omega arith }
-
-pub ruleset change_laws = (place-stops, place-low, place_read, value-stops, value_read, change-stops, change-goes, place_tail)

@@ -5,26 +5,22 @@ use mathlib.Core.Bool.{Bool, true, false}
 use mathlib.Core.List.{List, [], ◌∷◌}
 use native.Mathlib.Omega.{arith}
 use lib.ListN.{length, drop, length-drop}
+use Rattle.std.specs.Prelude.{Result, Ok, Err}
 use borrow.Author.Tests.{le-leb, lt-leb}
 use Rattle.model.specs.Refusals.{layout}
-use Rattle.model.specs.Reading.{Read, got, fault, num, at_end}
+use Rattle.model.specs.Reading.{got, fault, num, at_end}
 use Rattle.refusals.specs.Refusing.{refusal_of}
 use Rattle.refusals.specs.declared.Refusal.{Refusal}
 use Rattle.numbers.specs.declared.Cursor.{Cursor}
-use Rattle.numbers.specs.declared.Number.{Number}
-use Rattle.numbers.specs.declared.Number.TheVariants as number
-use Rattle.numbers.specs.Answers.{number_at, kept}
+use Rattle.numbers.specs.Answers.{read_at, kept}
 use Rattle.numbers.specs.Limits.{most_image}
 use Rattle.numbers.proofs.Tails.{num_tail}
-use Rattle.numbers.proofs.Answering.{Took, took, refused, number_shape, number_fits, Kept, kept-got, kept-fault, kept_tail}
+use Rattle.numbers.proofs.Answering.{Took, took, refused, read_shape, Kept, kept-got, kept-fault, kept_tail}
 use Rattle.requests.specs.Recording as r
 use Rattle.requests.specs.Recording.{read_scans, read_to_end}
-use Rattle.recordings.specs.Judging.{checked_at, any_marked, judged_all, judged_count, judged_of}
-use Rattle.recordings.specs.declared.Checked.{Checked}
-use Rattle.recordings.specs.declared.Checked.TheVariants.{Past, Fault}
-use Rattle.recordings.specs.declared.Recording.{Recording}
-use Rattle.recordings.specs.declared.Recording.TheVariants as recording
-use Rattle.recordings.proofs.Checking.{checked_shape, scans_tail}
+use Rattle.recordings.specs.Judging.{Judged, any_marked, judged_all, judged_count, judged_of}
+use Rattle.recordings.specs.declared.RecordingRefusal.TheVariants.{Broken, Driven}
+use Rattle.recordings.proofs.Checking.{scans_tail}
 
 -- ---- behind the count of scans
 
@@ -47,19 +43,19 @@ module _ (n : ℕ) (s : List ℕ) where
   unfolding read_to_end
   not_to_end {rest = rest} e h = rw (e, not_at_end rest h)
 
-module _ (marks : List ℕ) (n : ℕ) (c : Cursor) (s : List ℕ) {x : Checked} (h : x ≡ checked_at (c.at + length s) (kept (any_marked marks) (read_scans n s))) where
-  pub judged-fault : {f : Refusal} → x ≡ Fault f → recording.Broken ≡ judged_all marks n c (read_to_end n s)
+module _ (marks : List ℕ) (n : ℕ) (c : Cursor) (s : List ℕ) {x : Result (Bool × Cursor) Refusal} (h : x ≡ read_at (c.at + length s) (kept (any_marked marks) (read_scans n s))) where
+  pub judged-fault : {f : Refusal} → x ≡ Err f → Err Broken ≡ judged_all marks n c (read_to_end n s)
   unfolding judged_all read_to_end
-  judged-fault {f} e = rw (kept-fault (any_marked marks) (read_scans n s) (refusal_of f) (refused checked_shape (c.at + length s) (kept (any_marked marks) (read_scans n s)) h e))
+  judged-fault {f} e = rw (kept-fault (any_marked marks) (read_scans n s) (refusal_of f) (refused read_shape (c.at + length s) (kept (any_marked marks) (read_scans n s)) h e))
 
-  module _ {d : Bool} {past : Cursor} (e : x ≡ Past d past) where
+  module _ {d : Bool} {past : Cursor} (e : x ≡ Ok (d, past)) where
     whole : Took c.at s (kept (any_marked marks) (read_scans n s)) d past.at
-    whole = took checked_shape h e (kept_tail (any_marked marks) (scans_tail n s))
+    whole = took read_shape h e (kept_tail (any_marked marks) (scans_tail n s))
 
     all : Kept (any_marked marks) (read_scans n s) d (drop (past.at - c.at) s)
     all = kept-got (any_marked marks) (read_scans n s) d (drop (past.at - c.at) s) whole.is
 
-    pub judged-longer : past.at < c.at + length s → recording.Broken ≡ judged_all marks n c (read_to_end n s)
+    pub judged-longer : past.at < c.at + length s → Err Broken ≡ judged_all marks n c (read_to_end n s)
     unfolding judged_all
     judged-longer l =
         let z : 0 < length (drop (past.at - c.at) s) = let y = length-drop (past.at - c.at) s in omega (arith, whole.moved, whole.within) in
@@ -69,33 +65,28 @@ module _ (marks : List ℕ) (n : ℕ) (c : Cursor) (s : List ℕ) {x : Checked} 
       ended : read_to_end n s ≡ got all.value []
       ended = let z : length (drop (past.at - c.at) s) ≤ 0 = let y = length-drop (past.at - c.at) s in omega (arith, whole.moved, whole.within) in to_end n s all.is z
 
-      pub judged-driven : d ≡ true → recording.Driven ≡ judged_all marks n c (read_to_end n s)
+      pub judged-driven : d ≡ true → Err Driven ≡ judged_all marks n c (read_to_end n s)
       unfolding judged_all
       judged-driven q = rw (ended, all.value-is ∙ q)
 
-      pub judged-kept : d ≡ false → recording.Kept n c ≡ judged_all marks n c (read_to_end n s)
+      pub judged-kept : d ≡ false → Ok (n, c) ≡ judged_all marks n c (read_to_end n s)
       unfolding judged_all
       judged-kept q = rw (ended, all.value-is ∙ q)
 
 -- ---- the whole
 
-pub judged-long : (marks s : List ℕ) → most_image < length s → recording.Broken ≡ judged_of marks s
+pub judged-long : (marks s : List ℕ) → most_image < length s → Err Broken ≡ judged_of marks s
 unfolding judged_of
 judged-long marks s l = rw (lt-leb (length s) most_image l)
 
-module _ (marks s : List ℕ) (l : length s ≤ most_image) {x : Number} (h : x ≡ number_at (0 + length s) (num s)) where
-  pub judged-nothing : {f : Refusal} → x ≡ number.Fault f → recording.Broken ≡ judged_of marks s
+module _ (marks s : List ℕ) (l : length s ≤ most_image) {x : Result (ℕ × Cursor) Refusal} (h : x ≡ read_at (0 + length s) (num s)) where
+  pub judged-nothing : {f : Refusal} → x ≡ Err f → Err Broken ≡ judged_of marks s
   unfolding judged_of judged_count
-  judged-nothing e = rw (le-leb (length s) most_image l, refused number_shape (0 + length s) (num s) h e)
+  judged-nothing e = rw (le-leb (length s) most_image l, refused read_shape (0 + length s) (num s) h e)
 
-  pub judged-count : {n : ℕ} {past : Cursor} {u : List ℕ} {y : Recording} → x ≡ number.Read n past → u ≡ drop (past.at - 0) s → y ≡ judged_all marks n past (read_to_end n u) → y ≡ judged_of marks s
+  pub judged-count : {n : ℕ} {past : Cursor} {u : List ℕ} {y : Judged} → x ≡ Ok (n, past) → u ≡ drop (past.at - 0) s → y ≡ judged_all marks n past (read_to_end n u) → y ≡ judged_of marks s
   unfolding judged_of judged_count
   judged-count {n} {past} {u} e i a =
-      let T : Took 0 s (num s) n past.at = took number_shape h e (num_tail s) in
+      let T : Took 0 s (num s) n past.at = took read_shape h e (num_tail s) in
       let p : length s - length (drop (past.at - 0) s) ≡ past.at = let y = T.ends in omega (arith, T.within) in
       rw (le-leb (length s) most_image l, T.is, p, ← i) a
-
-  pub judged-fits : {n : ℕ} {past : Cursor} {u : List ℕ} → x ≡ number.Read n past → u ≡ drop (past.at - 0) s → past.at + length u ≤ most_image
-  judged-fits e i = let k : 0 + length s ≤ most_image = omega arith in number_fits 0 s (num s) h e (num_tail s) i k
-
-pub ruleset judged_laws = (judged-fits, judged-fault, judged-longer, judged-driven, judged-kept, judged-long, judged-nothing, judged-count)

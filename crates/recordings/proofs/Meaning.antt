@@ -6,6 +6,7 @@ use mathlib.Core.List.{List, [], ◌∷◌}
 use native.Mathlib.Omega.{arith}
 use lib.Dec.{eqb, leb}
 use lib.ListN.{length, drop, length-drop}
+use Rattle.std.specs.Prelude.{Ok, Err}
 use borrow.Author.Tests.{le-leb, leb-true}
 use Rattle.model.specs.Choice.{when◌then◌else◌}
 use Rattle.model.specs.Limits as limits
@@ -21,16 +22,14 @@ use Rattle.numbers.proofs.Tails.{Behind, Tail, tail_got, num_tail}
 use Rattle.codec_laws.proofs.NumberTrip.{got-value, got-rest}
 use Rattle.codec_laws.proofs.Sequence.{next-got}
 use Rattle.codec_laws.proofs.ImageLaws.{end_w}
-use Rattle.bits.specs.Meeting.{points}
 use Rattle.requests.specs.Panel.{driven}
 use Rattle.requests.specs.Recording.{Change, read_change, read_changes, read_scan, read_scans, read_to_end, read_recording}
 use Rattle.requests.specs.Scanning.{changed}
 use Rattle.requests.specs.ScanJob.{stopped, printed, bad_recording, driven_change, changes_driven, any_driven, text_of, recorded, with_recording}
 use Rattle.requests.proofs.Recordings.{change-fits}
-use Rattle.recordings.specs.Judging.{MarksOf, is_marked, changes_marked, any_marked, judged_all, judged_count, judged_of}
+use Rattle.recordings.specs.Judging.{MarksOf, Judged, is_marked, changes_marked, any_marked, judged_all, judged_count, judged_of}
 use Rattle.recordings.specs.Taking.{Readable, Taken}
-use Rattle.recordings.specs.declared.Recording.{Recording}
-use Rattle.recordings.specs.declared.Recording.TheVariants.{Kept, Broken, Driven}
+use Rattle.recordings.specs.declared.RecordingRefusal.TheVariants.{Broken, Driven}
 use Rattle.recordings.proofs.Checking.{scans-more}
 
 -- ---- a change that is read names a mark where it names a driven point
@@ -115,10 +114,10 @@ pub record Plays (t : Tree) (s : List ℕ) (n : ℕ) (c : Cursor) : Type 0 where
   pub within : c.at ≤ length s
   pub ahead : ToEnd n (drop c.at s) scans
 
-abbrev Means : Tree → List ℕ → Recording → Type 0
-Means t s (Kept n c) = Plays t s n c
-Means t s Broken = with_recording s t ≡ stopped bad_recording
-Means t s Driven = with_recording s t ≡ stopped driven_change
+abbrev Means : Tree → List ℕ → Judged → Type 0
+Means t s (Ok r) = Plays t s r.0 r.1
+Means t s (Err Broken) = with_recording s t ≡ stopped bad_recording
+Means t s (Err Driven) = with_recording s t ≡ stopped driven_change
 
 module _ (t : Tree) (marks : List ℕ) (h : MarksOf (driven t) marks) (s : List ℕ) where
   short-is : length s ≤ most_image → with_recording s t ≡ recorded t (read_recording s)
@@ -140,7 +139,7 @@ module _ (t : Tree) (marks : List ℕ) (h : MarksOf (driven t) marks) (s : List 
         let w : ToEnd n rest r = to_end n rest left r e in
         go (any_marked marks r) (scans-same (driven t) marks h n rest [] r w.is) w
       where
-        go : (m : Bool) → m ≡ any_driven (driven t) r → ToEnd n rest r → Means t s (when m then Driven else Kept n (record { at = length s - length rest }))
+        go : (m : Bool) → m ≡ any_driven (driven t) r → ToEnd n rest r → Means t s (when m then Err Driven else Ok (n, record { at = length s - length rest }))
         go true k w = short-is l ∙ ap (recorded t) (q ∙ e) ∙ rw (← k)
         go false k w = plays r w (short-is l ∙ ap (recorded t) (q ∙ e) ∙ rw (← k))
 
@@ -153,17 +152,17 @@ module _ (t : Tree) (marks : List ℕ) (h : MarksOf (driven t) marks) (s : List 
   unfolding judged_of
   means = go (leb (length s) most_image) refl
     where
-      go : (b : Bool) → leb (length s) most_image ≡ b → Means t s (when b then judged_count marks (length s) (num s) else Broken)
+      go : (b : Bool) → leb (length s) most_image ≡ b → Means t s (when b then judged_count marks (length s) (num s) else Err Broken)
       go true e = by_count (leb-true (length s) most_image e) (num s) refl (num_tail s)
       go false e = too_long_lem s t e
 
-  pub means_broken : judged_of marks s ≡ Broken → with_recording s t ≡ stopped bad_recording
+  pub means_broken : judged_of marks s ≡ Err Broken → with_recording s t ≡ stopped bad_recording
   means_broken e = subst (Means t s) e means
 
-  pub means-driven : judged_of marks s ≡ Driven → with_recording s t ≡ stopped driven_change
+  pub means-driven : judged_of marks s ≡ Err Driven → with_recording s t ≡ stopped driven_change
   means-driven e = subst (Means t s) e means
 
-  pub means-kept : {n : ℕ} {c : Cursor} → judged_of marks s ≡ Kept n c → Plays t s n c
+  pub means-kept : {n : ℕ} {c : Cursor} → judged_of marks s ≡ Ok (n, c) → Plays t s n c
   means-kept e = subst (Means t s) e means
 
 -- ---- one scan after another

@@ -6,12 +6,13 @@ use mathlib.Core.List.{List, [], ◌∷◌}
 use native.Mathlib.Omega.{arith}
 use lib.ListN.{length, drop, length-drop}
 use lib.Seq.{drop-drop}
+use Rattle.std.specs.Prelude.{Ok, Err}
 use Rattle.model.specs.Refusals as m
 use Rattle.model.specs.Reading.{Read, Reader, got, fault, next, give}
 use Rattle.refusals.specs.Refusing.{refusal_of}
 use Rattle.refusals.specs.declared.Refusal.{Refusal}
 use Rattle.refusals.proofs.Cases.{case_back}
-use Rattle.numbers.specs.Answers.{answer_at, kept}
+use Rattle.numbers.specs.Answers.{read_at, kept}
 use Rattle.numbers.specs.declared.Cursor.{Cursor}
 
 -- `one` reads a thing, knowing what `step` keeps of the thing before; `many` reads so many; `f a` is what comes of a list, where `a` was
@@ -40,12 +41,6 @@ pub record Midway {A : Type 0} (at : ℕ) (s : List ℕ) (here : ℕ) (whole ahe
   pub within : here ≤ at + length s
   pub is : whole ≡ ahead
 
-pub drop-none : (at : ℕ) (s : List ℕ) → drop (at - at) s ≡ s
-drop-none at s = let e : at - at ≡ 0 = omega arith in rw e
-
-pub starting : {A : Type 0} {at : ℕ} {s : List ℕ} {whole ahead : Read A} → whole ≡ ahead → Midway at s at whole ahead
-starting e = record { moved = omega arith; within = omega arith; is = e }
-
 module _ {A : Type 0} {at : ℕ} {s : List ℕ} {here : ℕ} {whole ahead : Read A} (w : Midway at s here whole ahead) where
   pub left-long : length (drop (here - at) s) ≡ at + length s - here
   left-long = let l = length-drop (here - at) s in omega (arith, w.moved, w.within)
@@ -53,9 +48,6 @@ module _ {A : Type 0} {at : ℕ} {s : List ℕ} {here : ℕ} {whole ahead : Read
   module _ {u : List ℕ} (i : u ≡ drop (here - at) s) where
     pub ends_same : here + length u ≡ at + length s
     ends_same = let l = ap length i ∙ left-long in omega (arith, w.moved, w.within)
-
-    pub fits_on : {k : ℕ} → at + length s ≤ k → here + length u ≤ k
-    fits_on h = let e = ends_same in omega arith
 
     pub behind-same : {past : ℕ} → here ≤ past → drop (past - here) u ≡ drop (past - at) s
     behind-same {past} h =
@@ -67,11 +59,11 @@ module _ {A : Type 0} {at : ℕ} {s : List ℕ} {here : ℕ} {whole ahead : Read
 
 -- ---- the answer at the end, and at a fault
 
-module _ {A X : Type 0} (read : A → Cursor → X) (refuse : Refusal → X) {at : ℕ} {s : List ℕ} {whole ahead : Read A} where
-  pub answered : {here : Cursor} {a : A} → Midway at s here.at whole ahead → ahead ≡ got a (drop (here.at - at) s) → read a here ≡ answer_at read refuse (at + length s) whole
+module _ {A : Type 0} {at : ℕ} {s : List ℕ} {whole ahead : Read A} where
+  pub answered : {here : Cursor} {a : A} → Midway at s here.at whole ahead → ahead ≡ got a (drop (here.at - at) s) → Ok (a, here) ≡ read_at (at + length s) whole
   answered {here} w e =
       let p : at + length s - length (drop (here.at - at) s) ≡ here.at = let l = left-long w in omega (arith, w.within) in
       rw (w.is, e, p)
 
-  pub stopped : {here : ℕ} {f : Refusal} → Midway at s here whole ahead → ahead ≡ fault (refusal_of f) → refuse f ≡ answer_at read refuse (at + length s) whole
-  stopped {f = f} w e = rw (w.is, e) (ap refuse (sym (case_back f)))
+  pub stopped : {here : ℕ} {f : Refusal} → Midway at s here whole ahead → ahead ≡ fault (refusal_of f) → Err f ≡ read_at (at + length s) whole
+  stopped {f = f} w e = rw (w.is, e) (ap (λ (r : Refusal). Err r) (sym (case_back f)))

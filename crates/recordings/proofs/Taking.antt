@@ -5,28 +5,25 @@ use mathlib.Core.List.{List, [], ◌∷◌}
 use native.Mathlib.Omega.{arith}
 use native.Mathlib.Numerals.{add-one}
 use lib.ListN.{length, set, drop, length-set}
+use Rattle.std.specs.Prelude.{Result, Ok, Err}
 use Rattle.model.specs.Refusals as m
 use Rattle.model.specs.Reading.{Read, got, fault, num}
 use Rattle.refusals.specs.Refusing.{refusal_of}
 use Rattle.refusals.specs.declared.Refusal.{Refusal}
 use Rattle.numbers.specs.declared.Cursor.{Cursor}
-use Rattle.numbers.specs.declared.Number.{Number}
-use Rattle.numbers.specs.declared.Number.TheVariants as number
-use Rattle.numbers.specs.Answers.{number_at, kept}
+use Rattle.numbers.specs.Answers.{read_at, kept}
 use Rattle.numbers.proofs.Tails.{num_tail}
-use Rattle.numbers.proofs.Answering.{Took, took, refused, number_shape}
+use Rattle.numbers.proofs.Answering.{Took, took, refused, read_shape}
 use Rattle.codec_laws.proofs.NumberTrip.{fault≢got}
 use Rattle.bits.specs.Meeting.{last_mark}
 use Rattle.requests.specs.Recording as r
 use Rattle.requests.specs.Recording.{read_change, read_changes, read_scan}
 use Rattle.requests.specs.Scanning.{changed}
-use Rattle.recordings.specs.Changes.{change_at, coded}
+use Rattle.recordings.specs.Changes.{coded}
 use Rattle.recordings.specs.Taking.{Readable, Taken}
 use Rattle.recordings.specs.declared.Change.{Change}
-use Rattle.recordings.specs.declared.ChangeRead.{ChangeRead}
-use Rattle.recordings.specs.declared.ChangeRead.TheVariants as change
-use Rattle.recordings.proofs.Several.{several-none, several-more, several-stops, Midway, drop-none, starting, fits_on, behind-same, going}
-use Rattle.recordings.proofs.Changes.{Changed, a_change, no_change, change-place, change-room, change-byte}
+use Rattle.recordings.proofs.Several.{several-none, several-more, several-stops, Midway, behind-same, going}
+use Rattle.recordings.proofs.Changes.{Changed, a_change, no_change, change-place}
 use Rattle.recordings.proofs.Checking.{changes-none, changes-more}
 
 abbrev into : List ℕ → List r.Change → List ℕ
@@ -56,65 +53,57 @@ no-fault points c h e = fault≢got c (into points h.changes) h.rest (sym e ∙ 
 
 -- ---- the loop along changes
 
-pub record Taking (at : ℕ) (s points₀ : List ℕ) (count here left least : ℕ) (points : List ℕ) : Type 0 where
-  pub midway : Midway at s here (kept (into points₀) (read_changes count 0 s)) (kept (into points) (read_changes left least (drop (here - at) s)))
+pub record Taking (at : ℕ) (s points₀ : List ℕ) (count here done least : ℕ) (points : List ℕ) : Type 0 where
+  pub midway : Midway at s here (kept (into points₀) (read_changes count 0 s)) (kept (into points) (read_changes (count - done) least (drop (here - at) s)))
   pub long : length points ≡ length points₀
   pub room : last_mark < length points
   pub readable : Readable (read_changes count 0 s)
 
-pub taking-start : {at : ℕ} {s points : List ℕ} {count : ℕ} → last_mark < length points → Readable (read_changes count 0 s) → Taking at s points count at count 0 points
-taking-start {at} {s} l h = record { midway = starting (rw (drop-none at s)); long = refl; room = l; readable = h }
-
-module _ {at : ℕ} {s points₀ : List ℕ} {count here left least : ℕ} {points : List ℕ} (w : Taking at s points₀ count here left least points) where
-  pub taking-moved : at ≤ here
-  taking-moved = w.midway.moved
-
-  pub taking-within : here ≤ at + length s
-  taking-within = w.midway.within
-
+module _ {at : ℕ} {s points₀ : List ℕ} {count here done least : ℕ} {points : List ℕ} (w : Taking at s points₀ count here done least points) where
   module _ {u : List ℕ} (i : u ≡ drop (here - at) s) where
-    pub taking-fits : {k : ℕ} → at + length s ≤ k → here + length u ≤ k
-    taking-fits h = fits_on w.midway i h
+    module _ (more : done < count) {x : Result (Change × Cursor) Refusal} (h : x ≡ read_at (here + length u) (kept coded (read_change least u))) where
+      some : 0 < count - done
+      some = omega arith
 
-    module _ (some : 0 < left) {x : ChangeRead} (h : x ≡ change_at (here + length u) (kept coded (read_change least u))) where
-      pub taking_no_fault : {f : Refusal} {points' : List ℕ} {past : Cursor} → x ≡ change.Fault f → Taken (read_changes count 0 s) points₀ at s points' past
+      pub taking_no_fault : {f : Refusal} {points' : List ℕ} {past : Cursor} → x ≡ Err f → Taken (read_changes count 0 s) points₀ at s points' past
       taking_no_fault {f} e =
-          absurd (no-fault points₀ (refusal_of f) w.readable (w.midway.is ∙ rw (← i) (change_lacks points left least u some (no_change here u least h e))))
+          absurd (no-fault points₀ (refusal_of f) w.readable (w.midway.is ∙ rw (← i) (change_lacks points (count - done) least u some (no_change here u least h e))))
 
-      pub taking-place : {q : Change} {past : Cursor} → x ≡ change.Read q past → q.place < length points
+      pub taking-place : {q : Change} {past : Cursor} → x ≡ Ok (q, past) → q.place < length points
       taking-place e = let p = change-place here u least h e in let y = w.room in omega arith
 
-      pub taking_on : {q : Change} {past : Cursor} → x ≡ change.Read q past
-          → Taking at s points₀ count past.at (left - 1) (q.place + 1) (set points q.place q.value)
+      pub taking_on : {q : Change} {past : Cursor} → x ≡ Ok (q, past)
+          → Taking at s points₀ count past.at (done + 1) (q.place + 1) (set points q.place q.value)
       taking_on {q} {past} e =
           let C : Changed here u least q past.at = a_change here u least h e in
           let b = behind-same w.midway i C.moved in
           let l : length (set points q.place q.value) ≡ length points = length-set points q.place q.value in
+          let z : count - (done + 1) ≡ count - done - 1 = omega arith in
           record {
-            midway = going w.midway i C.moved C.within (rw (← i, change-more points left least u some C.is, b, C.place_is, C.value-is, add-one q.place));
+            midway = going w.midway i C.moved C.within (rw (← i, change-more points (count - done) least u some C.is, b, C.place_is, C.value-is, z, add-one q.place));
             long = l ∙ w.long;
             room = let y = w.room in omega arith;
             readable = w.readable;
           }
 
-pub taking-end : {at : ℕ} {s points₀ : List ℕ} {count left least : ℕ} {points : List ℕ} {here : Cursor} → Taking at s points₀ count here.at left least points → left ≤ 0
+pub taking-end : {at : ℕ} {s points₀ : List ℕ} {count done least : ℕ} {points : List ℕ} {here : Cursor} → Taking at s points₀ count here.at done least points → count ≤ done
     → Taken (read_changes count 0 s) points₀ at s points here
-taking-end {at} {s} {left = left} {least = least} {points = points} {here = here} w h = record {
+taking-end {at} {s} {count = count} {done = done} {least = least} {points = points} {here = here} w h = record {
   moved = w.midway.moved;
   within = w.midway.within;
-  is = w.midway.is ∙ change-none points left least (drop (here.at - at) s) h;
+  is = w.midway.is ∙ change-none points (count - done) least (drop (here.at - at) s) (omega arith);
 }
 
 -- ---- one scan
 
-module _ (at : ℕ) (s : List ℕ) {x : Number} (h : x ≡ number_at (at + length s) (num s)) (w : Readable (read_scan s)) where
-  pub scan_no_fault : {f : Refusal} {points points' : List ℕ} {past : Cursor} → x ≡ number.Fault f → Taken (read_scan s) points at s points' past
+module _ (at : ℕ) (s : List ℕ) {x : Result (ℕ × Cursor) Refusal} (h : x ≡ read_at (at + length s) (num s)) (w : Readable (read_scan s)) where
+  pub scan_no_fault : {f : Refusal} {points points' : List ℕ} {past : Cursor} → x ≡ Err f → Taken (read_scan s) points at s points' past
   unfolding read_scan
-  scan_no_fault {f} {points} e = absurd (no-fault points (refusal_of f) w (rw (refused number_shape (at + length s) (num s) h e)))
+  scan_no_fault {f} {points} e = absurd (no-fault points (refusal_of f) w (rw (refused read_shape (at + length s) (num s) h e)))
 
-  module _ {n : ℕ} {past : Cursor} {u : List ℕ} (e : x ≡ number.Read n past) (i : u ≡ drop (past.at - at) s) where
+  module _ {n : ℕ} {past : Cursor} {u : List ℕ} (e : x ≡ Ok (n, past)) (i : u ≡ drop (past.at - at) s) where
     number_took : Took at s (num s) n past.at
-    number_took = took number_shape h e (num_tail s)
+    number_took = took read_shape h e (num_tail s)
 
     scan-is : read_scan s ≡ read_changes n 0 u
     unfolding read_scan
@@ -132,5 +121,3 @@ module _ (at : ℕ) (s : List ℕ) {x : Number} (h : x ≡ number_at (at + lengt
           within = z.within;
           is = ap (kept (into points)) scan-is ∙ t.is ∙ ap (got points') (behind-same M i t.moved);
         }
-
-pub ruleset taking_laws = (taking-start, taking-moved, taking-within, taking-fits, taking_no_fault, taking-place, taking_on, taking-end, scan_no_fault, scan-readable, scan-taken, change-room, change-byte)

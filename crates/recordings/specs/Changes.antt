@@ -1,16 +1,9 @@
 -- One change of a recording, as the code reads it.
 use Rattle.std.specs.Prelude.{ℕ}
 use Rattle.model.specs.Refusals.{layout}
-use Rattle.model.specs.Reading as m
 use Rattle.model.specs.Reading.{Reader, ◌>>=◌, give, num_up_to}
-use Rattle.numbers.specs.Answers.{answer_at}
 use Rattle.requests.specs.Recording as r
 use Rattle.recordings.specs.declared.Change.{Change}
-use Rattle.recordings.specs.declared.ChangeRead.{ChangeRead}
-use Rattle.recordings.specs.declared.ChangeRead.TheVariants.{Read, Fault}
-
-abbrev pub change_at : ℕ → m.Read Change → ChangeRead
-change_at end g = answer_at Read Fault end g
 
 abbrev pub coded : r.Change → Change
 coded q = record { place = q.place; value = q.value }

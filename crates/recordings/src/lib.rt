@@ -3,15 +3,16 @@
 #![tactic(auto)]
 
 ghost use Rattle.std.specs.Prelude.{◌≡◌, ◌||◌, ◌+◌, ◌≤◌, ◌<◌, length};
-ghost use Rattle.numbers.specs.Answers.{number_at, kept};
+ghost use Rattle.numbers.specs.Answers.{read_at, kept};
 ghost use Rattle.numbers.specs.Limits.{most_image};
 ghost use Rattle.bits.specs.Meeting.{last_mark};
 ghost use Rattle.requests.specs.Recording.{read_place, read_change, read_changes, read_scan, read_scans, read_to_end};
-ghost use Rattle.recordings.specs.Changes.{change_at, read_value, coded};
-ghost use Rattle.recordings.specs.Judging.{checked_at, is_marked, or_marked, any_marked, judged_all, judged_of};
+ghost use Rattle.recordings.specs.Changes.{coded};
+ghost use Rattle.recordings.specs.Judging.{is_marked, or_marked, any_marked, judged_all, judged_of};
 ghost use Rattle.recordings.specs.Taking.{Readable, Taken};
+ghost use Rattle.recordings.specs.declared.RecordingRefusal.TheVariants.{Broken};
 
-use numbers::{Cursor, Number};
+use numbers::{Cursor, Read};
 use refusals::Refusal;
 use scopes::Point;
 
@@ -23,26 +24,19 @@ struct Change {
 }
 
 #[derive(Clone, Copy)]
-enum ChangeRead {
-    Read(Change, Cursor),
-    Fault(Refusal),
-}
-
-// Whether a change names a driven point, and the place behind the changes.
-#[derive(Clone, Copy)]
-enum Checked {
-    Past(bool, Cursor),
-    Fault(Refusal),
-}
-
-#[derive(Clone, Copy)]
-pub enum Recording {
-    // How many scans, and where the first begins.
-    Kept(u32, Cursor),
+pub enum RecordingRefusal {
     // Code 24.
     Broken,
     // Code 25.
     Driven,
+}
+
+impl From<Refusal> for RecordingRefusal {
+    ghost from_gives = { λ _ r. r ≡ Broken };
+
+    fn from(_f: Refusal) -> RecordingRefusal {
+        RecordingRefusal::Broken
+    }
 }
 
 impl Change {
@@ -51,40 +45,24 @@ impl Change {
 }
 
 // A point that is at least `least`.
-fn read_place(c: Cursor, s: &[u8], least: u32) -> Number
+fn read_place(c: Cursor, s: &[u8], least: u32) -> Read<u32>
     requires { c.at + length s.now ≤ most_image }
-    ensures { result ≡ number_at (c.at + length s.now) (read_place least s.now) }
+    ensures { result ≡ read_at (c.at + length s.now) (read_place least s.now) }
 {
-    match c.number_up_to(s, Refusal::Layout, Point::LAST) {
-        Number::Read(x, past) => {
-            if x < least {
-                return Number::Fault(Refusal::Layout);
-            }
-            Number::Read(x, past)
-        }
-        Number::Fault(f) => Number::Fault(f),
+    let (x, past) = c.number_up_to(s, Refusal::Layout, Point::LAST)?;
+    if x < least {
+        return Err(Refusal::Layout);
     }
+    Ok((x, past))
 }
 
-// What follows a change's point.
-fn read_value(c: Cursor, s: &[u8], place: u32) -> ChangeRead
+fn read_change(c: Cursor, s: &[u8], least: u32) -> Read<Change>
     requires { c.at + length s.now ≤ most_image }
-    ensures { result ≡ change_at (c.at + length s.now) (read_value place s.now) }
+    ensures { result ≡ read_at (c.at + length s.now) (kept coded (read_change least s.now)) }
 {
-    match c.number_up_to(s, Refusal::Layout, Change::ON) {
-        Number::Read(value, past) => ChangeRead::Read(Change { place, value }, past),
-        Number::Fault(f) => ChangeRead::Fault(f),
-    }
-}
-
-fn read_change(c: Cursor, s: &[u8], least: u32) -> ChangeRead
-    requires { c.at + length s.now ≤ most_image }
-    ensures { result ≡ change_at (c.at + length s.now) (kept coded (read_change least s.now)) }
-{
-    match read_place(c, s, least) {
-        Number::Read(place, past) => read_value(past, c.after(s, past), place),
-        Number::Fault(f) => ChangeRead::Fault(f),
-    }
+    let (place, behind) = read_place(c, s, least)?;
+    let (value, past) = behind.number_up_to(c.after(s, behind), Refusal::Layout, Change::ON)?;
+    Ok((Change { place, value }, past))
 }
 
 // Whether a driven point was named before, or is now.
@@ -92,100 +70,77 @@ fn names_driven(marks: &[u8], before: bool, place: u32) -> bool
     requires { (last_mark < length marks.now) × (place ≤ last_mark) }
     ensures { result ≡ (before || is_marked marks.now place) }
 {
-    if before {
-        return true;
-    }
-    let i = place as usize;
-    marks[i] != 0
+    before || marks[place as usize] != 0
 }
 
 // `before`: whether a driven point was named before.
-fn check_changes(c: Cursor, s: &[u8], marks: &[u8], count: u32, before: bool) -> Checked
+fn check_changes(c: Cursor, s: &[u8], marks: &[u8], count: u32, before: bool) -> Read<bool>
     requires { (c.at + length s.now ≤ most_image) × (last_mark < length marks.now) }
-    ensures { result ≡ checked_at (c.at + length s.now) (kept (or_marked marks.now before) (read_changes count 0 s.now)) }
+    ensures { result ≡ read_at (c.at + length s.now) (kept (or_marked marks.now before) (read_changes count 0 s.now)) }
 {
     let mut here = c;
-    let mut left = count;
     let mut least = 0;
     let mut driven = before;
-    while 0 < left {
-        match read_change(here, c.after(s, here), least) {
-            ChangeRead::Read(q, past) => {
-                driven = names_driven(marks, driven, q.place);
-                least = q.place + 1;
-                here = past;
-                left -= 1;
-            }
-            ChangeRead::Fault(f) => return Checked::Fault(f),
-        }
+    for _ in 0..count {
+        let (q, past) = read_change(here, c.after(s, here), least)?;
+        driven = names_driven(marks, driven, q.place);
+        least = q.place + 1;
+        here = past;
     }
-    Checked::Past(driven, here)
+    Ok((driven, here))
 }
 
-fn check_scan(c: Cursor, s: &[u8], marks: &[u8], before: bool) -> Checked
+fn check_scan(c: Cursor, s: &[u8], marks: &[u8], before: bool) -> Read<bool>
     requires { (c.at + length s.now ≤ most_image) × (last_mark < length marks.now) }
-    ensures { result ≡ checked_at (c.at + length s.now) (kept (or_marked marks.now before) (read_scan s.now)) }
+    ensures { result ≡ read_at (c.at + length s.now) (kept (or_marked marks.now before) (read_scan s.now)) }
 {
-    match c.number(s) {
-        Number::Read(count, past) => check_changes(past, c.after(s, past), marks, count, before),
-        Number::Fault(f) => Checked::Fault(f),
-    }
+    let (count, past) = c.number(s)?;
+    check_changes(past, c.after(s, past), marks, count, before)
 }
 
-fn check_scans(c: Cursor, s: &[u8], marks: &[u8], count: u32) -> Checked
+fn check_scans(c: Cursor, s: &[u8], marks: &[u8], count: u32) -> Read<bool>
     requires { (c.at + length s.now ≤ most_image) × (last_mark < length marks.now) }
-    ensures { result ≡ checked_at (c.at + length s.now) (kept (any_marked marks.now) (read_scans count s.now)) }
+    ensures { result ≡ read_at (c.at + length s.now) (kept (any_marked marks.now) (read_scans count s.now)) }
 {
     let mut here = c;
-    let mut left = count;
     let mut driven = false;
-    while 0 < left {
-        match check_scan(here, c.after(s, here), marks, driven) {
-            Checked::Past(d, past) => {
-                driven = d;
-                here = past;
-                left -= 1;
-            }
-            Checked::Fault(f) => return Checked::Fault(f),
-        }
+    for _ in 0..count {
+        (driven, here) = check_scan(here, c.after(s, here), marks, driven)?;
     }
-    Checked::Past(driven, here)
+    Ok((driven, here))
 }
 
 // What follows the count of scans.
-fn judge_scans(c: Cursor, s: &[u8], marks: &[u8], count: u32) -> Recording
+fn judge_scans(
+    c: Cursor,
+    s: &[u8],
+    marks: &[u8],
+    count: u32,
+) -> Result<(u32, Cursor), RecordingRefusal>
     requires { (c.at + length s.now ≤ most_image) × (last_mark < length marks.now) }
     ensures { result ≡ judged_all marks.now count c (read_to_end count s.now) }
 {
-    match check_scans(c, s, marks, count) {
-        Checked::Past(driven, past) => {
-            if past.at < c.at + s.len() {
-                return Recording::Broken;
-            }
-            if driven {
-                return Recording::Driven;
-            }
-            Recording::Kept(count, c)
-        }
-        Checked::Fault(_) => Recording::Broken,
+    let (driven, past) = check_scans(c, s, marks, count)?;
+    if past.at < c.at + s.len() {
+        return Err(RecordingRefusal::Broken);
     }
+    if driven {
+        return Err(RecordingRefusal::Driven);
+    }
+    Ok((count, c))
 }
 
-// Whether a recording keeps its layout, and names no point that is marked as driven.
-pub fn judge(recording: &[u8], marks: &[u8]) -> Recording
+// Whether a recording keeps its layout, and names no point that is marked as driven: how many scans, and where the first begins.
+pub fn judge(recording: &[u8], marks: &[u8]) -> Result<(u32, Cursor), RecordingRefusal>
     requires { last_mark < length marks.now }
     ensures { result ≡ judged_of marks.now recording.now }
 {
     if Cursor::MOST_IMAGE < recording.len() {
-        return Recording::Broken;
+        return Err(RecordingRefusal::Broken);
     }
     let front = Cursor { at: 0 };
-    match front.number(recording) {
-        Number::Read(count, past) => {
-            judge_scans(past, front.after(recording, past), marks, count)
-        }
-        Number::Fault(_) => Recording::Broken,
-    }
+    let (count, past) = front.number(recording)?;
+    judge_scans(past, front.after(recording, past), marks, count)
 }
 
 // Takes so many changes, which were judged, into the points: the place behind them.
@@ -194,19 +149,14 @@ fn take_changes(c: Cursor, s: &[u8], points: &mut [u8], count: u32) -> Cursor
     ensures { Taken (read_changes count 0 s.now) points.old c.at s.now points.new result }
 {
     let mut here = c;
-    let mut left = count;
     let mut least = 0;
-    while 0 < left {
-        match read_change(here, c.after(s, here), least) {
-            ChangeRead::Read(q, past) => {
-                let i = q.place as usize;
-                points[i] = q.value as u8;
-                least = q.place + 1;
-                here = past;
-                left -= 1;
-            }
-            ChangeRead::Fault(_) => return here,
-        }
+    for _ in 0..count {
+        let Ok((q, past)) = read_change(here, c.after(s, here), least) else {
+            return here;
+        };
+        points[q.place as usize] = q.value as u8;
+        least = q.place + 1;
+        here = past;
     }
     here
 }
@@ -216,8 +166,8 @@ pub fn take_scan(c: Cursor, s: &[u8], points: &mut [u8]) -> Cursor
     requires { (c.at + length s.now ≤ most_image) × (last_mark < length points.old) × Readable (read_scan s.now) }
     ensures { Taken (read_scan s.now) points.old c.at s.now points.new result }
 {
-    match c.number(s) {
-        Number::Read(count, past) => take_changes(past, c.after(s, past), points, count),
-        Number::Fault(_) => c,
-    }
+    let Ok((count, past)) = c.number(s) else {
+        return c;
+    };
+    take_changes(past, c.after(s, past), points, count)
 }

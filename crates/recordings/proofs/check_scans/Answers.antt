@@ -1,27 +1,12 @@
-use Rattle.recordings.proofs.Checking.{checking_laws}
-use Rattle.std.proofs.Common.{rules}
+use Rattle.refusals.proofs.Handing.{handed_on}
+use Rattle.recordings.proofs.Checking.{scans_stop, scans_on, scans-end}
 use Rattle.recordings.proofs.check_scans.Goals as goal
 
-pub loop-left-init : goal.loop-left-init
-loop-left-init c = search (checking_laws, rules)
+pub returns-in_err-driven : goal.returns-in_err-driven
+returns-in_err-driven c = handed_on c.from_residual.ensures.1 (scans_stop c.loop.invariant c.after.ensures c.loop-test.true c.check_scan.ensures c.in_err-driven.was)
 
-pub after-requires : goal.after-requires
-after-requires c = search (checking_laws, rules)
-
-pub check_scan-requires : goal.check_scan-requires
-check_scan-requires c = search (checking_laws, rules)
-
-pub overflow_sub-left : goal.overflow_sub-left
-overflow_sub-left c = search (checking_laws, rules)
-
-pub loop-left-smaller : goal.loop-left-smaller
-loop-left-smaller c = search (checking_laws, rules)
-
-pub loop-left-preserved : goal.loop-left-preserved
-loop-left-preserved c = search (checking_laws, rules)
-
-pub returns-in-Fault : goal.returns-in-Fault
-returns-in-Fault c = search (checking_laws, rules)
+pub loop-preserved : goal.loop-preserved
+loop-preserved c = scans_on c.loop.invariant c.after.ensures c.loop-test.true c.check_scan.ensures c.in_ok-driven.was
 
 pub returns : goal.returns
-returns c = search (checking_laws, rules)
+returns c = scans-end c.loop.invariant c.loop-test.false

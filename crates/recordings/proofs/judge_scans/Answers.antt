@@ -1,21 +1,15 @@
-use Rattle.recordings.proofs.Judged.{judged_laws}
-use Rattle.std.proofs.Common.{rules}
+use Rattle.refusals.proofs.Handing.{handed_on}
+use Rattle.recordings.proofs.Judged.{judged-fault, judged-longer, judged-driven, judged-kept}
 use Rattle.recordings.proofs.judge_scans.Goals as goal
 
-pub check_scans-requires : goal.check_scans-requires
-check_scans-requires c = search (judged_laws, rules)
-
-pub overflow_add-c : goal.overflow_add-c
-overflow_add-c c = search (judged_laws, rules)
+pub returns-in_err-driven : goal.returns-in_err-driven
+returns-in_err-driven c = handed_on c.from_residual.ensures.1 (judged-fault _ _ _ _ c.check_scans.ensures c.in_err-driven.was)
 
 pub returns-then-past-c : goal.returns-then-past-c
-returns-then-past-c c = search (judged_laws, rules)
+returns-then-past-c c = judged-longer _ _ _ _ c.check_scans.ensures c.in_ok-driven.was c.if-past-c.true
 
 pub returns-then-driven : goal.returns-then-driven
-returns-then-driven c = search (judged_laws, rules)
+returns-then-driven c = judged-driven _ _ _ _ c.check_scans.ensures c.in_ok-driven.was c.if-past-c.false c.if-driven.true
 
-pub returns-else-driven : goal.returns-else-driven
-returns-else-driven c = search (judged_laws, rules)
-
-pub returns-in-Fault : goal.returns-in-Fault
-returns-in-Fault c = search (judged_laws, rules)
+pub returns : goal.returns
+returns c = judged-kept _ _ _ _ c.check_scans.ensures c.in_ok-driven.was c.if-past-c.false c.if-driven.false

@@ -1,39 +1,22 @@
-use Rattle.recordings.proofs.Taking.{taking_laws}
 use Rattle.std.proofs.Common.{rules}
+use Rattle.recordings.proofs.Changes.{change-room, change-byte}
+use Rattle.recordings.proofs.Taking.{taking_no_fault, taking-place, taking_on, taking-end}
 use Rattle.recordings.proofs.take_changes.Goals as goal
 
-pub loop-left-init : goal.loop-left-init
-loop-left-init c = search (taking_laws, rules)
-
-pub after-requires : goal.after-requires
-after-requires c = search (taking_laws, rules)
-
-pub read_change-requires : goal.read_change-requires
-read_change-requires c = search (taking_laws, rules)
-
-pub overflow_cast-i : goal.overflow_cast-i
-overflow_cast-i c = search (taking_laws, rules)
+pub returns-in_default : goal.returns-in_default
+returns-in_default c = taking_no_fault c.loop.invariant c.after.ensures c.loop-test.true c.read_change.ensures c.in_default.is
 
 pub overflow_cast-points : goal.overflow_cast-points
-overflow_cast-points c = search (taking_laws, rules)
+overflow_cast-points c = search (change-byte, rules, c.in-Ok.is)
 
-pub bounds-points-i : goal.bounds-points-i
-bounds-points-i c = search (taking_laws, rules)
+pub bounds-points-q : goal.bounds-points-q
+bounds-points-q c = taking-place c.loop.invariant c.after.ensures c.loop-test.true c.read_change.ensures c.in-Ok.is
 
 pub overflow_add-least : goal.overflow_add-least
-overflow_add-least c = search (taking_laws, rules)
+overflow_add-least c = search (change-room, rules, c.in-Ok.is)
 
-pub overflow_sub-left : goal.overflow_sub-left
-overflow_sub-left c = search (taking_laws, rules)
-
-pub loop-left-smaller : goal.loop-left-smaller
-loop-left-smaller c = search (taking_laws, rules)
-
-pub loop-left-preserved : goal.loop-left-preserved
-loop-left-preserved c = search (taking_laws, rules)
-
-pub returns-in-Fault : goal.returns-in-Fault
-returns-in-Fault c = search (taking_laws, rules)
+pub loop-preserved : goal.loop-preserved
+loop-preserved c = taking_on c.loop.invariant c.after.ensures c.loop-test.true c.read_change.ensures c.in-Ok.is
 
 pub returns : goal.returns
-returns c = search (taking_laws, rules)
+returns c = taking-end c.loop.invariant c.loop-test.false

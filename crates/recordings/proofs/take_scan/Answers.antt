@@ -1,19 +1,16 @@
-use Rattle.numbers.proofs.Answering.{answering}
-use Rattle.recordings.proofs.Taking.{taking_laws}
 use Rattle.std.proofs.Common.{rules}
+use Rattle.numbers.proofs.Answering.{answering}
+use Rattle.recordings.proofs.Taking.{scan_no_fault, scan-readable, scan-taken}
 use Rattle.recordings.proofs.take_scan.Goals as goal
 
-pub number-requires : goal.number-requires
-number-requires c = search (taking_laws, answering, rules)
+pub returns-in_default : goal.returns-in_default
+returns-in_default c = scan_no_fault _ _ c.number.ensures c.requires.2 c.in_default.is
 
 pub after-requires : goal.after-requires
-after-requires c = search (taking_laws, answering, rules)
+after-requires c = search (answering, rules, c.in-Ok.is)
 
 pub take_changes-requires : goal.take_changes-requires
-take_changes-requires c = search (taking_laws, answering, rules)
+take_changes-requires c = search (answering, scan-readable, rules, c.in-Ok.is)
 
-pub returns-in-Read : goal.returns-in-Read
-returns-in-Read c = search (taking_laws, answering, rules)
-
-pub returns-in-Fault : goal.returns-in-Fault
-returns-in-Fault c = search (taking_laws, answering, rules)
+pub returns : goal.returns
+returns c = scan-taken _ _ c.number.ensures c.requires.2 c.in-Ok.is c.after.ensures c.take_changes.ensures
