@@ -6,6 +6,8 @@ use native.Mathlib.Omega.{arith}
 use lib.ListN.{length, drop, set, length-drop, length-append}
 use lib.Seq.{sets, length-sets, drop-drop}
 use borrow.Author.Tests.{eq-eqb, ne_eqb, lt-ltb, le-ltb}
+use Rattle.std.specs.Prelude.{Result, Ok, Err}
+use Rattle.std.specs.Result.{IsErrAnd}
 use Rattle.model.specs.Refusals.{layout}
 use Rattle.model.specs.Reading as m
 use Rattle.model.specs.Reading.{Reader, got, fault, next}
@@ -14,28 +16,24 @@ use Rattle.refusals.specs.declared.Refusal.{Refusal}
 use Rattle.refusals.specs.declared.Refusal.TheVariants.{Layout}
 use Rattle.refusals.specs.Refusing.{refusal_of}
 use Rattle.refusals.proofs.Cases.{case_back}
+use Rattle.refusals.proofs.Handing.{handed_on}
 use Rattle.numbers.specs.declared.Cursor.{Cursor}
-use Rattle.numbers.specs.declared.Number.{Number}
-use Rattle.numbers.specs.declared.Number.TheVariants as number
-use Rattle.numbers.specs.Limits.{most_image}
-use Rattle.numbers.specs.Answers.{kept}
+use Rattle.numbers.specs.Answers.{read_at, kept}
 use Rattle.numbers.proofs.Tails.{Tail}
-use Rattle.numbers.proofs.Answering.{Took, took, refused, number_shape, kept-got, kept-fault, kept_tail}
+use Rattle.numbers.proofs.Answering.{read_shape, Took, took, refused, kept-got, kept-fault, kept_tail}
 use Rattle.bits.specs.declared.Token.{Token}
-use Rattle.bits.specs.declared.TokenRead.{TokenRead}
-use Rattle.bits.specs.declared.TokenRead.TheVariants as token
-use Rattle.bits.specs.Tokens.{token_at, read_token}
-use Rattle.bits.proofs.Tokens.{token_shape, token_tail}
-use Rattle.wiring.specs.Words.{operands, most_words, most_join, place_word, others_of, ending_of}
-use Rattle.wiring.specs.Wiring.{wire_parts, wire_application, wire_contact, wire_token, wire_tree, counted_at, Wrote, Roomy, Closed, Fits}
+use Rattle.bits.specs.Tokens.{read_token}
+use Rattle.bits.proofs.Tokens.{token_tail}
+use Rattle.wiring.specs.Words.{operands, most_words, place_word, others_of, ending_of}
+use Rattle.wiring.specs.Wiring.{wire_parts, wire_application, wire_contact, wire_token, wire_tree, Wrote, Fits}
 use Rattle.wiring.proofs.Runs.{run_more}
 use Rattle.wiring.proofs.Tails.{token-two, parts_tail, tree_tail, parts-few, tree-few}
 
 -- ---- a token
 
-module _ (at : ℕ) (s : List ℕ) {r : TokenRead} {t : Token} {past : Cursor} (h : r ≡ token_at (at + length s) (read_token s)) (e : r ≡ token.Read t past) where
+module _ (at : ℕ) (s : List ℕ) {r : Result (Token × Cursor) Refusal} {t : Token} {past : Cursor} (h : r ≡ read_at (at + length s) (read_token s)) (e : r ≡ Ok (t, past)) where
   pub token_took : Took at s (read_token s) t past.at
-  token_took = took token_shape h e (token_tail s)
+  token_took = took read_shape h e (token_tail s)
 
   pub token-moved : at ≤ past.at
   token-moved = token_took.moved
@@ -66,14 +64,18 @@ next_on j e d = rw (e, d)
 
 -- ---- words written
 
-pub wrote_fault : {count end : ℕ} {g : m.Read (List ℕ)} {code code' : List ℕ} {f : Refusal} → g ≡ fault (refusal_of f) → Wrote count end g code code' (number.Fault f)
-wrote_fault {f = f} e = record { place = rw e (ap number.Fault (sym (case_back f))); written = λ w rest d. absurd (fault≢got (refusal_of f) w rest (sym e ∙ d)) }
+pub wrote_fault : {count end : ℕ} {g : m.Read (List ℕ)} {code code' : List ℕ} {f : Refusal} → g ≡ fault (refusal_of f) → Wrote count end g code code' (Err f)
+wrote_fault {f = f} e = record { place = rw e (ap (λ (x : Refusal). Err x) (sym (case_back f))); written = λ w rest d. absurd (fault≢got (refusal_of f) w rest (sym e ∙ d)) }
 
-wrote_moved : {count a b : ℕ} {g g' : m.Read (List ℕ)} {code code' : List ℕ} {r : Number} → a ≡ b → g' ≡ g → Wrote count a g code code' r → Wrote count b g' code code' r
+-- what `?` hands on
+pub wrote_handed : {count end : ℕ} {g : m.Read (List ℕ)} {code code' : List ℕ} {r : Result (ℕ × Cursor) Refusal} {f : Refusal} → IsErrAnd r (λ e. e ≡ f) → Wrote count end g code code' (Err f) → Wrote count end g code code' r
+wrote_handed h w = record { place = handed_on h w.place; written = w.written }
+
+wrote_moved : {count a b : ℕ} {g g' : m.Read (List ℕ)} {code code' : List ℕ} {r : Result (ℕ × Cursor) Refusal} → a ≡ b → g' ≡ g → Wrote count a g code code' r → Wrote count b g' code code' r
 wrote_moved p q w = rw (q, ← p) w
 
 pub wrote_got : {count : ℕ} (at : ℕ) (s : List ℕ) {g : m.Read (List ℕ)} {w code code' : List ℕ} {more : ℕ} {past : Cursor} → g ≡ got w (drop (past.at - at) s)
-    → past.at + length (drop (past.at - at) s) ≡ at + length s → more ≡ count + length w → code' ≡ sets code count w → Wrote count (at + length s) g code code' (number.Read more past)
+    → past.at + length (drop (past.at - at) s) ≡ at + length s → more ≡ count + length w → code' ≡ sets code count w → Wrote count (at + length s) g code code' (Ok (more, past))
 wrote_got {count} at s {w = w} {code = code} {past = past} e ends n c =
     let p : at + length s - length (drop (past.at - at) s) ≡ past.at = omega arith in
     record {
@@ -91,15 +93,15 @@ pub record Gave (count at : ℕ) (s : List ℕ) (g : m.Read (List ℕ)) (code co
   pub within : place ≤ at + length s
   pub ends : place + length (drop (place - at) s) ≡ at + length s
 
-pub gave : {count : ℕ} (at : ℕ) (s : List ℕ) {g : m.Read (List ℕ)} {code code' : List ℕ} {r : Number} {more : ℕ} {past : Cursor} → Wrote count (at + length s) g code code' r → r ≡ number.Read more past → Tail s g
+pub gave : {count : ℕ} (at : ℕ) (s : List ℕ) {g : m.Read (List ℕ)} {code code' : List ℕ} {r : Result (ℕ × Cursor) Refusal} {more : ℕ} {past : Cursor} → Wrote count (at + length s) g code code' r → r ≡ Ok (more, past) → Tail s g
     → Gave count at s g code code' more past.at
 gave {count} at s {g} {past = past} w e t =
-    let T = took number_shape w.place e (kept_tail (λ (x : List ℕ). count + length x) t) in
+    let T = took read_shape w.place e (kept_tail (λ (x : List ℕ). count + length x) t) in
     let K = kept-got (λ (x : List ℕ). count + length x) g _ (drop (past.at - at) s) T.is in
     record { words = K.value; is = K.is; counted = sym K.value-is; stored = w.written K.value (drop (past.at - at) s) K.is; moved = T.moved; within = T.within; ends = T.ends }
 
-pub wrote_refused : {count : ℕ} (end : ℕ) (g : m.Read (List ℕ)) {code code' : List ℕ} {r : Number} {f : Refusal} → Wrote count end g code code' r → r ≡ number.Fault f → g ≡ fault (refusal_of f)
-wrote_refused {count} end g {f = f} w e = kept-fault (λ (x : List ℕ). count + length x) g (refusal_of f) (refused number_shape end (kept (λ (x : List ℕ). count + length x) g) w.place e)
+pub wrote_refused : {count : ℕ} (end : ℕ) (g : m.Read (List ℕ)) {code code' : List ℕ} {r : Result (ℕ × Cursor) Refusal} {f : Refusal} → Wrote count end g code code' r → r ≡ Err f → g ≡ fault (refusal_of f)
+wrote_refused {count} end g {f = f} w e = kept-fault (λ (x : List ℕ). count + length x) g (refusal_of f) (refused read_shape end (kept (λ (x : List ℕ). count + length x) g) w.place e)
 
 -- ---- an expression
 
@@ -122,19 +124,19 @@ module _ (part : ℕ → Reader (List ℕ)) (table : List ℕ) (j : ℕ) (t : To
   by-contact e l = rw (ne_eqb t.tag 1 e, lt-ltb t.content operands l)
 
 module _ (at count l j : ℕ) (table s code : List ℕ) where
-  pub tree_deep : {code' : List ℕ} → l ≡ 0 → Wrote count (at + length s) (wire_tree table l j s) code code' (number.Fault Layout)
+  pub tree_deep : {code' : List ℕ} → l ≡ 0 → Wrote count (at + length s) (wire_tree table l j s) code code' (Err Layout)
   unfolding wire_tree
   tree_deep e = wrote_fault (rw e)
 
-  module _ (some : l ≡ 0 → ⊥) {r : TokenRead} (h : r ≡ token_at (at + length s) (read_token s)) where
-    pub tree-stops : {f : Refusal} {code' : List ℕ} → r ≡ token.Fault f → Wrote count (at + length s) (wire_tree table l j s) code code' (number.Fault f)
-    tree-stops e = wrote_fault (tree_is table l j s some ∙ rw (refused token_shape (at + length s) (read_token s) h e))
+  module _ (some : l ≡ 0 → ⊥) {r : Result (Token × Cursor) Refusal} (h : r ≡ read_at (at + length s) (read_token s)) where
+    pub tree-stops : {f : Refusal} {code' : List ℕ} → r ≡ Err f → Wrote count (at + length s) (wire_tree table l j s) code code' (Err f)
+    tree-stops e = wrote_fault (tree_is table l j s some ∙ rw (refused read_shape (at + length s) (read_token s) h e))
 
-    module _ {t : Token} {past : Cursor} (e : r ≡ token.Read t past) where
+    module _ {t : Token} {past : Cursor} (e : r ≡ Ok (t, past)) where
       on : wire_tree table l j s ≡ wire_token (wire_tree table (l - 1)) table j t (drop (past.at - at) s)
       on = let T = token_took at s h e in tree_is table l j s some ∙ rw T.is
 
-      pub tree_application : {u code' : List ℕ} {x : Number} → t.tag ≡ 1 → u ≡ drop (past.at - at) s → Wrote count (past.at + length u) (wire_application (wire_tree table (l - 1)) j t.content u) code code' x
+      pub tree_application : {u code' : List ℕ} {x : Result (ℕ × Cursor) Refusal} → t.tag ≡ 1 → u ≡ drop (past.at - at) s → Wrote count (past.at + length u) (wire_application (wire_tree table (l - 1)) j t.content u) code code' x
           → Wrote count (at + length s) (wire_tree table l j s) code code' x
       tree_application {u} q i a =
           let T = token_took at s h e in
@@ -142,37 +144,47 @@ module _ (at count l j : ℕ) (table s code : List ℕ) where
           wrote_moved z (on ∙ by_application (wire_tree table (l - 1)) table j t (drop (past.at - at) s) q ∙ ap (λ (v : List ℕ). wire_application (wire_tree table (l - 1)) j t.content v) (sym i)) a
 
       module _ (q : t.tag ≡ 1 → ⊥) where
-        pub tree-large : {code' : List ℕ} → operands ≤ t.content → Wrote count (at + length s) (wire_tree table l j s) code code' (number.Fault Layout)
+        pub tree-large : {code' : List ℕ} → operands ≤ t.content → Wrote count (at + length s) (wire_tree table l j s) code code' (Err Layout)
         tree-large k = wrote_fault (on ∙ by-large (wire_tree table (l - 1)) table j t (drop (past.at - at) s) q k)
 
         pub tree-contact : {w b more : ℕ} {code' : List ℕ} → t.content < operands → b ≡ j + 3 → w ≡ place_word table j b t → more ≡ count + 1 → code' ≡ set code count w
-            → Wrote count (at + length s) (wire_tree table l j s) code code' (number.Read more past)
+            → Wrote count (at + length s) (wire_tree table l j s) code code' (Ok (more, past))
         tree-contact {w} k b a n c =
             let T = token_took at s h e in
             wrote_got at s (on ∙ by-contact (wire_tree table (l - 1)) table j t (drop (past.at - at) s) q k) T.ends n (rw (← b, ← a) c)
 
 -- ---- an application
 
-module _ (at count l j n : ℕ) (table s code : List ℕ) {r : TokenRead} (h : r ≡ token_at (at + length s) (read_token s)) where
-  pub application_stops : {f : Refusal} {code' : List ℕ} → r ≡ token.Fault f → Wrote count (at + length s) (wire_application (wire_tree table l) j n s) code code' (number.Fault f)
+module _ (at count l j n : ℕ) (table s code : List ℕ) {r : Result (Token × Cursor) Refusal} (h : r ≡ read_at (at + length s) (read_token s)) where
+  pub application_stops : {f : Refusal} {code' : List ℕ} → r ≡ Err f → Wrote count (at + length s) (wire_application (wire_tree table l) j n s) code code' (Err f)
   unfolding wire_application
-  application_stops e = wrote_fault (rw (refused token_shape (at + length s) (read_token s) h e))
+  application_stops e = wrote_fault (rw (refused read_shape (at + length s) (read_token s) h e))
 
-  module _ {t : Token} {past : Cursor} {u code' : List ℕ} {o : ℕ} {q : Number} (e : r ≡ token.Read t past) (i : u ≡ drop (past.at - at) s) (k : o ≡ others_of t.content)
+  module _ {t : Token} {past : Cursor} {u code' : List ℕ} {o : ℕ} {q : Result (ℕ × Cursor) Refusal} (e : r ≡ Ok (t, past)) (i : u ≡ drop (past.at - at) s) (k : o ≡ others_of t.content)
       (a : Wrote count (past.at + length u) (wire_parts (wire_tree table l) 0 o [] (n - 1) u) code code' q) where
     behind : wire_application (wire_tree table l) j n s ≡ next (wire_parts (wire_tree table l) 0 o [] (n - 1) u) (λ w v. got (w ++ ending_of t.content j) v)
     unfolding wire_application
     behind = let T = token_took at s h e in rw (T.is, ← i, ← k)
 
-    pub parts_stop : {f : Refusal} {code'' : List ℕ} → q ≡ number.Fault f → Wrote count (at + length s) (wire_application (wire_tree table l) j n s) code code'' (number.Fault f)
+    pub parts_stop : {f : Refusal} {code'' : List ℕ} → q ≡ Err f → Wrote count (at + length s) (wire_application (wire_tree table l) j n s) code code'' (Err f)
     parts_stop d = wrote_fault (behind ∙ rw (wrote_refused (past.at + length u) (wire_parts (wire_tree table l) 0 o [] (n - 1) u) a d))
 
-    module _ {more : ℕ} {end : Cursor} (d : q ≡ number.Read more end) where
+    module _ {more : ℕ} {end : Cursor} (d : q ≡ Ok (more, end)) where
       parts_gave : Gave count past.at u (wire_parts (wire_tree table l) 0 o [] (n - 1) u) code code' more end.at
       parts_gave = gave past.at u a d (parts_tail (wire_tree table l) (tree_tail table l) (n - 1) 0 o [] u)
 
+      -- for the two bytes of each token there are two words more
+      pub parts_room : {around codes : List ℕ} → Fits at s around codes (count + 1) → more + 2 ≤ most_words
+      parts_room f =
+          let G = parts_gave in
+          let x = parts-few (wire_tree table l) (tree-few table l) (n - 1) 0 o [] u G.words (drop (end.at - past.at) u) G.is in
+          let T = token_took at s h e in
+          let z : past.at + length u ≡ at + length s = rw i T.ends in
+          let y = token_far at s h e in
+          omega (arith, G.counted, G.ends, G.within, f.half, f.short)
+
       pub application_done : {all : ℕ} {code'' : List ℕ} → all ≡ more + length (ending_of t.content j) → code'' ≡ sets code' more (ending_of t.content j)
-          → Wrote count (at + length s) (wire_application (wire_tree table l) j n s) code code'' (number.Read all end)
+          → Wrote count (at + length s) (wire_application (wire_tree table l) j n s) code code'' (Ok (all, end))
       application_done {all} {code''} x c =
           let G = parts_gave in
           let T = token_took at s h e in
@@ -186,114 +198,53 @@ module _ (at count l j n : ℕ) (table s code : List ℕ) {r : TokenRead} (h : r
           wrote_got at s g m w
           (run_more code count G.words (ending_of t.content j) G.counted G.stored c)
 
--- for the two bytes of each token there are two words more
-pub parts_roomy : (count l n o : ℕ) (past : Cursor) (table u code code' : List ℕ) (q : Number) → Wrote count (past.at + length u) (wire_parts (wire_tree table l) 0 o [] (n - 1) u) code code' q
-    → (r : TokenRead) (t : Token) → r ≡ token.Read t past → (at : ℕ) (s : List ℕ) → r ≡ token_at (at + length s) (read_token s) → u ≡ drop (past.at - at) s
-    → (around codes : List ℕ) → Fits at s around codes (count + 1) → Roomy 2 q
-parts_roomy count l n o past table u code code' q a r t e at s h i around codes f = record {
-  few = λ more end d.
-      (let G = gave past.at u a d (parts_tail (wire_tree table l) (tree_tail table l) (n - 1) 0 o [] u) in
-      let x = parts-few (wire_tree table l) (tree-few table l) (n - 1) 0 o [] u G.words (drop (end.at - past.at) u) G.is in
-      let T = token_took at s h e in
-      let z : past.at + length u ≡ at + length s = rw i T.ends in
-      let y = token_far at s h e in
-      omega (arith, G.counted, G.ends, G.within, f.half, f.short));
-}
-
-pub room-here : (k : ℕ) (q : Number) {n : ℕ} {c : Cursor} → Roomy k q → q ≡ number.Read n c → n + k ≤ most_words
-room-here k q {n} {c} r e = r.few n c e
-
-pub read≢fault : {n : ℕ} {c : Cursor} {f : Refusal} → number.Read n c ≡ number.Fault f → ⊥
-read≢fault e = let z : ◌≡◌ {A = ℕ} 0 1 = cc in omega arith
-
-pub read_count : {n m : ℕ} {c d : Cursor} → number.Read n c ≡ number.Read m d → n ≡ m
-read_count e = cc
-
-pub read-place : {n m : ℕ} {c d : Cursor} → number.Read n c ≡ number.Read m d → c ≡ d
-read-place e = cc
-
-pub close_read : {q : Number} {rung join n all : ℕ} {c : Cursor} {code code' : List ℕ} → q ≡ number.Read n c → all ≡ n + length (ending_of rung join) → code' ≡ sets code n (ending_of rung join)
-    → Closed q rung join code code' (number.Read all c)
-close_read {rung = rung} {join = join} {n = n} {c = c} {code = code} e a w = record {
-  read = λ m d i. (rw (a, read_count (sym e ∙ i), read-place (sym e ∙ i)));
-  written = λ m d i. (w ∙ ap (λ (k : ℕ). sets code k (ending_of rung join)) (read_count (sym e ∙ i)));
-  fault = λ f i. absurd (read≢fault (sym e ∙ i));
-}
-
-pub close_fault : {q : Number} {rung join : ℕ} {code code' : List ℕ} {f : Refusal} → q ≡ number.Fault f → Closed q rung join code code' (number.Fault f)
-close_fault e = record {
-  read = λ m d i. absurd (read≢fault (sym i ∙ e));
-  written = λ m d i. absurd (read≢fault (sym i ∙ e));
-  fault = λ g i. (sym e ∙ i);
-}
-
-pub application_closed : (at count l j n : ℕ) (table s code : List ℕ) {r : TokenRead} → r ≡ token_at (at + length s) (read_token s) → {t : Token} {past : Cursor} {u code' : List ℕ} {o : ℕ} {q : Number}
-    → r ≡ token.Read t past → u ≡ drop (past.at - at) s → o ≡ others_of t.content → Wrote count (past.at + length u) (wire_parts (wire_tree table l) 0 o [] (n - 1) u) code code' q
-    → {code'' : List ℕ} {x : Number} → Closed q t.content j code' code'' x → Wrote count (at + length s) (wire_application (wire_tree table l) j n s) code code'' x
-application_closed at count l j n table s code h {t} {past} {u} {code'} {o} {q} e i k a {code''} {x} c = go (wire_parts (wire_tree table l) 0 o [] (n - 1) u) refl
-  where
-    go : (g : m.Read (List ℕ)) → wire_parts (wire_tree table l) 0 o [] (n - 1) u ≡ g → Wrote count (at + length s) (wire_application (wire_tree table l) j n s) code code'' x
-    go (got w rest) y =
-        let d = a.place ∙ ap (λ (z : m.Read (List ℕ)). counted_at count (past.at + length u) z) y in
-        rw (c.read _ _ d) (application_done at count l j n table s code h e i k a d refl (c.written _ _ d))
-    go (fault f) y =
-        let d = a.place ∙ ap (λ (z : m.Read (List ℕ)). counted_at count (past.at + length u) z) y in
-        rw (c.fault _ d) (parts_stop at count l j n table s code h e i k a d)
-
 -- ---- one part after another
 
-pub record Parts (at l : ℕ) (table s : List ℕ) (count others parts : ℕ) (code₀ : List ℕ) (here left words join : ℕ) (code : List ℕ) : Type 0 where
+pub record Parts (at l : ℕ) (table s : List ℕ) (count others parts : ℕ) (code₀ : List ℕ) (here done words join : ℕ) (code : List ℕ) : Type 0 where
   pub moved : at ≤ here
   pub within : here ≤ at + length s
   pub half : 2 * words ≤ here
-  pub joined : join ≤ most_join
   pub long : most_words ≤ length code
   pub same : length code ≡ length code₀
   pub before : List ℕ
   pub counted : words ≡ count + length before
   pub stored : code ≡ sets code₀ count before
-  pub is : wire_parts (wire_tree table l) 0 others [] (parts - 1) s ≡ wire_parts (wire_tree table l) join others before (left - 1) (drop (here - at) s)
+  pub is : wire_parts (wire_tree table l) 0 others [] (parts - 1) s ≡ wire_parts (wire_tree table l) join others before (parts - done) (drop (here - at) s)
 
-pub parts-start : {at l : ℕ} {table around s : List ℕ} {count others parts : ℕ} {code : List ℕ} → Fits at s around code count → Parts at l table s count others parts code at parts count 0 code
+pub parts-start : {at l : ℕ} {table around s : List ℕ} {count others parts : ℕ} {code : List ℕ} → Fits at s around code count → Parts at l table s count others parts code at 1 count 0 code
 parts-start {at} f =
     let e : at - at ≡ 0 = omega arith in
-    record { moved = omega arith; within = omega arith; half = f.half; joined = omega arith; long = f.long; same = refl; before = []; counted = omega arith; stored = refl; is = rw e }
+    record { moved = omega arith; within = omega arith; half = f.half; long = f.long; same = refl; before = []; counted = omega arith; stored = refl; is = rw e }
 
-one-part : (part : ℕ → Reader (List ℕ)) (j o : ℕ) (before : List ℕ) (left : ℕ) (s : List ℕ) → 1 < left → wire_parts part j o before (left - 1) s ≡ next (part j s) (λ w. wire_parts part o o (before ++ w) (left - 1 - 1))
+one-part : (part : ℕ → Reader (List ℕ)) (j o : ℕ) (before : List ℕ) (left : ℕ) (s : List ℕ) → 0 < left → wire_parts part j o before left s ≡ next (part j s) (λ w. wire_parts part o o (before ++ w) (left - 1))
 unfolding wire_parts
 one-part part j o before zero s h = absurd (omega arith)
-one-part part j o before (suc zero) s h = absurd (omega arith)
-one-part part j o before (suc (suc left)) s h =
-    let a : suc (suc left) - 1 ≡ suc left = omega arith in
-    let b : suc left - 1 ≡ left = omega arith in
-    rw (a, b)
+one-part part j o before (suc left) s h = let e : suc left - 1 ≡ left = omega arith in rw e
 
-no_part : (part : ℕ → Reader (List ℕ)) (j o : ℕ) (before : List ℕ) (left : ℕ) (s : List ℕ) → left ≤ 1 → wire_parts part j o before (left - 1) s ≡ got before s
+no_part : (part : ℕ → Reader (List ℕ)) (j o : ℕ) (before : List ℕ) (left : ℕ) (s : List ℕ) → left ≡ 0 → wire_parts part j o before left s ≡ got before s
 unfolding wire_parts
-no_part part j o before left s h = let e : left - 1 ≡ 0 = omega arith in rw e
+no_part part j o before left s e = rw e
 
-module _ {at l : ℕ} {table s : List ℕ} {count others parts : ℕ} {code₀ : List ℕ} {here left words join : ℕ} {code : List ℕ} (p : Parts at l table s count others parts code₀ here left words join code) where
-  pub parts-fit : {around u : List ℕ} → at + length s ≤ most_image → operands ≤ length around → u ≡ drop (here - at) s → Fits here u around code words
-  parts-fit {u = u} a n i =
-      let k = ap length i ∙ length-drop (here - at) s in
-      record { short = omega (arith, p.moved, p.within); half = p.half; named = n; long = p.long }
-
-  pub parts-done : {c : Cursor} → here ≡ c.at → left ≤ 1 → Wrote count (at + length s) (wire_parts (wire_tree table l) 0 others [] (parts - 1) s) code₀ code (number.Read words c)
+module _ {at l : ℕ} {table s : List ℕ} {count others parts : ℕ} {code₀ : List ℕ} {here done words join : ℕ} {code : List ℕ} (p : Parts at l table s count others parts code₀ here done words join code) where
+  pub parts-done : {c : Cursor} → here ≡ c.at → parts ≤ done → Wrote count (at + length s) (wire_parts (wire_tree table l) 0 others [] (parts - 1) s) code₀ code (Ok (words, c))
   parts-done {c} q h =
       let k = length-drop (here - at) s in
       let m : here + length (drop (here - at) s) ≡ at + length s = omega (arith, p.moved, p.within) in
-      let g : wire_parts (wire_tree table l) 0 others [] (parts - 1) s ≡ got p.before (drop (c.at - at) s) = p.is ∙ no_part (wire_tree table l) join others p.before left (drop (here - at) s) h ∙ rw q in
+      let g : wire_parts (wire_tree table l) 0 others [] (parts - 1) s ≡ got p.before (drop (c.at - at) s) = p.is ∙ no_part (wire_tree table l) join others p.before (parts - done) (drop (here - at) s) (omega arith) ∙ rw q in
       wrote_got at s g (rw (← q) m) p.counted p.stored
 
-  module _ (some : 1 < left) {u : List ℕ} (i : u ≡ drop (here - at) s) {code' : List ℕ} {r : Number} (w : Wrote words (here + length u) (wire_tree table l join u) code code' r) where
-    step : wire_parts (wire_tree table l) 0 others [] (parts - 1) s ≡ next (wire_tree table l join u) (λ x. wire_parts (wire_tree table l) others others (p.before ++ x) (left - 1 - 1))
-    step = p.is ∙ ap (wire_parts (wire_tree table l) join others p.before (left - 1)) (sym i) ∙ one-part (wire_tree table l) join others p.before left u some
+  module _ (some : done < parts) {u : List ℕ} (i : u ≡ drop (here - at) s) {code' : List ℕ} {r : Result (ℕ × Cursor) Refusal} (w : Wrote words (here + length u) (wire_tree table l join u) code code' r) where
+    step : wire_parts (wire_tree table l) 0 others [] (parts - 1) s ≡ next (wire_tree table l join u) (λ x. wire_parts (wire_tree table l) others others (p.before ++ x) (parts - (done + 1)))
+    step =
+        let k : 0 < parts - done = omega arith in
+        let z : parts - (done + 1) ≡ parts - done - 1 = omega arith in
+        p.is ∙ ap (wire_parts (wire_tree table l) join others p.before (parts - done)) (sym i) ∙ rw z (one-part (wire_tree table l) join others p.before (parts - done) u k)
 
-    pub part-stops : {f : Refusal} {code'' : List ℕ} → r ≡ number.Fault f → Wrote count (at + length s) (wire_parts (wire_tree table l) 0 others [] (parts - 1) s) code₀ code'' (number.Fault f)
+    pub part-stops : {f : Refusal} {code'' : List ℕ} → r ≡ Err f → Wrote count (at + length s) (wire_parts (wire_tree table l) 0 others [] (parts - 1) s) code₀ code'' (Err f)
     part-stops e = wrote_fault (step ∙ rw (wrote_refused (here + length u) (wire_tree table l join u) w e))
 
-    pub part-more : {more : ℕ} {past : Cursor} → others ≤ most_join → r ≡ number.Read more past → Parts at l table s count others parts code₀ past.at (left - 1) more others code'
-    part-more {more} {past} o e =
+    pub part-more : {more : ℕ} {past : Cursor} → r ≡ Ok (more, past) → Parts at l table s count others parts code₀ past.at (done + 1) more others code'
+    part-more {more} {past} e =
         let G = gave here u w e (tree_tail table l join u) in
         let x = tree-few table l join u G.words (drop (past.at - here) u) G.is in
         let long : length u ≡ length s - (here - at) = ap length i ∙ length-drop (here - at) s in
@@ -306,13 +257,12 @@ module _ {at l : ℕ} {table s : List ℕ} {count others parts : ℕ} {code₀ :
           moved = omega (arith, G.moved, p.moved);
           within = omega (arith, G.within, p.moved, p.within);
           half = omega (arith, G.counted, G.ends, p.half);
-          joined = o;
           long = omega (arith, p.long);
           same = y ∙ p.same;
           before = p.before ++ G.words;
           counted = omega (arith, G.counted, p.counted);
           stored = c;
-          is = step ∙ next_on (λ x. wire_parts (wire_tree table l) others others (p.before ++ x) (left - 1 - 1)) G.is rest;
+          is = step ∙ next_on (λ x. wire_parts (wire_tree table l) others others (p.before ++ x) (parts - (done + 1))) G.is rest;
         }
 
 -- ---- levels fall
@@ -323,9 +273,5 @@ application_less levels e h = omega arith
 pub parts_less : (levels : ℕ) {t : ℕ} → 4 * levels + 2 ≡ t → 4 * levels + 1 < t
 parts_less levels e = omega arith
 
-pub tree_less : (levels : ℕ) {t : ℕ} → 4 * levels + 1 ≡ t → 4 * levels < t
-tree_less levels e = omega arith
-
-pub ruleset expression_laws = (token-moved, token-within, token-fits, token-room, fits_more, fits_on, tree_deep, tree-stops, tree_application, tree-large, tree-contact, application_stops, application_closed, parts_roomy, parts-start, parts-fit, parts-done, part-stops, part-more, application_less, parts_less, tree_less)
-
-pub ruleset closing_laws = (room-here, close_read, close_fault)
+-- what the calls ask
+pub ruleset expression_laws = (fits_more, fits_on, application_less, parts_less)

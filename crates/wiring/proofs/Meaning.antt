@@ -10,7 +10,6 @@ use lib.Dec.{eqb, leb, eqb-suc-zero, eqb-suc-suc}
 use lib.ListN.{length, set, length-append, length-set}
 use lib.Seq.{get_or-set_same, get_or-set_other}
 use borrow.Author.Tests.{eqb-true, eqb-false}
-use Rattle.model.specs.Choice.{when◌then◌else◌}
 use Rattle.model.specs.Limits.{last_point}
 use Rattle.model.specs.Objects.{symbol, number, point, prim, rung, tag_of, content_of}
 use Rattle.model.specs.Trees.{Tree, var, app, fun, datum, lst, stx, Trees, tnil, tcons, tcount, tnesting, tnestings}

@@ -7,6 +7,7 @@ use native.Mathlib.Omega.{arith}
 use lib.ListN.{length, take, replicate, length-replicate, get_or-replicate, length-map}
 use Rattle.model.specs.Limits.{most_nesting, most_scopes, most_names}
 use Rattle.model.specs.Trees.{Tree}
+use Rattle.std.specs.Prelude.{Result, Ok, Err}
 use Rattle.model.specs.Reading as m
 use Rattle.model.specs.Reading.{got, read_tree}
 use Rattle.model.specs.Writing.{tree_bytes}
@@ -21,13 +22,11 @@ use Rattle.requests.proofs.Starts.{as_many_starts}
 use Rattle.ladder.specs.Code.{word_of, rungs}
 use Rattle.bits.specs.Meeting.{room}
 use Rattle.wiring.specs.declared.Wired.{Wired}
-use Rattle.wiring.specs.declared.WiredRead.{WiredRead}
-use Rattle.wiring.specs.declared.WiredRead.TheVariants.{Read, Fault}
 use Rattle.wiring.specs.Words.{operands, most_words}
 use Rattle.wiring.specs.Wiring.{wire_program, wired_at, Wires, Fits, none_around, Holds, Tells}
 use Rattle.wiring.proofs.Runs.{take-sets}
 use Rattle.wiring.proofs.ProgramTails.{program-few}
-use Rattle.wiring.proofs.Programs.{wired-value, wired≢fault}
+use Rattle.numbers.proofs.Answering.{ok_same, ok-err}
 use Rattle.wiring.proofs.ExpressionMeaning.{Same}
 use Rattle.wiring.proofs.Meaning.{code_and_starts, program-wired}
 
@@ -55,7 +54,7 @@ root-wired h s t f b r e few short =
 abbrev none : Wired
 none = record { words = 0; bits = 0 }
 
-module _ (at : ℕ) (s code bits : List ℕ) {around code' bits' : List ℕ} {r : WiredRead} (a : Wires none (at + length s) (wire_program 64 around 0 s) code bits code' bits' r) (o : around ≡ none_around) (f : Fits at s around code 0) (l : room ≤ length bits) where
+module _ (at : ℕ) (s code bits : List ℕ) {around code' bits' : List ℕ} {r : Result (Wired × Cursor) Refusal} (a : Wires none (at + length s) (wire_program 64 around 0 s) code bits code' bits' r) (o : around ≡ none_around) (f : Fits at s around code 0) (l : room ≤ length bits) where
   module _ (h : m.Head) (t : Tree) (i : HeadFits h) (b : Bytes s) (q : read_tree most_nesting h 0 s ≡ got t []) (e : is_program t ≡ true) (few : length (bits_of t) ≤ room) where
     given_is : wire_program 64 around 0 s ≡ got (code_and_starts [] 0 t) []
     given_is = ap (λ (z : List ℕ). wire_program 64 z 0 s) o ∙ root-wired h s t i b q e few (omega (arith, f.short))
@@ -63,10 +62,10 @@ module _ (at : ℕ) (s code bits : List ℕ) {around code' bits' : List ℕ} {r 
     answer-is : r ≡ wired_at none (at + length s) (got (code_and_starts [] 0 t) [])
     answer-is = a.place ∙ ap (wired_at none (at + length s)) given_is
 
-    holds : {w : Wired} {past : Cursor} → r ≡ Read w past → Holds t code' bits' w
+    holds : {w : Wired} {past : Cursor} → r ≡ Ok (w, past) → Holds t code' bits' w
     unfolding bits_of
     holds {w} {past} d =
-        let v = wired-value (sym d ∙ answer-is) in
+        let v = ap (λ (y : Wired × Cursor). y.0) (ok_same (sym d ∙ answer-is)) in
         let n : w.words ≡ length (map word_of (rungs [] 0 t)) = (let x : w.words ≡ 0 + length (map word_of (rungs [] 0 t)) = ap (λ (y : Wired). y.words) v in omega arith) in
         let k : w.bits ≡ length (starts t) = (let x : w.bits ≡ 0 + length (starts t) = ap (λ (y : Wired). y.bits) v in omega arith) in
         let m = as_many_starts t e in
@@ -80,13 +79,11 @@ module _ (at : ℕ) (s code bits : List ℕ) {around code' bits' : List ℕ} {r 
           bits_are = ap₂ (λ (c : ℕ) (p : List ℕ). take c p) k (a.started (code_and_starts [] 0 t) [] given_is) ∙ take-sets bits (starts t) z;
         }
 
-  pub root-read : {w : Wired} {past : Cursor} → r ≡ Read w past → Tells s code' bits' w
+  pub root-read : {w : Wired} {past : Cursor} → r ≡ Ok (w, past) → Tells s code' bits' w
   root-read d h t i b q e few = holds h t i b q e few d
 
-  pub root-fault : {x : Refusal} {w : Wired} {code'' bits'' : List ℕ} → r ≡ Fault x → Tells s code'' bits'' w
-  root-fault d h t i b q e few = absurd (wired≢fault (sym (answer-is h t i b q e few) ∙ d))
+  pub root-fault : {x : Refusal} {w : Wired} {code'' bits'' : List ℕ} → r ≡ Err x → Tells s code'' bits'' w
+  root-fault d h t i b q e few = absurd (ok-err (sym (answer-is h t i b q e few) ∙ d))
 
 pub fits-none : {at : ℕ} {s code : List ℕ} → at + length s ≤ most_image → most_words ≤ length code → Fits at s none_around code 0
 fits-none a l = record { short = a; half = omega arith; named = (let e : length (replicate {A = ℕ} operands 0) ≡ operands = length-replicate {A = ℕ} operands 0 in omega arith); long = l }
-
-pub ruleset root_laws = (root-read, root-fault, fits-none)

@@ -1,6 +1,6 @@
 -- The words of the code, by the tests that the code makes.
 use Prim.Native.Nat.{ℕ, ◌+◌, ◌*◌, ◌≤◌, ◌<◌}
-use mathlib.Core.Path.{◌≡◌, ap, ◌∙◌}
+use mathlib.Core.Path.{◌≡◌, refl, ap, ◌∙◌}
 use mathlib.Core.Bool.{Bool, true, false}
 use mathlib.Core.List.{List, [], ◌∷◌, ◌++◌, append-nil}
 use native.Mathlib.Omega.{arith}
@@ -10,7 +10,9 @@ use lib.Seq.{sets}
 use borrow.Author.Tests.{eq-eqb, ne_eqb}
 use Rattle.model.specs.Choice.{when◌then◌else◌}
 use Rattle.bits.specs.declared.Token.{Token}
-use Rattle.wiring.specs.Words.{operands, most_words, place_word, others_of, turn_of, join_word, ending_of}
+use Rattle.wiring.specs.Words.{operands, most_words, join_number, place_word, others_of, turn_of, join_word, ending_of}
+use Rattle.wiring.specs.declared.words.Join.{Join}
+use Rattle.wiring.specs.declared.words.Join.TheVariants.{Load, Series, Parallel}
 use Rattle.wiring.proofs.Runs.{sets_more}
 
 module _ (table : List ℕ) (p b : ℕ) (t : Token) {w : ℕ} where
@@ -59,6 +61,11 @@ turn_few n = go (eqb n 2)
 
 -- ---- behind the parts
 
+pub no_load : (j : Join) → (j ≡ Load → ⊥) → join_number j ≡ 0 → ⊥
+no_load Load h e = h refl
+no_load Series h e = omega arith
+no_load Parallel h e = omega arith
+
 module _ (n join count : ℕ) {turned : ℕ} (t : turned ≡ count + length (turn_of n)) where
   pub turned_few : count + 2 ≤ most_words → turned < most_words
   turned_few h = omega (arith, turn_few n)
@@ -81,5 +88,3 @@ module _ (n join count : ℕ) {turned : ℕ} (t : turned ≡ count + length (tur
     join-code {code''} {w} {k} h i q d =
         let z : w ≡ (5 + join) * operands = omega arith in
         rw (ne_eqb join 0 h, ← sets_more code count (turn_of n) ((5 + join) * operands ∷ []), ← c, ← t, ← z) d
-
-pub ruleset word_laws = (place-bit, place-point, others-and, others-or, turn_count, turn_code, straight_count, straight_code, turned_few, load-count, join-count, load_code, join-code)

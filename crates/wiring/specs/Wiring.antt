@@ -1,6 +1,6 @@
 -- A tree of an image read as code: the words of an expression, and the words and start values of a program. `table` has the addresses of
 -- the bits around, by their names. What is no program is read somehow, or not at all: the image has been checked.
-use Rattle.std.specs.Prelude.{ℕ, zero, suc, ◌+◌, ◌-◌, ◌*◌, ◌≤◌, ◌<◌, ◌≡◌, true, List, [], ◌∷◌, ◌++◌, map, eqb, ltb, leb, length, set, take, drop, replicate}
+use Rattle.std.specs.Prelude.{ℕ, zero, suc, ◌+◌, ◌-◌, ◌*◌, ◌≤◌, ◌≡◌, true, List, [], ◌∷◌, ◌++◌, map, eqb, ltb, leb, length, set, take, replicate, Result}
 use Rattle.std.proofs.lemmas.List.Edits.{sets}
 use Rattle.model.specs.Choice.{when◌then◌else◌}
 use Rattle.model.specs.Limits.{most_nesting}
@@ -14,17 +14,12 @@ use Rattle.requests.specs.Scanning.{starts}
 use Rattle.ladder.specs.Code.{word_of, rungs}
 use Rattle.numbers.specs.declared.Cursor.{Cursor}
 use Rattle.refusals.specs.declared.Refusal.{Refusal}
-use Rattle.refusals.specs.declared.Refusal.TheVariants.{Layout}
-use Rattle.numbers.specs.declared.Number.{Number}
-use Rattle.numbers.specs.declared.Number.TheVariants as number
 use Rattle.numbers.specs.Limits.{most_image}
-use Rattle.numbers.specs.Answers.{answer_at, number_at, kept}
+use Rattle.numbers.specs.Answers.{read_at, kept}
 use Rattle.bits.specs.declared.Token.{Token}
 use Rattle.bits.specs.Tokens.{read_token}
 use Rattle.bits.specs.Meeting.{room}
 use Rattle.wiring.specs.declared.Wired.{Wired}
-use Rattle.wiring.specs.declared.WiredRead.{WiredRead}
-use Rattle.wiring.specs.declared.WiredRead.TheVariants.{Read, Fault}
 use Rattle.wiring.specs.Words.{operands, most_words, place_word, others_of, ending_of}
 
 -- ---- expressions: `part` reads a part whose value is taken as it is told
@@ -136,61 +131,31 @@ wire_program (suc l) table next = do
 -- ---- what the code says of it
 
 -- words so far
-abbrev pub counted_at : ℕ → ℕ → m.Read (List ℕ) → Number
-counted_at count end g = number_at end (kept (λ (w : List ℕ). count + length w) g)
+abbrev pub counted_at : ℕ → ℕ → m.Read (List ℕ) → Result (ℕ × Cursor) Refusal
+counted_at count end g = read_at end (kept (λ (w : List ℕ). count + length w) g)
 
-pub record Wrote (count end : ℕ) (g : m.Read (List ℕ)) (code code' : List ℕ) (r : Number) : Type 0 where
+pub record Wrote (count end : ℕ) (g : m.Read (List ℕ)) (code code' : List ℕ) (r : Result (ℕ × Cursor) Refusal) : Type 0 where
   pub place : r ≡ counted_at count end g
   pub written : (w rest : List ℕ) → g ≡ got w rest → code' ≡ sets code count w
-
--- room for so many words behind those counted
-pub record Roomy (k : ℕ) (q : Number) : Type 0 where
-  pub few : (n : ℕ) (c : Cursor) → q ≡ number.Read n c → n + k ≤ most_words
-
-pub record Closed (q : Number) (rung join : ℕ) (code code' : List ℕ) (r : Number) : Type 0 where
-  pub read : (n : ℕ) (c : Cursor) → q ≡ number.Read n c → r ≡ number.Read (n + length (ending_of rung join)) c
-  pub written : (n : ℕ) (c : Cursor) → q ≡ number.Read n c → code' ≡ sets code n (ending_of rung join)
-  pub fault : (f : Refusal) → q ≡ number.Fault f → r ≡ number.Fault f
-
-pub record Driven (table : List ℕ) (q : Number) (t : Token) (bits : ℕ) (code code' : List ℕ) (r : WiredRead) : Type 0 where
-  pub read : (n : ℕ) (c : Cursor) → q ≡ number.Read n c → t.content < operands → r ≡ Read (record { words = n + 1; bits = bits }) c
-  pub written : (n : ℕ) (c : Cursor) → q ≡ number.Read n c → t.content < operands → code' ≡ set code n (place_word table 9 10 t)
-  pub large : (n : ℕ) (c : Cursor) → q ≡ number.Read n c → operands ≤ t.content → r ≡ Fault Layout
-  pub fault : (f : Refusal) → q ≡ number.Fault f → r ≡ Fault f
 
 abbrev pub after : Wired → Given → Wired
 after at g = record { words = at.words + length g.words; bits = at.bits + length g.starts }
 
-abbrev pub wired_at : Wired → ℕ → m.Read Given → WiredRead
-wired_at at end g = answer_at Read Fault end (kept (after at) g)
+abbrev pub wired_at : Wired → ℕ → m.Read Given → Result (Wired × Cursor) Refusal
+wired_at at end g = read_at end (kept (after at) g)
 
-pub record Wires (at : Wired) (end : ℕ) (g : m.Read Given) (code bits code' bits' : List ℕ) (r : WiredRead) : Type 0 where
+pub record Wires (at : Wired) (end : ℕ) (g : m.Read Given) (code bits code' bits' : List ℕ) (r : Result (Wired × Cursor) Refusal) : Type 0 where
   pub place : r ≡ wired_at at end g
   pub written : (x : Given) (rest : List ℕ) → g ≡ got x rest → code' ≡ sets code at.words x.words
   pub started : (x : Given) (rest : List ℕ) → g ≡ got x rest → bits' ≡ sets bits at.bits x.starts
 
 -- a rung starts no bit
-abbrev pub WiresRung : Wired → ℕ → m.Read Given → List ℕ → List ℕ → WiredRead → Type 0
+abbrev pub WiresRung : Wired → ℕ → m.Read Given → List ℕ → List ℕ → Result (Wired × Cursor) Refusal → Type 0
 WiresRung at end g code code' r = (bits : List ℕ) → Wires at end g code bits code' bits r
 
 -- the next bit is met
 abbrev pub inside : Wired → Wired
 inside at = record { words = at.words; bits = at.bits + 1 }
-
--- what was read lies in s
-pub record Ahead (at : ℕ) (s : List ℕ) (q : WiredRead) : Type 0 where
-  pub moved : (w : Wired) (c : Cursor) → q ≡ Read w c → at ≤ c.at
-  pub within : (w : Wired) (c : Cursor) → q ≡ Read w c → c.at ≤ at + length s
-
--- what is wired stays, and the start value stands at its address
-pub record Starts (w : Wired) (end : ℕ) (g : m.Read ℕ) (address : ℕ) (bits bits' : List ℕ) (r : WiredRead) : Type 0 where
-  pub place : r ≡ answer_at Read Fault end (kept (λ (v : ℕ). w) g)
-  pub started : (v : ℕ) (rest : List ℕ) → g ≡ got v rest → bits' ≡ set bits address v
-
--- behind a body that was read
-pub record Begins (at : ℕ) (s : List ℕ) (q : WiredRead) (address : ℕ) (bits bits' : List ℕ) (r : WiredRead) : Type 0 where
-  pub read : (w : Wired) (c : Cursor) → q ≡ Read w c → Starts w (at + length s) (start_number (drop (c.at - at) s)) address bits bits' r
-  pub fault : (f : Refusal) → q ≡ Fault f → r ≡ Fault f
 
 -- no name has an address yet
 abbrev pub none_around : List ℕ

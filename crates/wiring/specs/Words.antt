@@ -2,6 +2,8 @@
 use Rattle.std.specs.Prelude.{ℕ, ◌+◌, ◌*◌, List, [], ◌∷◌, ◌++◌, eqb, get_or}
 use Rattle.model.specs.Choice.{when◌then◌else◌}
 use Rattle.bits.specs.declared.Token.{Token}
+use Rattle.wiring.specs.declared.words.Join.{Join}
+use Rattle.wiring.specs.declared.words.Join.TheVariants.{Load, Series, Parallel}
 
 abbrev pub operands : ℕ
 operands = 1024
@@ -10,11 +12,14 @@ operands = 1024
 abbrev pub most_words : ℕ
 most_words = 32768
 
-abbrev pub most_join : ℕ
-most_join = 2
-
 abbrev pub most_what : ℕ
 most_what = 10
+
+-- the number of a join: words have them, and so have the definitions of what is wired
+abbrev pub join_number : Join → ℕ
+join_number Load = 0
+join_number Series = 1
+join_number Parallel = 2
 
 -- a point, or a bit by the address that the table has for its name
 unfoldable pub place_word : List ℕ → ℕ → ℕ → Token → ℕ

@@ -1,19 +1,21 @@
 // The words of the code: what a word is, times 1,024, and a point or a bit's address.
 ghost use Rattle.std.specs.Prelude.{◌≡◌, ◌+◌, ◌*◌, ◌≤◌, ◌<◌, length, set};
 ghost use Rattle.std.proofs.lemmas.List.Edits.{sets};
-ghost use Rattle.wiring.specs.Words.{operands, most_words, most_join, most_what, place_word, others_of, turn_of, ending_of};
+ghost use Rattle.wiring.specs.Words.{operands, most_words, most_what, join_number, place_word, others_of, turn_of, ending_of};
 
 use bits::Token;
 
 // How a value is taken: it starts a branch, or it is joined to the one before it in series or in parallel.
-pub const LOAD: u16 = 0;
+#[derive(Clone, Copy)]
+pub enum Join {
+    Load,
+    Series,
+    Parallel,
+}
 
-const SERIES: u16 = 1;
-
-const PARALLEL: u16 = 2;
-
-// What a word is: contacts of points by their join from 0 on, of bits by their join from BIT on.
-pub const BIT: u16 = 3;
+// What a word is: contacts of points by their join from 0 on, of bits by their join from BIT on. These stay numbers: code is lent as 16 bits
+// a word, of which they are the upper part.
+const BIT: u16 = 3;
 
 const JOIN: u16 = 5;
 
@@ -39,33 +41,34 @@ fn word(what: u16, operand: u16) -> u16
     what * 1024 + operand
 }
 
-fn wide(x: u8) -> u16
-    ensures { (result ≡ x) × (result < operands) }
-{
-    x as u16
-}
-
 // Of a place in the tree, as `point` says where it is a point, as `bit` says where it is a variable.
 pub fn of_place(around: &[u8], point: u16, bit: u16, t: Token) -> u16
     requires { (t.content < operands) × (operands ≤ length around.now) × (point ≤ most_what) × (bit ≤ most_what) }
     ensures { result ≡ place_word around.now point bit t }
 {
     if t.tag == VARIABLE {
-        let i = t.content as usize;
-        let address = wide(around[i]);
-        return word(bit, address);
+        word(bit, around[t.content as usize] as u16)
+    } else {
+        word(point, t.content as u16)
     }
-    word(point, t.content as u16)
+}
+
+// A contact, whose value is taken so.
+pub fn contact(around: &[u8], join: Join, t: Token) -> u16
+    requires { (t.content < operands) × (operands ≤ length around.now) }
+    ensures { result ≡ place_word around.now (join_number join) (join_number join + 3) t }
+{
+    of_place(around, join as u16, join as u16 + BIT, t)
 }
 
 // How the parts behind the first are taken; `not` has none.
-pub fn others(rung: u32) -> u16
-    ensures { (result ≡ others_of rung) × (result ≤ most_join) }
+pub fn others(rung: u32) -> Join
+    ensures { join_number result ≡ others_of rung }
 {
-    if rung == AND {
-        return SERIES;
+    match rung {
+        AND => Join::Series,
+        _ => Join::Parallel,
     }
-    PARALLEL
 }
 
 // Writes a word behind so many others: how many there are now.
@@ -74,22 +77,21 @@ pub fn put(code: &mut [u16], count: u32, word: u16) -> u32
     ensures value { result ≡ count + 1 }
     ensures code_after { code.new ≡ set code.old count word }
 {
-    let i = count as usize;
-    code[i] = word;
+    code[count as usize] = word;
     count + 1
 }
 
 // `not` turns the value, and then it is joined.
-pub fn finish(code: &mut [u16], count: u32, rung: u32, join: u16) -> u32
-    requires { (count + 2 ≤ most_words) × (most_words ≤ length code.old) × (join ≤ most_join) }
-    ensures value { result ≡ count + length (ending_of rung join) }
-    ensures code_after { code.new ≡ sets code.old count (ending_of rung join) }
+pub fn finish(code: &mut [u16], count: u32, rung: u32, join: Join) -> u32
+    requires { (count + 2 ≤ most_words) × (most_words ≤ length code.old) }
+    ensures value { result ≡ count + length (ending_of rung (join_number join)) }
+    ensures code_after { code.new ≡ sets code.old count (ending_of rung (join_number join)) }
 {
     let turned = turn(code, count, rung);
-    if join == LOAD {
-        return turned;
+    match join {
+        Join::Load => turned,
+        _ => put(code, turned, word(JOIN + join as u16, 0)),
     }
-    put(code, turned, word(JOIN + join, 0))
 }
 
 fn turn(code: &mut [u16], count: u32, rung: u32) -> u32
@@ -98,7 +100,8 @@ fn turn(code: &mut [u16], count: u32, rung: u32) -> u32
     ensures code_after { code.new ≡ sets code.old count (turn_of rung) }
 {
     if rung == NOT {
-        return put(code, count, word(INVERSE, 0));
+        put(code, count, word(INVERSE, 0))
+    } else {
+        count
     }
-    count
 }

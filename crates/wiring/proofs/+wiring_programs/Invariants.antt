@@ -17,8 +17,5 @@ decreases-wire_program l = 5 * l.levels
 abbrev pub decreases-wire_programs : goal.decreases-wire_programs
 decreases-wire_programs l = 5 * l.levels + 1
 
-abbrev pub invariant-wire_programs-loop-left : goal.invariant-wire_programs-loop-left
-invariant-wire_programs-loop-left l = Programs l.c.at l.levels l.initial.around l.s l.initial.wired l.parts l.initial.code l.initial.bits l.here.at l.left l.wired l.around l.code l.bits
-
-abbrev pub decreases-wire_programs-loop-left : goal.decreases-wire_programs-loop-left
-decreases-wire_programs-loop-left l = l.left
+abbrev pub invariant-wire_programs-loop : goal.invariant-wire_programs-loop
+invariant-wire_programs-loop l = Programs l.c.at l.levels l.initial.around l.s l.initial.wired l.parts l.initial.code l.initial.bits l.here.at l.counter l.wired l.around l.code l.bits
