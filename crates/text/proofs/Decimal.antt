@@ -98,31 +98,4 @@ placed-few k n w = let e = w.ends in let f = few-digits k n in omega arith
 pub decimal_room : (room at n : ℕ) → at + 10 ≤ room → at + length (digits 10 n []) ≤ room
 decimal_room room at n h = let f = few-digits 10 n in omega arith
 
--- ---- all digits of a number
-
-ten : ◌≡◌ {A = ℕ} 10 0 → ⊥
-ten e = omega arith
-
-module _ (out : List ℕ) (at n : ℕ) where
-  pub short-placed : n < 10 → Placed out at (digits 10 n []) (set out at (48 + n)) (at + 1)
-  short-placed = last-digit out at 10 n ten
-
-  pub short-room : n < 10 → at + length (digits 10 n []) ≤ length out → at < length out
-  short-room = one-room out at 10 n ten
-
-  pub front-room : 10 ≤ n → at + length (digits 10 n []) ≤ length out → at + length (digits 9 (n / 10) []) ≤ length out
-  front-room = fewer_room out at 10 n ten
-
-  module _ {out' : List ℕ} {past : ℕ} (w : Placed out at (digits 9 (n / 10) []) out' past) where
-    pub back_room : 10 ≤ n → at + length (digits 10 n []) ≤ length out → past < length out'
-    back_room = digit_room out at 10 n w ten
-
-    pub back_fits : 10 ≤ n → at + length (digits 10 n []) ≤ length out → Fits w64 (length out) → Fits w64 (past + 1)
-    back_fits = digit-fits out at 10 n w ten
-
-    pub back_placed : 10 ≤ n → Placed out at (digits 10 n []) (set out' past (48 + n % 10)) (past + 1)
-    back_placed = next-digit out at 10 n w ten
-
-pub ruleset number_laws = (short-placed, short-room, front-room, back_room, back_fits, back_placed, placed-length)
-
 pub ruleset digit_laws = (no-digits, last-digit, one-room, one-fits, fewer_room, decimal_room, digit_room, digit-fits, next-digit, placed-few, placed_then, placed-length)

@@ -14,14 +14,9 @@ pub fn put_text(out: &mut [u8], at: usize, text: &[u8]) -> usize
     requires { at + length text.now ≤ length out.old }
     ensures { Placed out.old at text.now out.new result }
 {
-    let mut to = at;
-    let mut i = 0;
-    while i < text.len() {
-        out[to] = text[i];
-        to += 1;
-        i += 1;
-    }
-    to
+    let past = at + text.len();
+    out[at..past].copy_from_slice(text);
+    past
 }
 
 // The digits of a number, `left` at most, where there is room for just these.
@@ -33,26 +28,20 @@ pub fn put_wide(out: &mut [u8], at: usize, left: usize, n: u64) -> usize
         return at;
     }
     if n < 10 {
-        out[at] = (48 + n) as u8;
+        out[at] = b'0' + n as u8;
         return at + 1;
     }
     let last = put_wide(out, at, left - 1, n / 10);
-    out[last] = (48 + n % 10) as u8;
+    out[last] = b'0' + (n % 10) as u8;
     last + 1
 }
 
-// All digits of a number of 32 bits. Most have one, and those need no further call.
+// All digits of a number of 32 bits.
 pub fn put_number(out: &mut [u8], at: usize, n: u32) -> usize
     requires { at + length (digits 10 n []) ≤ length out.old }
     ensures { Placed out.old at (digits 10 n []) out.new result }
 {
-    if n < 10 {
-        out[at] = (48 + n) as u8;
-        return at + 1;
-    }
-    let last = put_wide(out, at, MOST_DIGITS - 1, (n / 10) as u64);
-    out[last] = (48 + n % 10) as u8;
-    last + 1
+    put_wide(out, at, MOST_DIGITS, u64::from(n))
 }
 
 pub fn put_decimal(out: &mut [u8], at: usize, n: u32) -> usize
@@ -77,19 +66,7 @@ fn digit(d: u8) -> u8
     requires { d < 16 }
     ensures { result ≡ hex_digit d }
 {
-    if d < 10 { 48 + d } else { 87 + d }
-}
-
-fn high(b: u8) -> u8
-    ensures { result ≡ hex_digit (b / 16) }
-{
-    digit(b / 16)
-}
-
-fn low(b: u8) -> u8
-    ensures { result ≡ hex_digit (b % 16) }
-{
-    digit(b % 16)
+    if d < 10 { b'0' + d } else { b'a' - 10 + d }
 }
 
 // Two digits for each byte, the high one first.
@@ -98,13 +75,10 @@ pub fn put_hexadecimal(out: &mut [u8], at: usize, bytes: &[u8]) -> usize
     ensures { Placed out.old at (hex_of bytes.now) out.new result }
 {
     let mut to = at;
-    let mut i = 0;
-    while i < bytes.len() {
-        let b = bytes[i];
-        out[to] = high(b);
-        out[to + 1] = low(b);
+    for b in bytes {
+        out[to] = digit(*b / 16);
+        out[to + 1] = digit(*b % 16);
         to += 2;
-        i += 1;
     }
     to
 }

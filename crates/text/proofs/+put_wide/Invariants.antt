@@ -1,4 +1,3 @@
-use Rattle.std.proofs.Common.{◌-◌}
 use Rattle.text.proofs.+put_wide.Given as goal
 
 abbrev pub decreases-put_wide : goal.decreases-put_wide

@@ -1,4 +1,4 @@
-use Rattle.std.proofs.Common.{rules, ◌-◌}
+use Rattle.std.proofs.Common.{rules}
 use Rattle.text.proofs.digit.Goals as goal
 use Rattle.text.proofs.Hexadecimal.{hex_laws}
 

@@ -1,4 +1,4 @@
-use Rattle.std.proofs.Common.{rules, ◌-◌}
+use Rattle.std.proofs.Common.{rules}
 use Rattle.text.proofs.put_decimal.Goals as goal
 use Rattle.text.proofs.Decimal.{digit_laws}
 
