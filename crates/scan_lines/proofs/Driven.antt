@@ -8,9 +8,8 @@ use native.Mathlib.Numerals.{add-one}
 use lib.Dec.{eqb}
 use lib.ListN.{length, get_or, take, set, length-set}
 use lib.Seq.{take-suc-set}
+use Rattle.std.proofs.lemmas.List.{length-take-le}
 use borrow.Author.Tests.{eq-eqb, ne_eqb}
-use mir.Syntax.{w16}
-use mir.Val.{Fits}
 use Rattle.model.specs.Choice.{when◌then◌else◌}
 use Rattle.bits.specs.Meeting.{points}
 use Rattle.scan_lines.specs.Lines.{marked, marked_places, Listed, Lists, Points}
@@ -26,6 +25,15 @@ marked-first marks i h = ap (λ (c : ℕ). marked c i marks) (one_fewer i h)
 pub marked-end : (marks : List ℕ) (i : ℕ) → points ≤ i → marked (points - i) i marks ≡ []
 unfolding marked
 marked-end marks i h = let e : points - i ≡ 0 = omega arith in ap (λ (c : ℕ). marked c i marks) e
+
+-- ---- the marks of all points, which a loop goes over
+
+module _ (marks : List ℕ) (l : points ≤ length marks) {i : ℕ} where
+  pub below-all : i < length (take points marks) → i < points
+  below-all h = let e = length-take-le points marks l in omega arith
+
+  pub past-all : length (take points marks) ≤ i → points ≤ i
+  past-all h = let e = length-take-le points marks l in omega arith
 
 -- ---- one point
 

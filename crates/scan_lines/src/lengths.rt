@@ -11,16 +11,12 @@ fn number_length(point: u32) -> u32
     ensures is { result ≡ number_length point }
     ensures few { result ≤ 4 }
 {
-    if point < 10 {
-        return 1;
+    match point {
+        ..10 => 1,
+        ..100 => 2,
+        ..1000 => 3,
+        _ => 4,
     }
-    if point < 100 {
-        return 2;
-    }
-    if point < 1000 {
-        return 3;
-    }
-    4
 }
 
 // How much of a line a point is.
@@ -30,9 +26,10 @@ fn point_length(mark: u8, point: u32) -> u32
     ensures few { result ≤ 8 }
 {
     if mark == 0 {
-        return 0;
+        0
+    } else {
+        4 + number_length(point)
     }
-    4 + number_length(point)
 }
 
 // What every line has behind its number.
@@ -42,22 +39,10 @@ pub fn fixed_length(marks: &[u8]) -> u32
     ensures small { result ≤ most_fixed }
 {
     let mut n = 1;
-    let mut i = 0;
-    while i < Gathered::POINTS {
-        n += point_length(marks[i], i as u32);
-        i += 1;
+    for (point, &mark) in marks[..Gathered::POINTS].iter().enumerate() {
+        n += point_length(mark, point as u32);
     }
     n
-}
-
-// How many of the numbers up to n are above m.
-fn above(n: u32, m: u32) -> u32
-    ensures { result ≡ n - m }
-{
-    if n < m {
-        return 0;
-    }
-    n - m
 }
 
 // The digits of the numbers from 1 to n: one each, one more each above 9, one more each above 99, and so on.
@@ -66,11 +51,7 @@ fn numbers_length(n: u32) -> u32
     ensures is { result ≡ lines_length 1 n 0 }
     ensures few { result ≤ 5 * most_scans }
 {
-    let two = above(n, 9);
-    let three = above(n, 99);
-    let four = above(n, 999);
-    let five = above(n, 9999);
-    n + two + three + four + five
+    n + n.saturating_sub(9) + n.saturating_sub(99) + n.saturating_sub(999) + n.saturating_sub(9999)
 }
 
 // The length of the lines of so many scans.
@@ -78,6 +59,5 @@ pub fn total_length(scans: u32, fixed: u32) -> u32
     requires { (scans < most_scans) × (fixed ≤ most_fixed) }
     ensures { result ≡ lines_length 1 scans fixed }
 {
-    let numbers = numbers_length(scans);
-    scans * fixed + numbers
+    scans * fixed + numbers_length(scans)
 }

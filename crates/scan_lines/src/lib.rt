@@ -28,11 +28,8 @@ fn put_points(out: &mut [u8], at: usize, places: &[u16], values: &[u8]) -> usize
     ensures { Placed out.old at (shown places.now values.now []) out.new result }
 {
     let mut to = at;
-    let mut i = 0;
-    while i < places.len() {
-        let place = places[i] as usize;
-        to = put_point(out, to, place as u32, values[place]);
-        i += 1;
+    for &place in places {
+        to = put_point(out, to, place as u32, values[place as usize]);
     }
     to
 }

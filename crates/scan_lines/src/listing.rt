@@ -23,10 +23,8 @@ pub fn list_points(marks: &[u8], places: &mut [u16]) -> usize
     ensures { Lists marks.now places.new result }
 {
     let mut n = 0;
-    let mut i = 0;
-    while i < Gathered::POINTS {
-        n = list_point(places, n, marks[i], i as u16);
-        i += 1;
+    for (point, &mark) in marks[..Gathered::POINTS].iter().enumerate() {
+        n = list_point(places, n, mark, point as u16);
     }
     n
 }

@@ -1,5 +1,5 @@
-use Rattle.scan_lines.proofs.Showing.{point_laws}
 use Rattle.std.proofs.Common.{rules}
+use Rattle.scan_lines.proofs.Showing.{point_laws}
 use Rattle.scan_lines.proofs.put_point.Goals as goal
 
 pub put_text-number-requires : goal.put_text-number-requires

@@ -1,27 +1,15 @@
-use Rattle.scan_lines.proofs.Counting.{number_laws}
 use Rattle.std.proofs.Common.{rules}
+use Rattle.scan_lines.proofs.Counting.{number_laws}
 use Rattle.scan_lines.proofs.lengths.number_length.Goals as goal
 
-pub returns-then-point-lt10-clause-is : goal.returns-then-point-lt10-clause-is
-returns-then-point-lt10-clause-is c = search (number_laws, rules)
+pub returns-in-0-to-9-clause-is : goal.returns-in-0-to-9-clause-is
+returns-in-0-to-9-clause-is c = search (number_laws, rules)
 
-pub returns-then-point-lt10-clause-few : goal.returns-then-point-lt10-clause-few
-returns-then-point-lt10-clause-few c = search (number_laws, rules)
+pub returns-in-0-to-99-clause-is : goal.returns-in-0-to-99-clause-is
+returns-in-0-to-99-clause-is c = search (number_laws, rules)
 
-pub returns-then-point-lt100-clause-is : goal.returns-then-point-lt100-clause-is
-returns-then-point-lt100-clause-is c = search (number_laws, rules)
+pub returns-in-0-to-999-clause-is : goal.returns-in-0-to-999-clause-is
+returns-in-0-to-999-clause-is c = search (number_laws, rules)
 
-pub returns-then-point-lt100-clause-few : goal.returns-then-point-lt100-clause-few
-returns-then-point-lt100-clause-few c = search (number_laws, rules)
-
-pub returns-then-point-lt1000-clause-is : goal.returns-then-point-lt1000-clause-is
-returns-then-point-lt1000-clause-is c = search (number_laws, rules)
-
-pub returns-then-point-lt1000-clause-few : goal.returns-then-point-lt1000-clause-few
-returns-then-point-lt1000-clause-few c = search (number_laws, rules)
-
-pub returns-clause-is : goal.returns-clause-is
-returns-clause-is c = search (number_laws, rules)
-
-pub returns-clause-few : goal.returns-clause-few
-returns-clause-few c = search (number_laws, rules)
+pub returns-in_default-clause-is : goal.returns-in_default-clause-is
+returns-in_default-clause-is c = search (number_laws, rules)
