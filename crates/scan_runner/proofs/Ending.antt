@@ -2,45 +2,32 @@
 use mathlib.Core.Path.{◌≡◌, refl, sym, ap, ◌∙◌, subst}
 use Prim.Native.Nat.{ℕ, ◌+◌, ◌≤◌, ◌<◌}
 use native.Mathlib.Omega.{arith}
-use mathlib.Core.List.{List, [], ◌∷◌, ◌++◌}
-use lib.Dec.{leb}
+use mathlib.Core.List.{List, ◌++◌}
 use lib.ListN.{length, take, drop, replicate, length-replicate}
-use lib.Seq.{sets, sets-eq, length-take-le, length-sets}
+use lib.Seq.{sets, sets-eq, length-take-le}
 use borrow.Author.Tests.{le-leb, lt-leb}
+use Rattle.std.specs.Prelude.{Result, Ok, Err}
+use Rattle.std.specs.Result.{IsErrAnd}
+use Rattle.refusals.proofs.Handing.{handed_on}
 use Rattle.model.specs.Limits.{last_point}
-use Rattle.requests.specs.Panel.{panel_code}
-use Rattle.requests.specs.Scanning.{State, at_start, starts}
-use Rattle.requests.specs.ScanJob.{joined, lines_from, text_of, ScanEnding, stopped, printed, scan_code, scan_of, scan_room, scan_answer, output_after_scans}
+use Rattle.requests.specs.Scanning.{State, at_start}
+use Rattle.requests.specs.ScanJob.{joined, lines_from, text_of, ScanEnding, printed, scan_room, scan_answer, output_after_scans}
 use Rattle.requests.specs.Binary.{BinaryState}
 use Rattle.requests.proofs.Starts.{starts-binary}
 use Rattle.refusals.specs.declared.Refusal.TheVariants.{TooLong}
-use Rattle.panel_check.specs.declared.refusal.PanelRefusal as panel
 use Rattle.panel_check.specs.declared.refusal.PanelRefusal.TheVariants.{Base}
-use Rattle.panel_check.specs.Refusing.{panel_refusal_of}
 use Rattle.bits.specs.Meeting as meeting
-use Rattle.bits.proofs.Gathering.{no-marks}
-use Rattle.panel_check.proofs.Names.{names-long}
 use Rattle.ladder.specs.Running.{Fits, instructions_of}
 use Rattle.scan_lines.specs.Lines.{Lists}
-use Rattle.scan_lines.specs.Lengths.{most_scans, fixed_length, lines_length}
+use Rattle.scan_lines.specs.Lengths.{fixed_length, lines_length}
 use Rattle.scan_lines.proofs.Driven.{listed-points}
 use Rattle.scan_lines.proofs.Texts.{listed-are, text-length}
 use Rattle.scan_runner.specs.declared.refusal.ScanRefusal.{ScanRefusal}
 use Rattle.scan_runner.specs.declared.refusal.ScanRefusal.TheVariants.{Panel}
 use Rattle.scan_runner.specs.declared.preparation.Prepared.{Prepared}
-use Rattle.scan_runner.specs.declared.preparation.Preparation.{Preparation}
-use Rattle.scan_runner.specs.declared.preparation.Preparation.TheVariants as preparation
-use Rattle.scan_runner.specs.declared.job.Printing.{Printing}
-use Rattle.scan_runner.specs.declared.job.Printing.TheVariants.{Printed, Refused}
-use Rattle.scan_runner.specs.Refusing.{scan_refusal_of}
-use Rattle.scan_runner.specs.Preparing.{Stands, Made, Prepares}
-use Rattle.scan_runner.specs.Running.{Due, Runnable, Ran, Standing, answer_for, Ends, RunsPrepared, Runs}
+use Rattle.scan_runner.specs.Preparing.{Stands, Prepares}
+use Rattle.scan_runner.specs.Running.{Due, Runnable, Ran, Standing, Ends, RunsPrepared, Runs}
 use Rattle.scan_runner.proofs.Reading.{scans-binary, scans_many}
-
-pub panel-code : {k : ℕ} {q : ScanRefusal} {f : panel.PanelRefusal} → q ≡ Panel f → k ≡ panel_code (panel_refusal_of f) → k ≡ scan_code (scan_refusal_of q)
-panel-code e h = rw e h
-
-pub ruleset code_laws = (panel-code)
 
 -- ---- what stands, at the start
 
@@ -85,9 +72,6 @@ module _ {recording marks code bits : List ℕ} {p : Prepared} {text : List ℕ}
 -- ---- what was prepared
 
 module _ {recording marks code points bits : List ℕ} {p : Prepared} (s : Standing recording marks code points bits p) where
-  pub few-scans : p.scans < most_scans
-  few-scans = s.stands.recorded.few
-
   pub words-within : p.words ≤ length code
   words-within = s.stands.programmed.words-within
 
@@ -107,11 +91,11 @@ module _ {recording marks code points bits : List ℕ} {p : Prepared} (s : Stand
     total_is : {text : List ℕ} → Stands recording marks code bits p text → length text ≡ total
     total_is k = text-long k ∙ ap (lines_length 1 p.scans) (sym f) ∙ sym n
 
-    pub prepared_too_long : {out : List ℕ} → length out < total → RunsPrepared recording marks code bits p out out (Refused (Panel (Base TooLong)))
+    pub prepared_too_long : {out : List ℕ} → length out < total → RunsPrepared recording marks code bits p out out (Err (Panel (Base TooLong)))
     unfolding scan_room scan_answer output_after_scans
     prepared_too_long {out} h = record { ends = λ text k. by text (total_is k) }
       where
-        by : (text : List ℕ) → length text ≡ total → Ends (scan_room (length out) (printed text)) out out (Refused (Panel (Base TooLong)))
+        by : (text : List ℕ) → length text ≡ total → Ends (scan_room (length out) (printed text)) out out (Err (Panel (Base TooLong)))
         by text e =
             let l : length out < length text = omega arith in
             record { answer = rw (lt-leb (length text) (length out) l); left = rw (lt-leb (length text) (length out) l) }
@@ -125,11 +109,11 @@ module _ {recording marks code points bits : List ℕ} {p : Prepared} (s : Stand
       }
 
       pub prepared_ran : {out' : List ℕ} → Ran recording p.first.at p.scans (take p.words code) (take r places) points (take p.bits bits) out out'
-          → RunsPrepared recording marks code bits p out out' (Printed total)
+          → RunsPrepared recording marks code bits p out out' (Ok total)
       unfolding scan_room scan_answer output_after_scans
       prepared_ran {out'} q = record { ends = λ text k. by text (total_is k) (q.is text (due-first k w s.points-are)) }
         where
-          by : (text : List ℕ) → length text ≡ total → out' ≡ sets out 0 text → Ends (scan_room (length out) (printed text)) out out' (Printed total)
+          by : (text : List ℕ) → length text ≡ total → out' ≡ sets out 0 text → Ends (scan_room (length out) (printed text)) out out' (Ok total)
           by text e q =
               let l : length text ≤ length out = omega arith in
               let z : 0 + length text ≡ length text = omega arith in
@@ -140,16 +124,20 @@ module _ {recording marks code points bits : List ℕ} {p : Prepared} (s : Stand
 
 -- ---- behind the preparation
 
-module _ {image recording marks code bits : List ℕ} {k : Preparation} (h : Prepares image recording marks code bits k) where
-  pub job_refused : {f : ScanRefusal} {out : List ℕ} → k ≡ preparation.Refused f → Runs image recording out out (Refused f)
+module _ {image recording marks code bits : List ℕ} {k : Result Prepared ScanRefusal} (h : Prepares image recording marks code bits k) where
+  job_refused : {f : ScanRefusal} {out : List ℕ} → k ≡ Err f → Runs image recording out out (Err f)
   unfolding scan_room scan_answer output_after_scans
   job_refused {f} {out} e = let z = h.refused f e in record { answer = rw z; left = rw z }
 
-  module _ {p : Prepared} (e : k ≡ preparation.Ready p) where
+  -- what `?` hands on
+  pub job_handed : {f : ScanRefusal} {out : List ℕ} {r : Result ℕ ScanRefusal} → k ≡ Err f → IsErrAnd r (λ e. e ≡ f) → Runs image recording out out r
+  job_handed {out = out} e q = subst (Runs image recording out out) (sym (handed_on q refl)) (job_refused e)
+
+  module _ {p : Prepared} (e : k ≡ Ok p) where
     pub job_standing : {points : List ℕ} → meeting.points ≤ length marks → points ≡ replicate meeting.points 0 → Standing recording marks code points bits p
     job_standing l q = let m = h.ready p e in record { text = m.text; stands = m.stands; marks-long = l; points-are = q }
 
-    pub job_ran : {out out' : List ℕ} {r : Printing} → RunsPrepared recording marks code bits p out out' r → Runs image recording out out' r
+    pub job_ran : {out out' : List ℕ} {r : Result ℕ ScanRefusal} → RunsPrepared recording marks code bits p out out' r → Runs image recording out out' r
     job_ran {out} {out'} {r} q =
         let m = h.ready p e in
         subst (λ (z : ScanEnding). Ends (scan_room (length out) z) out out' r) (sym m.says) (q.ends m.text m.stands)
@@ -161,5 +149,3 @@ code-room = let e : length (replicate {A = ℕ} 32768 0) ≡ 32768 = length-repl
 
 pub places_room : meeting.points ≤ length (replicate {A = ℕ} 1024 0)
 places_room = let e : length (replicate {A = ℕ} 1024 0) ≡ 1024 = length-replicate {A = ℕ} 1024 0 in omega arith
-
-pub ruleset job_laws = (no-marks, names-long, code-room, few-scans, words-within, bits-within, words-taken, bits-taken, places_taken, places_room, prepared_too_long, prepared_runnable, prepared_ran, job_refused, job_standing, job_ran)

@@ -1,9 +1,9 @@
 -- The loop over the scans: the lines due from here on, and one scan and one line more.
 use mathlib.Core.Path.{◌≡◌, refl, sym, ap, ◌∙◌, subst}
-use Prim.Native.Nat.{ℕ, zero, suc, ◌+◌, ◌-◌, ◌≤◌, ◌<◌}
+use Prim.Native.Nat.{ℕ, suc, ◌+◌, ◌-◌, ◌≤◌, ◌<◌}
 use native.Mathlib.Omega.{arith}
 use native.Mathlib.Numerals.{add-one}
-use mathlib.Core.List.{List, [], ◌∷◌, ◌++◌}
+use mathlib.Core.List.{List, [], ◌++◌}
 use lib.ListN.{length, drop, length-drop, length-append}
 use lib.Seq.{drop-drop}
 use Rattle.model.specs.Reading.{got}
@@ -13,9 +13,8 @@ use Rattle.requests.specs.ScanJob.{line_after, driven_places, lines_from, joined
 use Rattle.numbers.specs.declared.Cursor.{Cursor}
 use Rattle.text.specs.Placing.{Placed}
 use Rattle.text.proofs.Placing.{Placing, begun, ended, placed-length, placing_more}
-use Rattle.bits.specs.Meeting as meeting
 use Rattle.ladder.specs.Running.{instructions_of, Fits}
-use Rattle.scan_lines.specs.Lines.{Points, line_of}
+use Rattle.scan_lines.specs.Lines.{line_of}
 use Rattle.scan_runner.specs.Stepping.{Scannable, Scanned}
 use Rattle.scan_runner.specs.Running.{Due, Runnable, Ran}
 use Rattle.scan_runner.proofs.Reading.{First, first_of, none_left}
@@ -131,11 +130,8 @@ module _ {recording : List ℕ} {first scans : ℕ} {code places points₀ bits�
   gone : Gone recording scans code places out₀ q.text here at done points bits out
   gone = w.goes q.text q.due
 
-  pub here-within : here ≤ 0 + length recording
-  here-within = let d = gone.due.within in omega arith
-
-  pub points-listed : Points places
-  points-listed = gone.due.points-listed
+  pub here-within : here ≤ length recording
+  here-within = gone.due.within
 
   pub going_ended : scans ≤ done → Ran recording first scans code places points₀ bits₀ out₀ out
   going_ended h = record {
@@ -153,16 +149,16 @@ module _ {recording : List ℕ} {first scans : ℕ} {code places points₀ bits�
         let e : g.left ≡ suc (g.left - 1) = omega arith in
         subst (λ (n : ℕ). Due recording here n done code places points bits g.rest) e g.due
 
-    module _ {s : List ℕ} (i : s ≡ drop (here - 0) recording) where
+    module _ {s : List ℕ} (i : s ≡ drop here recording) where
+      ahead : s ≡ drop (here - 0) recording
+      ahead = let z : here ≡ here - 0 = omega arith in i ∙ ap (λ (k : ℕ). drop k recording) z
+
       pub going_scannable : Scannable here s code points bits
-      going_scannable = due_scannable (due_now gone) i
+      going_scannable = due_scannable (due_now gone) ahead
 
       module _ {points' bits' : List ℕ} {r : Cursor} (z : Scanned here s code points bits points' bits' r) (k : length points' ≡ length points) (l : length bits' ≡ length bits) where
         line_more : {text : List ℕ} → (g : Gone recording scans code places out₀ text here at done points bits out) → Next recording (g.left - 1) done code places points' bits' g.rest r.at
-        line_more g = due-next (due_now g) i z k l
-
-        pub all-values : meeting.points ≤ length points'
-        all-values = let y = gone.due.ready.points-room in omega arith
+        line_more g = due-next (due_now g) ahead z k l
 
         pub line_room : at + length (line_of places (done + 1) points') ≤ length out
         line_room =
@@ -194,5 +190,3 @@ module _ {recording : List ℕ} {first scans : ℕ} {code places points₀ bits�
               bits-long = l ∙ w.bits-long;
               out-long = placed-length a ∙ w.out-long;
             })
-
-pub ruleset loop_laws = (going_start, here-within, points-listed, going_ended, going_scannable, all-values, line_room, going_on, placed-length)

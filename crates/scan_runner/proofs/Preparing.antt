@@ -1,62 +1,59 @@
 -- Before the first scan: one law for each way out.
 use mathlib.Core.Path.{◌≡◌, refl, sym, ap, ◌∙◌, subst}
-use Prim.Native.Nat.{ℕ, ◌+◌, ◌-◌, ◌≤◌, ◌<◌}
+use Prim.Native.Nat.{ℕ, ◌≤◌}
 use native.Mathlib.Omega.{arith}
 use native.Mathlib.Nat.{min-le_right}
-use mathlib.Core.Bool.{true}
-use mathlib.Core.List.{List, [], map}
-use lib.ListN.{length, take, drop, length-take, length-drop, length-map}
+use mathlib.Core.List.{List, []}
+use lib.ListN.{length, take, drop, length-take, length-map}
+use Rattle.std.specs.Prelude.{Result, Ok, Err}
+use Rattle.std.specs.Result.{IsErrAnd}
+use Rattle.refusals.proofs.Handing.{handed_on}
 use Rattle.model.specs.Limits.{most_scopes, most_nesting}
 use Rattle.model.specs.Trees.{Tree}
-use Rattle.model.specs.Reading.{Read, got, fault, symbols, num, read_tree, read_tree_image, read_image}
+use Rattle.model.specs.Reading.{Read, got, fault, symbols, read_tree, read_tree_image, read_image}
 use Rattle.codec_laws.specs.WellFormed.{Bytes}
 use Rattle.codec_laws.proofs.Sequence.{bytes_drop}
 use Rattle.codec_laws.proofs.TreeTrip.{tree_w}
 use Rattle.requests.specs.Panel.{is_program, driven, bits_of, listed, profile, of_image, panel_of}
-use Rattle.requests.specs.Recording.{Change, read_scan, read_scans}
-use Rattle.requests.specs.Scanning.{starts}
-use Rattle.requests.specs.ScanJob.{ScanEnding, panel, bad_recording, driven_change, text_of, stopped, printed, with_recording, then_scanned, scan_of_image, scan_of}
+use Rattle.requests.specs.ScanJob.{panel, text_of, stopped, with_recording, then_scanned, scan_of_image, scan_of}
 use Rattle.requests.specs.Panel as p
 use Rattle.requests.proofs.Starts.{as_many_starts}
 use Rattle.numbers.specs.declared.Cursor.{Cursor}
-use Rattle.bits.specs.Meeting.{room, points, NoMarks}
+use Rattle.bits.specs.Meeting.{points, NoMarks}
 use Rattle.panel_check.specs.declared.Program.{Program}
-use Rattle.panel_check.specs.declared.Checked.{Checked}
-use Rattle.panel_check.specs.declared.Checked.TheVariants as checked
 use Rattle.panel_check.specs.declared.refusal.PanelRefusal.{PanelRefusal}
 use Rattle.panel_check.specs.Refusing.{panel_refusal_of}
 use Rattle.panel_check.specs.Checking.{RootGood, Passes, ending_in, Checks}
-use Rattle.panel_check.proofs.Checking.{good-fits, good-short}
-use Rattle.recordings.specs.declared.Recording.{Recording}
-use Rattle.recordings.specs.declared.Recording.TheVariants as recording
-use Rattle.recordings.specs.Judging.{judged_of}
+use Rattle.recordings.specs.declared.RecordingRefusal.{RecordingRefusal}
+use Rattle.recordings.specs.declared.RecordingRefusal.TheVariants.{Broken, Driven}
+use Rattle.recordings.specs.Judging.{Judged, judged_of}
 use Rattle.recordings.proofs.Meaning.{Plays, means_broken, means-driven, means-kept}
-use Rattle.ladder.specs.Code.{Instruction, operands, word_of, rungs}
+use Rattle.ladder.specs.Code.{operands, word_of, rungs}
 use Rattle.ladder.specs.Running.{instructions_of, Fits}
 use Rattle.ladder.proofs.Fitting.{program-fits}
 use Rattle.ladder.proofs.Words.{words_back}
 use Rattle.wiring.specs.declared.Wired.{Wired}
 use Rattle.wiring.specs.Wiring as w
-use Rattle.scan_lines.specs.Lengths.{most_scans}
 use Rattle.scan_runner.specs.declared.refusal.ScanRefusal.{ScanRefusal}
 use Rattle.scan_runner.specs.declared.refusal.ScanRefusal.TheVariants as refusal
 use Rattle.scan_runner.specs.declared.preparation.Prepared.{Prepared}
-use Rattle.scan_runner.specs.declared.preparation.Preparation.{Preparation}
-use Rattle.scan_runner.specs.declared.preparation.Preparation.TheVariants.{Ready, Refused}
-use Rattle.scan_runner.specs.Refusing.{scan_refusal_of}
+use Rattle.scan_runner.specs.Refusing.{scan_refusal_of, refusal_from}
 use Rattle.scan_runner.specs.Stepping.{CodeOf}
-use Rattle.scan_runner.specs.Preparing.{Accepted, WiresRoot, Programmed, Recorded, Stands, Made, Prepares}
+use Rattle.scan_runner.specs.Preparing.{WiresRoot, Programmed, Recorded, Made, Prepares}
 use Rattle.scan_runner.proofs.Reading.{scans-fit}
 
 -- ---- the root
 
-pub root-wired : {image : List ℕ} {root : ℕ} {s code bits : List ℕ} {r : Wired} → s ≡ drop (root - 0) image → w.Tells s code bits r → WiresRoot image root code bits r
-root-wired {image} {root} {s} i t g e few =
-    let z : root - 0 ≡ root = omega arith in
-    let here : s ≡ drop root image = i ∙ ap (λ (k : ℕ). drop k image) z in
-    t g.read.head g.read.root g.head-fits (subst Bytes (sym here) (bytes_drop root image g.bytes)) (ap (read_tree most_nesting g.read.head 0) here ∙ g.root-reads) e few
+pub root-wired : {image : List ℕ} {root : ℕ} {s code bits : List ℕ} {r : Wired} → s ≡ drop root image → w.Tells s code bits r → WiresRoot image root code bits r
+root-wired {image} {root} i t g e few =
+    t g.read.head g.read.root g.head-fits (subst Bytes (sym i) (bytes_drop root image g.bytes)) (ap (read_tree most_nesting g.read.head 0) i ∙ g.root-reads) e few
 
 -- ---- a program that is accepted, and its recording
+
+-- by the panel check, whatever names it kept
+pub record Accepted (image marks : List ℕ) (q : Program) : Type 0 where
+  pub names : List ℕ
+  pub checks : Checks image marks names (Ok q)
 
 module _ {image marks : List ℕ} {q : Program} (a : Accepted image marks q) where
   abbrev passes : Passes image marks a.names q
@@ -76,20 +73,18 @@ module _ {image marks : List ℕ} {q : Program} (a : Accepted image marks q) whe
   unfolding scan_of scan_of_image then_scanned
   then_is r = rw (passes.good.reads, listed-is)
 
-  module _ (r : List ℕ) {x : Recording} (j : x ≡ judged_of marks r) where
-    pub recording_broken : (code bits : List ℕ) → x ≡ recording.Broken → Prepares image r marks code bits (Refused refusal.BadRecording)
-    recording_broken code bits e = record {
-      refused = λ f d. let z : refusal.BadRecording ≡ f = cc in then_is r ∙ means_broken tree marks passes.marked r (sym j ∙ e) ∙ ap (λ (y : ScanRefusal). stopped (scan_refusal_of y)) z;
+  module _ (r : List ℕ) {x : Judged} (j : x ≡ judged_of marks r) where
+    says : (f : RecordingRefusal) → x ≡ Err f → scan_of image r ≡ stopped (scan_refusal_of (refusal_from f))
+    says Broken e = then_is r ∙ means_broken tree marks passes.marked r (sym j ∙ e)
+    says Driven e = then_is r ∙ means-driven tree marks passes.marked r (sym j ∙ e)
+
+    pub recording_refused : (code bits : List ℕ) {f : RecordingRefusal} → x ≡ Err f → Prepares image r marks code bits (Err (refusal_from f))
+    recording_refused code bits {f} e = record {
+      refused = λ g d. let z : refusal_from f ≡ g = cc in says f e ∙ ap (λ (y : ScanRefusal). stopped (scan_refusal_of y)) z;
       ready = λ p d. absurd (let z : ◌≡◌ {A = ℕ} 0 1 = cc in omega arith);
     }
 
-    pub recording_driven : (code bits : List ℕ) → x ≡ recording.Driven → Prepares image r marks code bits (Refused refusal.DrivenChange)
-    recording_driven code bits e = record {
-      refused = λ f d. let z : refusal.DrivenChange ≡ f = cc in then_is r ∙ means-driven tree marks passes.marked r (sym j ∙ e) ∙ ap (λ (y : ScanRefusal). stopped (scan_refusal_of y)) z;
-      ready = λ p d. absurd (let z : ◌≡◌ {A = ℕ} 0 1 = cc in omega arith);
-    }
-
-    module _ {n : ℕ} {c : Cursor} (e : x ≡ recording.Kept n c) {code bits : List ℕ} {v : Wired} (h : WiresRoot image q.root code bits v) where
+    module _ {n : ℕ} {c : Cursor} (e : x ≡ Ok (n, c)) {code bits : List ℕ} {v : Wired} (h : WiresRoot image q.root code bits v) where
       abbrev prepared : Prepared
       prepared = record { words = v.words; bits = v.bits; scans = n; first = c }
 
@@ -142,7 +137,7 @@ module _ {image marks : List ℕ} {q : Program} (a : Accepted image marks q) whe
         reads = plays.ahead.is;
       }
 
-      pub recording_kept : Prepares image r marks code bits (Ready (record { words = v.words; bits = v.bits; scans = n; first = c }))
+      pub recording_kept : Prepares image r marks code bits (Ok (record { words = v.words; bits = v.bits; scans = n; first = c }))
       recording_kept = record {
         refused = λ f d. absurd (let z : ◌≡◌ {A = ℕ} 0 1 = cc in omega arith);
         ready = λ p d.
@@ -160,14 +155,14 @@ module _ {image marks : List ℕ} {q : Program} (a : Accepted image marks q) whe
 pub marks-kept : {marks : List ℕ} (marks' : List ℕ) → NoMarks marks → length marks' ≡ length marks → points ≤ length marks'
 marks-kept marks' m e = let l = m.long in omega arith
 
-module _ {image marks names : List ℕ} {k : Checked} (h : Checks image marks names k) where
-  pub check_passed : {q : Program} → k ≡ checked.Passed q → Accepted image marks q
+module _ {image marks names : List ℕ} {k : Result Program PanelRefusal} (h : Checks image marks names k) where
+  pub check_passed : {q : Program} → k ≡ Ok q → Accepted image marks q
   check_passed e = record { names = names; checks = subst (Checks image marks names) e h }
 
-  refused-is : {f : PanelRefusal} → k ≡ checked.Refused f → panel_of image ≡ p.refused (panel_refusal_of f)
+  refused-is : {f : PanelRefusal} → k ≡ Err f → panel_of image ≡ p.refused (panel_refusal_of f)
   refused-is e = h.is ∙ ap (ending_in names) e
 
-  pub check_refused : {f : PanelRefusal} (r code bits : List ℕ) → k ≡ checked.Refused f → Prepares image r marks code bits (Refused (refusal.Panel f))
+  pub check_refused : {f : PanelRefusal} (r code bits : List ℕ) → k ≡ Err f → Prepares image r marks code bits (Err (refusal.Panel f))
   unfolding panel_of of_image scan_of scan_of_image then_scanned
   check_refused {f} r code bits e = record {
     refused = λ x d. let z : refusal.Panel f ≡ x = cc in by (read_image read_tree_image image) refl (refused-is e) ∙ ap (λ (y : ScanRefusal). stopped (scan_refusal_of y)) z;
@@ -178,4 +173,6 @@ module _ {image marks names : List ℕ} {k : Checked} (h : Checks image marks na
       by {y} (got i s) u v = let z : profile i.root ≡ p.refused y = sym (rw u) ∙ v in rw (u, z)
       by {y} (fault c) u v = let z : p.refused (p.base c) ≡ p.refused y = sym (rw u) ∙ v in let m : p.base c ≡ y = cc in rw u (ap (λ (b : p.PanelRefusal). stopped (panel b)) m)
 
-pub ruleset prepare_laws = (good-fits, good-short, root-wired, accepted_root, recording_broken, recording_driven, recording_kept, check_passed, check_refused)
+-- what `?` hands on
+pub prepares_handed : {image recording marks code bits : List ℕ} {r : Result Prepared ScanRefusal} {f : ScanRefusal} → IsErrAnd r (λ e. e ≡ f) → Prepares image recording marks code bits (Err f) → Prepares image recording marks code bits r
+prepares_handed {image} {recording} {marks} {code} {bits} h w = subst (Prepares image recording marks code bits) (sym (handed_on h refl)) w

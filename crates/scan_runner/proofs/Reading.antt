@@ -1,11 +1,13 @@
 -- What was read of a recording: its values are 0 or 1, each scan has a byte at least, and one scan more.
-use mathlib.Core.Path.{◌≡◌, refl, sym, ap, ◌∙◌, subst}
-use Prim.Native.Nat.{ℕ, zero, suc, ◌+◌, ◌-◌, ◌≤◌, ◌<◌}
+use mathlib.Core.Path.{◌≡◌, sym, ap, ◌∙◌, subst}
+use Prim.Native.Nat.{ℕ, zero, suc, ◌-◌, ◌≤◌, ◌<◌}
 use native.Mathlib.Omega.{arith}
 use mathlib.Core.Bool.{Bool, true, false}
 use mathlib.Core.List.{List, [], ◌∷◌}
 use lib.Dec.{leb}
-use lib.ListN.{length, drop, length-drop}
+use lib.ListN.{length, take, drop, length-drop}
+use lib.Seq.{take-length}
+use Rattle.std.specs.Prelude.{Ok, Err}
 use Rattle.model.specs.Choice.{when◌then◌else◌}
 use Rattle.model.specs.Reading.{Read, got, fault, num}
 use Rattle.codec_laws.proofs.NumberTrip.{got-value, got-rest, fault≢got}
@@ -16,11 +18,15 @@ use Rattle.numbers.proofs.Tails.{Shrinks, shrinks_got, shrinks_fault, shrinks_ne
 use Rattle.requests.specs.Recording.{Change, read_change, read_changes, read_scan, read_scans, read_to_end}
 use Rattle.requests.proofs.Binary.{BinaryChanges, BinaryScans}
 use Rattle.requests.proofs.Recordings.{change-fits}
-use Rattle.recordings.specs.declared.Recording.{Recording}
-use Rattle.recordings.specs.declared.Recording.TheVariants.{Kept, Broken, Driven}
-use Rattle.recordings.specs.Judging.{any_marked, judged_all, judged_count, judged_of}
+use Rattle.recordings.specs.declared.RecordingRefusal.TheVariants.{Broken, Driven}
+use Rattle.recordings.specs.Judging.{Judged, any_marked, judged_all, judged_count, judged_of}
 use Rattle.recordings.proofs.Checking.{changes_tail}
 use Rattle.scan_lines.specs.Lengths.{most_scans}
+
+-- ---- a slice to the end
+
+pub to_end : (l : List ℕ) (n : ℕ) → take (length l - n) (drop n l) ≡ drop n l
+to_end l n = rw (← length-drop n l) (take-length (drop n l))
 
 -- ---- values are 0 or 1
 
@@ -93,27 +99,27 @@ scans-bytes (suc n) s r e =
     let m = scans-bytes n f.mid f.others f.reads-others in
     omega arith
 
-first-behind : (marks s : List ℕ) (n : ℕ) (c : Cursor) → judged_of marks s ≡ Kept n c → 0 < c.at
+first-behind : (marks s : List ℕ) (n : ℕ) (c : Cursor) → judged_of marks s ≡ Ok (n, c) → 0 < c.at
 unfolding judged_of judged_count judged_all
 first-behind marks s n c = go (leb (length s) most_image)
   where
-    scans : (m : ℕ) (a : Cursor) (g : Read (List (List Change))) → judged_all marks m a g ≡ Kept n c → a ≡ c
+    scans : (m : ℕ) (a : Cursor) (g : Read (List (List Change))) → judged_all marks m a g ≡ Ok (n, c) → a ≡ c
     scans m a (got r rest) d = by (any_marked marks r) d
       where
-        by : (b : Bool) → (when b then Driven else Kept m a) ≡ Kept n c → a ≡ c
+        by : (b : Bool) → when◌then◌else◌ {A = Judged} b (Err Driven) (Ok (m, a)) ≡ Ok (n, c) → a ≡ c
         by true e = absurd (let z : ◌≡◌ {A = ℕ} 0 1 = cc in omega arith)
-        by false e = cc
+        by false e = let z : ◌≡◌ {A = ℕ × Cursor} (m, a) (n, c) = cc in ap (λ (p : ℕ × Cursor). p.1) z
     scans m a (fault f) e = absurd (let z : ◌≡◌ {A = ℕ} 0 1 = cc in omega arith)
 
-    count : (g : Read ℕ) → Shrinks s g → judged_count marks (length s) g ≡ Kept n c → 0 < c.at
+    count : (g : Read ℕ) → Shrinks s g → judged_count marks (length s) g ≡ Ok (n, c) → 0 < c.at
     count (got m rest) (shrinks_got k) e = let z = ap (λ (a : Cursor). a.at) (scans m (record { at = length s - length rest }) (read_to_end m rest) e) in omega arith
     count (fault f) k e = absurd (let z : ◌≡◌ {A = ℕ} 0 1 = cc in omega arith)
 
-    go : (b : Bool) → (when b then judged_count marks (length s) (num s) else Broken) ≡ Kept n c → 0 < c.at
+    go : (b : Bool) → (when b then judged_count marks (length s) (num s) else Err Broken) ≡ Ok (n, c) → 0 < c.at
     go true e = count (num s) (num_shrinks s) e
     go false e = absurd (let z : ◌≡◌ {A = ℕ} 0 1 = cc in omega arith)
 
-pub scans-fit : (marks s : List ℕ) (n : ℕ) (c : Cursor) → judged_of marks s ≡ Kept n c → length s ≤ most_image → c.at ≤ length s → (r : List (List Change))
+pub scans-fit : (marks s : List ℕ) (n : ℕ) (c : Cursor) → judged_of marks s ≡ Ok (n, c) → length s ≤ most_image → c.at ≤ length s → (r : List (List Change))
     → read_scans n (drop c.at s) ≡ got r [] → n < most_scans
 scans-fit marks s n c j short within r e =
     let f = first-behind marks s n c j in

@@ -1,9 +1,9 @@
 -- One scan: the changes taken, and the code run.
-use mathlib.Core.Path.{◌≡◌, refl, sym, ap, ◌∙◌, subst}
-use Prim.Native.Nat.{ℕ, ◌+◌, ◌-◌, ◌≤◌, ◌<◌}
+use mathlib.Core.Path.{◌≡◌, sym, ap, ◌∙◌, subst}
+use Prim.Native.Nat.{ℕ, ◌-◌, ◌<◌}
 use native.Mathlib.Omega.{arith}
 use mathlib.Core.List.{List, [], ◌∷◌}
-use lib.ListN.{length, set, drop, length-set}
+use lib.ListN.{length, drop}
 use Rattle.model.specs.Trees.{Tree, var}
 use Rattle.model.specs.Reading.{got}
 use Rattle.codec_laws.proofs.NumberTrip.{got-value, got-rest}
@@ -14,9 +14,9 @@ use Rattle.requests.proofs.Binary.{BinaryChanges, scans-binary}
 use Rattle.numbers.specs.Answers.{kept}
 use Rattle.numbers.specs.declared.Cursor.{Cursor}
 use Rattle.bits.specs.Meeting.{last_mark}
-use Rattle.recordings.specs.Taking.{Readable, Taken}
-use Rattle.ladder.specs.Code.{Instruction, rungs}
-use Rattle.ladder.specs.Running.{Running, begun, run, instructions_of}
+use Rattle.recordings.specs.Taking.{Taken}
+use Rattle.ladder.specs.Code.{Instruction}
+use Rattle.ladder.specs.Running.{Running, begun, run}
 use Rattle.ladder.specs.Places.{Ready, after_code}
 use Rattle.ladder.proofs.Programs.{program_runs}
 use Rattle.scan_runner.specs.Stepping.{Scannable, CodeOf, Scanned}

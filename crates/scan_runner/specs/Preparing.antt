@@ -1,5 +1,5 @@
 -- What is known before the first scan.
-use Rattle.std.specs.Prelude.{ℕ, ◌≤◌, ◌<◌, ◌≡◌, true, List, [], length, take, drop}
+use Rattle.std.specs.Prelude.{ℕ, ◌≤◌, ◌<◌, ◌≡◌, true, List, [], length, take, drop, Result, Ok, Err}
 use Rattle.model.specs.Trees.{Tree}
 use Rattle.model.specs.Reading.{got}
 use Rattle.requests.specs.Panel.{is_program, driven, bits_of}
@@ -8,26 +8,17 @@ use Rattle.requests.specs.Scanning.{starts}
 use Rattle.requests.specs.ScanJob.{text_of, stopped, printed, scan_of}
 use Rattle.numbers.specs.Limits.{most_image}
 use Rattle.bits.specs.Meeting.{room}
-use Rattle.panel_check.specs.declared.Program.{Program}
-use Rattle.panel_check.specs.declared.Checked.TheVariants as checked
-use Rattle.panel_check.specs.Checking.{RootGood, Checks}
+use Rattle.panel_check.specs.Checking.{RootGood}
 use Rattle.ladder.specs.Code.{rungs}
-use Rattle.ladder.specs.Running.{instructions_of, Fits}
+use Rattle.ladder.specs.Running.{Fits}
 use Rattle.wiring.specs.declared.Wired.{Wired}
 use Rattle.wiring.specs.Wiring as w
 use Rattle.scan_lines.specs.Lines.{Marks}
 use Rattle.scan_lines.specs.Lengths.{most_scans}
 use Rattle.scan_runner.specs.declared.refusal.ScanRefusal.{ScanRefusal}
 use Rattle.scan_runner.specs.declared.preparation.Prepared.{Prepared}
-use Rattle.scan_runner.specs.declared.preparation.Preparation.{Preparation}
-use Rattle.scan_runner.specs.declared.preparation.Preparation.TheVariants.{Ready, Refused}
 use Rattle.scan_runner.specs.Refusing.{scan_refusal_of}
 use Rattle.scan_runner.specs.Stepping.{CodeOf}
-
--- by the panel check, whatever names it kept
-pub record Accepted (image marks : List ℕ) (q : Program) : Type 0 where
-  pub names : List ℕ
-  pub checks : Checks image marks names (checked.Passed q)
 
 -- of a root that is a program
 abbrev pub WiresRoot : List ℕ → ℕ → List ℕ → List ℕ → Wired → Type 0
@@ -62,6 +53,6 @@ pub record Made (image recording marks code bits : List ℕ) (p : Prepared) : Ty
   pub says : scan_of image recording ≡ printed text
   pub stands : Stands recording marks code bits p text
 
-pub record Prepares (image recording marks code bits : List ℕ) (r : Preparation) : Type 0 where
-  pub refused : (f : ScanRefusal) → r ≡ Refused f → scan_of image recording ≡ stopped (scan_refusal_of f)
-  pub ready : (p : Prepared) → r ≡ Ready p → Made image recording marks code bits p
+pub record Prepares (image recording marks code bits : List ℕ) (r : Result Prepared ScanRefusal) : Type 0 where
+  pub refused : (f : ScanRefusal) → r ≡ Err f → scan_of image recording ≡ stopped (scan_refusal_of f)
+  pub ready : (p : Prepared) → r ≡ Ok p → Made image recording marks code bits p

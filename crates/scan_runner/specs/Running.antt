@@ -1,5 +1,5 @@
 -- All scans of a recording, one line after another, and the job.
-use Rattle.std.specs.Prelude.{ℕ, suc, ◌≤◌, ◌≡◌, List, [], length, drop, replicate}
+use Rattle.std.specs.Prelude.{ℕ, suc, ◌≤◌, ◌≡◌, List, [], length, drop, replicate, Result, Ok, Err}
 use Rattle.std.proofs.lemmas.List.Edits.{sets}
 use Rattle.model.specs.Trees.{Tree}
 use Rattle.model.specs.Reading.{got}
@@ -11,8 +11,7 @@ use Rattle.bits.specs.Meeting as meeting
 use Rattle.ladder.specs.Places.{Ready}
 use Rattle.scan_lines.specs.Lines.{Points}
 use Rattle.scan_runner.specs.declared.preparation.Prepared.{Prepared}
-use Rattle.scan_runner.specs.declared.job.Printing.{Printing}
-use Rattle.scan_runner.specs.declared.job.Printing.TheVariants.{Printed, Refused}
+use Rattle.scan_runner.specs.declared.refusal.ScanRefusal.{ScanRefusal}
 use Rattle.scan_runner.specs.Refusing.{scan_refusal_of}
 use Rattle.scan_runner.specs.Stepping.{CodeOf}
 use Rattle.scan_runner.specs.Preparing.{Stands}
@@ -46,17 +45,17 @@ pub record Standing (recording marks code points bits : List ℕ) (p : Prepared)
   pub marks-long : meeting.points ≤ length marks
   pub points-are : points ≡ replicate meeting.points 0
 
-abbrev pub answer_for : Printing → Answer
-answer_for (Printed n) = record { code = 0; units = 0; name = 0; len = n; first = 0; second = 0 }
-answer_for (Refused f) = record { code = scan_code (scan_refusal_of f); units = 0; name = 0; len = 0; first = 0; second = 0 }
+abbrev pub answer_for : Result ℕ ScanRefusal → Answer
+answer_for (Ok n) = record { code = 0; units = 0; name = 0; len = n; first = 0; second = 0 }
+answer_for (Err f) = record { code = scan_code (scan_refusal_of f); units = 0; name = 0; len = 0; first = 0; second = 0 }
 
 -- an ending, as the code answers it and leaves the bytes lent
-pub record Ends (e : ScanEnding) (out out' : List ℕ) (r : Printing) : Type 0 where
+pub record Ends (e : ScanEnding) (out out' : List ℕ) (r : Result ℕ ScanRefusal) : Type 0 where
   pub answer : answer_for r ≡ scan_answer e
   pub left : out' ≡ output_after_scans e out
 
-pub record RunsPrepared (recording marks code bits : List ℕ) (p : Prepared) (out out' : List ℕ) (r : Printing) : Type 0 where
+pub record RunsPrepared (recording marks code bits : List ℕ) (p : Prepared) (out out' : List ℕ) (r : Result ℕ ScanRefusal) : Type 0 where
   pub ends : (text : List ℕ) → Stands recording marks code bits p text → Ends (scan_room (length out) (printed text)) out out' r
 
-abbrev pub Runs : List ℕ → List ℕ → List ℕ → List ℕ → Printing → Type 0
+abbrev pub Runs : List ℕ → List ℕ → List ℕ → List ℕ → Result ℕ ScanRefusal → Type 0
 Runs image recording out out' r = Ends (scan_room (length out) (scan_of image recording)) out out' r

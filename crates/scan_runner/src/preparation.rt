@@ -1,14 +1,12 @@
 // What comes before the first scan: the image is checked, the recording judged, and the program wired.
 ghost use Rattle.std.specs.Prelude.{◌≤◌, length};
-ghost use Rattle.bits.specs.Meeting.{room, points, NoMarks};
+ghost use Rattle.bits.specs.Meeting.{room, NoMarks};
 ghost use Rattle.wiring.specs.Words.{most_words};
 ghost use Rattle.panel_check.specs.Checking.{RootGood};
-ghost use Rattle.scan_runner.specs.Preparing.{Accepted, WiresRoot, Prepares};
+ghost use Rattle.scan_runner.specs.Preparing.{WiresRoot, Prepares};
 
 use crate::refusal::ScanRefusal;
 use numbers::Cursor;
-use panel_check::{Checked, Program};
-use recordings::Recording;
 use wiring::Wired;
 
 // What is known of a program and a recording that are accepted: the words of the code and the bits, how many scans there are, and where
@@ -21,48 +19,12 @@ pub struct Prepared {
     pub first: Cursor,
 }
 
-#[derive(Clone, Copy)]
-pub enum Preparation {
-    Ready(Prepared),
-    Refused(ScanRefusal),
-}
-
 // The code of a program whose root begins here, and the start values of its bits.
 fn wire_root(image: &[u8], root: usize, code: &mut [u16], bits: &mut [u8]) -> Wired
     requires { RootGood image.now root × (most_words ≤ length code.old) × (room ≤ length bits.old) }
     ensures { WiresRoot image.now root code.new bits.new result }
 {
-    let front = Cursor { at: 0 };
-    let c = Cursor { at: root };
-    wiring::wire(c, front.after(image, c), code, bits)
-}
-
-// A program that the panel check accepts.
-fn prepare_program(
-    image: &[u8],
-    recording: &[u8],
-    marks: &[u8],
-    code: &mut [u16],
-    bits: &mut [u8],
-    program: Program,
-) -> Preparation
-    requires accepted { Accepted image.now marks.now program }
-    requires room { (points ≤ length marks.now) × (most_words ≤ length code.old) × (room ≤ length bits.old) }
-    ensures { Prepares image.now recording.now marks.now code.new bits.new result }
-{
-    match recordings::judge(recording, marks) {
-        Recording::Kept(scans, first) => {
-            let w = wire_root(image, program.root, code, bits);
-            Preparation::Ready(Prepared {
-                words: w.words,
-                bits: w.bits,
-                scans,
-                first,
-            })
-        }
-        Recording::Broken => Preparation::Refused(ScanRefusal::BadRecording),
-        Recording::Driven => Preparation::Refused(ScanRefusal::DrivenChange),
-    }
+    wiring::wire(Cursor { at: root }, &image[root..], code, bits)
 }
 
 // `marks` has no mark yet. Of a program and a recording that are accepted, it has the points driven afterwards, `code` the program's code,
@@ -74,13 +36,18 @@ pub fn prepare(
     names: &mut [u32],
     code: &mut [u16],
     bits: &mut [u8],
-) -> Preparation
+) -> Result<Prepared, ScanRefusal>
     requires clear { NoMarks marks.old × (room ≤ length names.old) }
     requires room { (most_words ≤ length code.old) × (room ≤ length bits.old) }
     ensures { Prepares image.now recording.now marks.new code.new bits.new result }
 {
-    match panel_check::check(image, marks, names) {
-        Checked::Passed(p) => prepare_program(image, recording, marks, code, bits, p),
-        Checked::Refused(f) => Preparation::Refused(ScanRefusal::Panel(f)),
-    }
+    let program = panel_check::check(image, marks, names)?;
+    let (scans, first) = recordings::judge(recording, marks)?;
+    let wired = wire_root(image, program.root, code, bits);
+    Ok(Prepared {
+        words: wired.words,
+        bits: wired.bits,
+        scans,
+        first,
+    })
 }

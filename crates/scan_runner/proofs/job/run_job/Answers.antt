@@ -1,24 +1,17 @@
-use Rattle.scan_runner.proofs.Ending.{job_laws}
-use Rattle.std.proofs.Common.{rules}
+use Rattle.std.proofs.Common.{rules, refl}
+use Rattle.bits.proofs.Gathering.{no-marks}
+use Rattle.panel_check.proofs.Names.{names-long}
+use Rattle.scan_runner.proofs.Ending.{places_room, job_handed, job_standing, job_ran}
 use Rattle.scan_runner.proofs.job.run_job.Goals as goal
 
-pub slice_bounds-run_with-end : goal.slice_bounds-run_with-end
-slice_bounds-run_with-end c = search (job_laws, rules)
+pub prepare-requires-clause-clear : goal.prepare-requires-clause-clear
+prepare-requires-clause-clear c = search (no-marks, names-long, rules)
 
-pub slice_bounds-run_with-end-2 : goal.slice_bounds-run_with-end-2
-slice_bounds-run_with-end-2 c = search (job_laws, rules)
+pub returns-in_err-p : goal.returns-in_err-p
+returns-in_err-p c = job_handed c.prepare.ensures c.in_err-p.was c.from_residual.ensures.1
 
-pub slice_bounds-run_with-end-3 : goal.slice_bounds-run_with-end-3
-slice_bounds-run_with-end-3 c = search (job_laws, rules)
-
-pub slice_bounds-run_with-end-4 : goal.slice_bounds-run_with-end-4
-slice_bounds-run_with-end-4 c = search (job_laws, rules)
-
-pub slice_bounds-run_with-end-5 : goal.slice_bounds-run_with-end-5
-slice_bounds-run_with-end-5 c = search (job_laws, rules)
-
-pub run_with-requires : goal.run_with-requires
-run_with-requires c = search (job_laws, rules)
+pub run_prepared-requires : goal.run_prepared-requires
+run_prepared-requires c = job_standing c.prepare.ensures c.in_ok-p.was (search (places_room, rules)) refl
 
 pub returns : goal.returns
-returns c = search (job_laws, rules)
+returns c = job_ran c.prepare.ensures c.in_ok-p.was c.run_prepared.ensures
