@@ -9,57 +9,44 @@ use lib.ListN.{length, get_or, drop, drop_of_length-le}
 use borrow.Author.Tests.{ne_eqb}
 use Rattle.requests.specs.Tokens.{digit, all_digits, numeral, value}
 use Rattle.text_laws.proofs.Decimals.{value_grows}
-use Rattle.words.proofs.Bytes.{at-cons}
+use native.Mathlib.Numerals.{add-one}
+use lib.Seq.{drop-cons}
 use Rattle.tokens.specs.Decimals.{over, Valued, DecimalIs}
-use Rattle.tokens.specs.declared.decimals.Decimal.TheVariants.{No, Is, Over}
+use Rattle.tokens.specs.declared.decimals.DecimalError.TheVariants.{NoNumeral, TooLarge}
+use Rattle.std.specs.Prelude.{Ok, Err}
+use Rattle.std.specs.List.{list_all}
 
 -- ---- all are digits
 
-all-step : (s : List ℕ) (i : ℕ) → i < length s → all_digits (drop i s) ≡ (digit (get_or s i 0) && all_digits (drop (i + 1) s))
+pub all_are : (s : List ℕ) → list_all digit s ≡ all_digits s
 unfolding all_digits
-all-step s i h = ap all_digits (at-cons s i h)
-
-all_none : all_digits [] ≡ true
-unfolding all_digits
-all_none = refl
-
-module _ (s : List ℕ) {i : ℕ} (so_far : all_digits s ≡ all_digits (drop i s)) where
-  pub all_end : length s ≤ i → true ≡ all_digits s
-  all_end h = sym (so_far ∙ ap all_digits (drop_of_length-le s h) ∙ all_none)
-
-  module _ {f : Bool} (h : i < length s) (e : f ≡ digit (get_or s i 0)) where
-    pub all_on : f ≡ true → all_digits s ≡ all_digits (drop (i + 1) s)
-    all_on t = so_far ∙ all-step s i h ∙ simp (sym e ∙ t)
-
-    pub all_stop : f ≡ false → false ≡ all_digits s
-    all_stop t = sym (so_far ∙ all-step s i h ∙ simp (sym e ∙ t))
-
-pub ruleset all_laws = (all_end, all_on, all_stop)
+all_are [] = refl
+all_are (b ∷ s) = ap (λ (t : Bool). digit b && t) (all_are s)
 
 -- ---- a numeral
 
-pub numeral-none : (s : List ℕ) → length s ≡ 0 → false ≡ numeral s
+pub numeral-none : (s : List ℕ) → length s < 1 → false ≡ numeral s
 unfolding numeral
-numeral-none [] e = refl
-numeral-none (b ∷ s) e = absurd (omega arith)
+numeral-none [] h = refl
+numeral-none (b ∷ s) h = absurd (omega arith)
 
-pub numeral-one : (s : List ℕ) {d : Bool} → length s ≡ 1 → d ≡ digit (get_or s 0 0) → d ≡ numeral s
+pub numeral-one : (s : List ℕ) {d : Bool} → 1 ≤ length s → length s < 2 → d ≡ digit (get_or s 0 0) → d ≡ numeral s
 unfolding numeral
-numeral-one [] e h = absurd (omega arith)
-numeral-one (b ∷ []) e h = h
-numeral-one (b ∷ c ∷ s) e h = absurd (omega arith)
+numeral-one [] p q h = absurd (omega arith)
+numeral-one (b ∷ []) p q h = h
+numeral-one (b ∷ c ∷ s) p q h = absurd (omega arith)
 
-pub numeral-zero : (s : List ℕ) → (length s ≡ 0 → ⊥) → (length s ≡ 1 → ⊥) → get_or s 0 0 ≡ 48 → false ≡ numeral s
+pub numeral-zero : (s : List ℕ) → 2 ≤ length s → get_or s 0 0 ≡ 48 → false ≡ numeral s
 unfolding numeral digit
-numeral-zero [] p q e = absurd (p refl)
-numeral-zero (b ∷ []) p q e = absurd (q refl)
-numeral-zero (b ∷ c ∷ s) p q e = rw e
+numeral-zero [] p e = absurd (omega arith)
+numeral-zero (b ∷ []) p e = absurd (omega arith)
+numeral-zero (b ∷ c ∷ s) p e = rw e
 
-pub numeral-more : (s : List ℕ) {r : Bool} → (length s ≡ 0 → ⊥) → (length s ≡ 1 → ⊥) → (get_or s 0 0 ≡ 48 → ⊥) → r ≡ all_digits s → r ≡ numeral s
+pub numeral-more : (s : List ℕ) {r : Bool} → 2 ≤ length s → (get_or s 0 0 ≡ 48 → ⊥) → r ≡ all_digits s → r ≡ numeral s
 unfolding numeral all_digits
-numeral-more [] p q e h = absurd (p refl)
-numeral-more (b ∷ []) p q e h = absurd (q refl)
-numeral-more (b ∷ c ∷ s) p q e h = h ∙ go (digit b) ∙ simp (ne_eqb b 48 e)
+numeral-more [] p e h = absurd (omega arith)
+numeral-more (b ∷ []) p e h = absurd (omega arith)
+numeral-more (b ∷ c ∷ s) p e h = h ∙ go (digit b) ∙ simp (ne_eqb b 48 e)
   where
     go : (t : Bool) → (t && all_digits (c ∷ s)) ≡ (t && true && all_digits (c ∷ s))
     go true = refl
@@ -75,7 +62,10 @@ value_none n = refl
 
 value-step : (s : List ℕ) (n i : ℕ) → i < length s → value n (drop i s) ≡ value (n * 10 + (get_or s i 0 - 48)) (drop (i + 1) s)
 unfolding value
-value-step s n i h = ap (value n) (at-cons s i h)
+value-step s n i h = ap (value n) at-cons
+  where
+    at-cons : drop i s ≡ get_or s i 0 ∷ drop (i + 1) s
+    at-cons = rw (add-one, drop-cons s i 0 h)
 
 -- n is what the first i digits make; it is at most ten times a number that is not too large, and a byte
 pub record Valuing (s : List ℕ) (n i : ℕ) : Type 0 where
@@ -111,14 +101,14 @@ pub ruleset value_laws = (valuing_start, value-over, value-end, value-more)
 -- ---- the answer
 
 module _ (s : List ℕ) {t : Bool} (q : t ≡ numeral s) where
-  pub decimal_no : t ≡ false → DecimalIs s No
-  decimal_no e = record { is = sym q ∙ e }
+  pub decimal_none : t ≡ false → DecimalIs s (Err NoNumeral)
+  decimal_none e = record { is = sym q ∙ e }
 
   module _ {n : ℕ} (e : t ≡ true) (v : Valued s n) where
-    pub decimal_is : n < over → DecimalIs s (Is n)
-    decimal_is h = record { is = (sym q ∙ e, v.exact h) }
+    pub decimal_ok : n < over → DecimalIs s (Ok n)
+    decimal_ok h = record { is = (sym q ∙ e, v.exact h) }
 
-    pub decimal_over : over ≤ n → DecimalIs s Over
-    decimal_over h = record { is = (sym q ∙ e, v.large h) }
+    pub decimal_large : over ≤ n → DecimalIs s (Err TooLarge)
+    decimal_large h = record { is = (sym q ∙ e, v.large h) }
 
-pub ruleset decimal_laws = (decimal_no, decimal_is, decimal_over)
+pub ruleset decimal_laws = (decimal_none, decimal_ok, decimal_large)

@@ -17,7 +17,8 @@ use Rattle.tokens.specs.Walk.{RunEnds, Skipped}
 use Rattle.tokens.specs.Pieces.{PieceIs}
 use Rattle.tokens.specs.Nexts.{part, NextIs}
 use Rattle.tokens.specs.declared.pieces.Piece as pieces
-use Rattle.tokens.specs.declared.Next.TheVariants.{End, Open, Close, Piece}
+use Rattle.tokens.specs.declared.Token.TheVariants.{Open, Close, Piece}
+use Rattle.std.specs.Prelude.{None, Some}
 
 no-tokens : tokens [] ≡ []
 unfolding tokens
@@ -42,14 +43,14 @@ module _ (t : List ℕ) (at : ℕ) {n : ℕ} (inside : at ≤ length t) (k : Ski
   pub from-within : at + n ≤ length t
   from-within = let l = skipped.inside in let d = length-drop at t in omega arith
 
-  pub next-end : length t ≤ at + n → NextIs t at End
+  pub next-end : length t ≤ at + n → NextIs t at None
   next-end h = record { is = rest ∙ ap tokens (drop_of_length-le t h) ∙ no-tokens }
 
   module _ (h : at + n < length t) where
     first : drop (at + n) t ≡ get_or t (at + n) 0 ∷ drop (at + n + 1) t
     first = rw (add-one, drop-cons t (at + n) 0 h)
 
-    pub next_open : get_or t (at + n) 0 ≡ 40 → NextIs t at (Open (at + n + 1))
+    pub next_open : get_or t (at + n) 0 ≡ 40 → NextIs t at (Some (Open, at + n + 1))
     next_open e = record {
       is = record {
         onward = omega arith;
@@ -58,7 +59,7 @@ module _ (t : List ℕ) (at : ℕ) {n : ℕ} (inside : at ≤ length t) (k : Ski
       };
     }
 
-    pub next_close : get_or t (at + n) 0 ≡ 41 → NextIs t at (Close (at + n + 1))
+    pub next_close : get_or t (at + n) 0 ≡ 41 → NextIs t at (Some (Close, at + n + 1))
     next_close e = record {
       is = record {
         onward = omega arith;
@@ -80,8 +81,8 @@ module _ (t : List ℕ) (at : ℕ) {n : ℕ} (inside : at ≤ length t) (k : Ski
       ends : RunEnds (drop (at + n) t) m
       ends = subst (λ (l : List ℕ). RunEnds l m) (part-from (at + n) t) r
 
-      pub to-within : at + n + m ≤ length t
-      to-within = let l = ends.inside in let d = length-drop (at + n) t in omega arith
+      within-here : at + n + m ≤ length t
+      within-here = let l = ends.inside in let d = length-drop (at + n) t in omega arith
 
       the_run : take m (drop (at + n) t) ≡ get_or t (at + n) 0 ∷ run (drop (at + n + 1) t)
       the_run = ends.piece ∙ ap run first ∙ (run-first (get_or t (at + n) 0) (drop (at + n + 1) t) plain.0).0
@@ -99,8 +100,8 @@ module _ (t : List ℕ) (at : ℕ) {n : ℕ} (inside : at ≤ length t) (k : Ski
       the_part : part t (at + n) (at + n + m) ≡ get_or t (at + n) 0 ∷ run (drop (at + n + 1) t)
       the_part = let d : at + n + m - (at + n) ≡ m = omega arith in ap (λ (k : ℕ). take k (drop (at + n) t)) d ∙ the_run
 
-      pub next-piece : {q : pieces.Piece} → PieceIs (part t (at + n) (at + n + m)) q → NextIs t at (Piece q (at + n) (at + n + m))
-      next-piece {q} w =
+      piece-here : {q : pieces.Piece} → PieceIs (part t (at + n) (at + n + m)) q → NextIs t at (Some (Piece q (at + n), at + n + m))
+      piece-here {q} w =
           let no : paren (get_or (part t (at + n) (at + n + m)) 0 0) ≡ false = ap (λ (l : List ℕ). paren (get_or l 0 0)) the_part ∙ plain.1 in
           let s = some in
           record {
@@ -108,7 +109,7 @@ module _ (t : List ℕ) (at : ℕ) {n : ℕ} (inside : at ≤ length t) (k : Ski
               token = token_of (part t (at + n) (at + n + m));
               goes = record {
                 onward = omega arith;
-                within = to-within;
+                within = within-here;
                 here = rest ∙ ap tokens first ∙ after-piece (get_or t (at + n) 0) (drop (at + n + 1) t) plain.0
                     ∙ ap₂ (λ (w l : List ℕ). token_of w ∷ tokens l) (sym the_part) (sym the_rest);
               };
@@ -117,5 +118,15 @@ module _ (t : List ℕ) (at : ℕ) {n : ℕ} (inside : at ≤ length t) (k : Ski
               means = w.is no;
             };
           }
+
+    pub next-piece : {b : ℕ} → b ≡ get_or t (at + n) 0 → (b ≡ 40 → ⊥) → (b ≡ 41 → ⊥) → {m : ℕ} → RunEnds (take (length t - (at + n)) (drop (at + n) t)) m
+        → {q : pieces.Piece} → PieceIs (part t (at + n) (at + n + m)) q → NextIs t at (Some (Piece q (at + n), at + n + m))
+    next-piece e y z r w = piece-here (λ k. y (e ∙ k)) (λ k. z (e ∙ k)) r w
+
+-- a run ends in the text
+pub to-within : (t : List ℕ) (i : ℕ) {m : ℕ} → i ≤ length t → RunEnds (take (length t - i) (drop i t)) m → i + m ≤ length t
+to-within t i {m} h r =
+    let l : m ≤ length (take (length t - i) (drop i t)) = r.inside in
+    let e = ap length (part-from i t) in let d = length-drop i t in omega arith
 
 pub ruleset next_laws = (from-within, next-end, next_open, next_close, to-within, next-piece)

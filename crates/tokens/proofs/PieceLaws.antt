@@ -10,16 +10,19 @@ use borrow.Author.Tests.{ne_eqb, le-leb, lt-leb, lt-ltb, le-ltb}
 use Rattle.model.specs.Choice.{when◌then◌else◌}
 use Rattle.model.specs.Limits.{last_point, last_primitive, last_rung_word}
 use Rattle.model.specs.Objects.{tag_of, content_of}
-use Rattle.model.specs.Reading.{good_word, same_bytes, among}
+use Rattle.model.specs.Reading.{good_word, among}
 use Rattle.model.specs.Writing.{stx_bytes}
 use Rattle.numbers.proofs.Reading.{part-from}
 use Rattle.requests.specs.Tokens.{paren, digit, numeral, value, Leaf, word, number, point, prim, rung, Token, opening, closing, bad, one, rung_words, place, numbered, rung_token, token_of}
 use Rattle.requests.specs.FromText.{met, atom_of, leaf_fits}
 use Rattle.text_laws.proofs.Words.{among-place, not_among_place}
+use Rattle.tokens.proofs.Names.{place_some, place_none}
 use Rattle.tokens.specs.Decimals.{over, ShowsDecimal, DecimalIs}
-use Rattle.tokens.specs.Pieces.{last_prim, AtomIs, means, Means, Kind, Marks, Rungs, PieceIs}
-use Rattle.tokens.specs.declared.decimals.Decimal.{Decimal}
-use Rattle.tokens.specs.declared.decimals.Decimal.TheVariants as decimal
+use Rattle.tokens.specs.Pieces.{rung_named, last_prim, AtomIs, means, Means, Kind, Marks, Rungs, PieceIs}
+use Rattle.std.proofs.Common.{Option, Result}
+use Rattle.tokens.specs.declared.decimals.DecimalError.{DecimalError}
+use Rattle.tokens.specs.declared.decimals.DecimalError.TheVariants.{NoNumeral, TooLarge}
+use Rattle.std.specs.Prelude.{Ok, Err, None, Some}
 use Rattle.tokens.specs.declared.pieces.Piece.{Piece}
 use Rattle.tokens.specs.declared.pieces.Piece.TheVariants.{Bad, Word, Atom, Over}
 
@@ -84,83 +87,45 @@ numbered-no : (k : ℕ → Leaf) (s : List ℕ) → numeral s ≡ false → numb
 unfolding numbered
 numbered-no k s e = rw e
 
-module _ {s : List ℕ} {d : Decimal} (h : DecimalIs s d) where
-  no_number : d ≡ decimal.No → numeral s ≡ false
-  no_number e = subst (ShowsDecimal s) e h.is
+module _ {s : List ℕ} {d : Result ℕ DecimalError} (h : DecimalIs s d) where
+  none_there : d ≡ Err NoNumeral → numeral s ≡ false
+  none_there e = subst (ShowsDecimal s) e h.is
 
-  the_number : {n : ℕ} → d ≡ decimal.Is n → (numeral s ≡ true) × (value 0 s ≡ n)
-  the_number e = subst (ShowsDecimal s) e h.is
+  number_there : {n : ℕ} → d ≡ Ok n → (numeral s ≡ true) × (value 0 s ≡ n)
+  number_there e = subst (ShowsDecimal s) e h.is
 
-  large-number : d ≡ decimal.Over → (numeral s ≡ true) × (over ≤ value 0 s)
-  large-number e = subst (ShowsDecimal s) e h.is
+  large_there : d ≡ Err TooLarge → (numeral s ≡ true) × (over ≤ value 0 s)
+  large_there e = subst (ShowsDecimal s) e h.is
 
-  pub mark_no : {tag most : ℕ} → d ≡ decimal.No → Marks s tag most Bad
-  mark_no e = record { is = λ k w y. record { is = numbered-no k s (no_number e) } }
+  pub mark_none : {tag most : ℕ} {f : DecimalError} → d ≡ Err f → f ≡ NoNumeral → Marks s tag most Bad
+  mark_none e g = record { is = λ k w y. record { is = numbered-no k s (none_there (e ∙ ap Err g)) } }
 
-  module _ {tag most n : ℕ} (e : d ≡ decimal.Is n) where
-    pub mark_is : n ≤ most → Marks s tag most (Atom tag n)
-    mark_is l = record {
+  module _ {tag most n : ℕ} (e : d ≡ Ok n) where
+    pub mark_ok : n ≤ most → Marks s tag most (Atom tag n)
+    mark_ok l = record {
       is = λ k w y. record {
-        is = record { leaf = k n; is = numbered-yes k s (the_number e).0 ∙ ap (λ (z : ℕ). one (k z)) (the_number e).1; atom-is = y.within n l };
+        is = record { leaf = k n; is = numbered-yes k s (number_there e).0 ∙ ap (λ (z : ℕ). one (k z)) (number_there e).1; atom-is = y.within n l };
       };
     }
 
     pub mark_over : most < n → Marks s tag most Over
     mark_over l = record {
       is = λ k w y. record {
-        is = record { leaf = k n; is = numbered-yes k s (the_number e).0 ∙ ap (λ (z : ℕ). one (k z)) (the_number e).1; not-fits = y.beyond n l };
+        is = record { leaf = k n; is = numbered-yes k s (number_there e).0 ∙ ap (λ (z : ℕ). one (k z)) (number_there e).1; not-fits = y.beyond n l };
       };
     }
 
-  pub mark_large : {tag most : ℕ} → d ≡ decimal.Over → most < over → Marks s tag most Over
-  mark_large {most = most} e l = record {
+  pub mark_large : {tag most : ℕ} {f : DecimalError} → d ≡ Err f → f ≡ TooLarge → most < over → Marks s tag most Over
+  mark_large {most = most} e g l = record {
     is = λ k w y. record {
-      is = record { leaf = k (value 0 s); is = numbered-yes k s (large-number e).0; not-fits = y.beyond (value 0 s) (beyond (value 0 s) (large-number e).1) };
+      is = record { leaf = k (value 0 s); is = numbered-yes k s (large_there (e ∙ ap Err g)).0; not-fits = y.beyond (value 0 s) (beyond (value 0 s) (large_there (e ∙ ap Err g)).1) };
     };
   }
     where
       beyond : (n : ℕ) → over ≤ n → most < n
       beyond n h = omega arith
 
-pub ruleset mark_laws = (mark_no, mark_is, mark_over, mark_large)
-
--- ---- named rung words
-
-module _ (w : List ℕ) where
-  pub rung-and : {r : Bool} → r ≡ same_bytes w (97 ∷ 110 ∷ 100 ∷ []) → r ≡ true → 0 ≡ place w rung_words
-  unfolding place rung_words
-  rung-and h e = simp (sym h ∙ e)
-
-  module _ {a : Bool} (ha : a ≡ same_bytes w (97 ∷ 110 ∷ 100 ∷ [])) (ea : a ≡ false) where
-    pub rung-or : {r : Bool} → r ≡ same_bytes w (111 ∷ 114 ∷ []) → r ≡ true → 1 ≡ place w rung_words
-    unfolding place rung_words
-    rung-or h e = simp (sym ha ∙ ea, sym h ∙ e)
-
-    module _ {b : Bool} (hb : b ≡ same_bytes w (111 ∷ 114 ∷ [])) (eb : b ≡ false) where
-      pub rung-not : {r : Bool} → r ≡ same_bytes w (110 ∷ 111 ∷ 116 ∷ []) → r ≡ true → 2 ≡ place w rung_words
-      unfolding place rung_words
-      rung-not h e = simp (sym ha ∙ ea, sym hb ∙ eb, sym h ∙ e)
-
-      module _ {c : Bool} (hc : c ≡ same_bytes w (110 ∷ 111 ∷ 116 ∷ [])) (ec : c ≡ false) where
-        pub rung-out : {r : Bool} → r ≡ same_bytes w (111 ∷ 117 ∷ 116 ∷ []) → r ≡ true → 3 ≡ place w rung_words
-        unfolding place rung_words
-        rung-out h e = simp (sym ha ∙ ea, sym hb ∙ eb, sym hc ∙ ec, sym h ∙ e)
-
-        module _ {d : Bool} (hd : d ≡ same_bytes w (111 ∷ 117 ∷ 116 ∷ [])) (ed : d ≡ false) where
-          pub rung-set : {r : Bool} → r ≡ same_bytes w (115 ∷ 101 ∷ 116 ∷ []) → r ≡ true → 4 ≡ place w rung_words
-          unfolding place rung_words
-          rung-set h e = simp (sym ha ∙ ea, sym hb ∙ eb, sym hc ∙ ec, sym hd ∙ ed, sym h ∙ e)
-
-          module _ {f : Bool} (hf : f ≡ same_bytes w (115 ∷ 101 ∷ 116 ∷ [])) (ef : f ≡ false) where
-            pub rung-all : {r : Bool} → r ≡ same_bytes w (97 ∷ 108 ∷ 108 ∷ []) → r ≡ true → 5 ≡ place w rung_words
-            unfolding place rung_words
-            rung-all h e = simp (sym ha ∙ ea, sym hb ∙ eb, sym hc ∙ ec, sym hd ∙ ed, sym hf ∙ ef, sym h ∙ e)
-
-            pub rung-none : {r : Bool} → r ≡ same_bytes w (97 ∷ 108 ∷ 108 ∷ []) → r ≡ false → 6 ≡ place w rung_words
-            unfolding place rung_words
-            rung-none h e = simp (sym ha ∙ ea, sym hb ∙ eb, sym hc ∙ ec, sym hd ∙ ed, sym hf ∙ ef, sym h ∙ e)
-
-pub ruleset named_laws = (rung-and, rung-or, rung-not, rung-out, rung-set, rung-all, rung-none)
+pub ruleset mark_laws = (mark_none, mark_ok, mark_over, mark_large)
 
 -- ---- what stands behind '
 
@@ -175,60 +140,87 @@ rung-free : (w : List ℕ) (t : Bool) → among w rung_words ≡ false → free 
 unfolding rung_token free
 rung-free w t e f = rw (e, f)
 
-module _ (w : List ℕ) {k : ℕ} (h : k ≡ place w rung_words) where
-  pub rung-named : k < 6 → Rungs w (Atom 4 k)
-  unfolding rung_token
-  rung-named l =
-      let p : place w rung_words < length rung_words = subst (λ (n : ℕ). place w rung_words < n) (sym six) (subst (λ (n : ℕ). n < 6) h l) in
-      record { is = λ v. record { is = record { leaf = rung k; is = rw (among-place w rung_words p, h); atom-is = rung-atom k (omega arith) } } }
+module _ (w : List ℕ) where
+  module _ {o : Option ℕ} (h : o ≡ rung_named w) where
+    pub rung-some : {k : ℕ} → o ≡ Some k → Rungs w (Atom 4 k)
+    unfolding rung_token
+    rung-some {k} f =
+        let a = place_some w rung_words 6 h f in
+        let p : place w rung_words < length rung_words = subst (λ (n : ℕ). place w rung_words < n) (sym six) a.0 in
+        let q : k < 6 = omega (arith, a.0, a.1) in
+        record { is = λ v. record { is = record { leaf = rung k; is = rw (among-place w rung_words p, a.1); atom-is = rung-atom k (omega arith) } } }
 
-  module _ (l : 6 ≤ k) where
-    not_named : among w rung_words ≡ false
-    not_named = not_among_place w rung_words (subst (λ (n : ℕ). n ≤ place w rung_words) (sym six) (subst (λ (n : ℕ). 6 ≤ n) h l))
+    module _ (f : o ≡ None) where
+      not_named : among w rung_words ≡ false
+      not_named = not_among_place w rung_words (subst (λ (n : ℕ). n ≤ place w rung_words) (sym six) (place_none w rung_words 6 h f))
 
-    module _ {d : Decimal} (y : DecimalIs w d) where
-      pub rung-no : d ≡ decimal.No → Rungs w Bad
-      unfolding free
-      rung-no e = record { is = λ v. record { is = rung-free w false not_named (rw (no_number y e)) } }
-
-      pub rung-large : d ≡ decimal.Over → Rungs w Bad
-      unfolding free
-      rung-large e =
-          let a = large-number y e in
-          let p : 15 < value 0 w = omega (arith, a.1) in
-          let q : 6 ≤ value 0 w = omega (arith, a.1) in
-          record { is = λ v. record { is = rung-free w false not_named (rw (a.0, le-leb 6 (value 0 w) q, lt-leb (value 0 w) 15 p)) } }
-
-      module _ {n : ℕ} (e : d ≡ decimal.Is n) where
-        pub rung-low : n < 6 → Rungs w Bad
+      module _ {d : Result ℕ DecimalError} (y : DecimalIs w d) where
+        rung-no : d ≡ Err NoNumeral → Rungs w Bad
         unfolding free
-        rung-low p =
-            let a = the_number y e in
-            record { is = λ v. record { is = rung-free w false not_named (rw (a.0, a.1, lt-leb 6 n p)) } }
+        rung-no e = record { is = λ v. record { is = rung-free w false not_named (rw (none_there y e)) } }
 
-        pub rung-high : 6 ≤ n → 15 < n → Rungs w Bad
+        rung-large : d ≡ Err TooLarge → Rungs w Bad
         unfolding free
-        rung-high p q =
-            let a = the_number y e in
-            record { is = λ v. record { is = rung-free w false not_named (rw (a.0, a.1, le-leb 6 n p, lt-leb n 15 q)) } }
+        rung-large e =
+            let a = large_there y e in
+            let p : 15 < value 0 w = omega (arith, a.1) in
+            let q : 6 ≤ value 0 w = omega (arith, a.1) in
+            record { is = λ v. record { is = rung-free w false not_named (rw (a.0, le-leb 6 (value 0 w) q, lt-leb (value 0 w) 15 p)) } }
 
-        pub rung-number : 6 ≤ n → n ≤ 15 → Rungs w (Atom 4 n)
-        unfolding free
-        rung-number p q =
-            let a = the_number y e in
-            record {
-              is = λ v. record {
-                is = record {
-                  leaf = rung n;
-                  is = rung-free w true not_named (rw (a.0, a.1, le-leb 6 n p, le-leb n 15 q)) ∙ ap (λ (z : ℕ). one (rung z)) a.1;
-                  atom-is = rung-atom n q;
+        pub rung-fault : {f : DecimalError} → d ≡ Err f → Rungs w Bad
+        rung-fault {f = NoNumeral} e = rung-no e
+        rung-fault {f = TooLarge} e = rung-large e
+
+        module _ {n : ℕ} (e : d ≡ Ok n) where
+          pub rung-low : n < 6 → Rungs w Bad
+          unfolding free
+          rung-low p =
+              let a = number_there y e in
+              record { is = λ v. record { is = rung-free w false not_named (rw (a.0, a.1, lt-leb 6 n p)) } }
+
+          pub rung-high : 15 < n → Rungs w Bad
+          unfolding free
+          rung-high q =
+              let a = number_there y e in
+              let p : 6 ≤ n = omega arith in
+              record { is = λ v. record { is = rung-free w false not_named (rw (a.0, a.1, le-leb 6 n p, lt-leb n 15 q)) } }
+
+          pub rung-number : 6 ≤ n → n ≤ 15 → Rungs w (Atom 4 n)
+          unfolding free
+          rung-number p q =
+              let a = number_there y e in
+              record {
+                is = λ v. record {
+                  is = record {
+                    leaf = rung n;
+                    is = rung-free w true not_named (rw (a.0, a.1, le-leb 6 n p, le-leb n 15 q)) ∙ ap (λ (z : ℕ). one (rung z)) a.1;
+                    atom-is = rung-atom n q;
+                  };
                 };
-              };
-            }
+              }
 
-pub ruleset rung_laws = (rung-named, rung-no, rung-large, rung-low, rung-high, rung-number)
+pub ruleset rung_laws = (rung-some, rung-fault, rung-low, rung-high, rung-number)
 
 -- ---- by the first byte
+
+digit_in : {b : ℕ} → 48 ≤ b → b ≤ 57 → digit b ≡ true
+unfolding digit
+digit_in {b} l h = simp (le-leb 48 b l, le-leb b 57 h)
+
+digit_low : {b : ℕ} → b < 48 → digit b ≡ false
+unfolding digit
+digit_low {b} h = simp (lt-leb 48 b h)
+
+digit_high : {b : ℕ} → 58 ≤ b → digit b ≡ false
+unfolding digit
+digit_high {b} h = let k : 57 < b = omega arith in go (leb 48 b) ∙ ap (λ (t : Bool). leb 48 b && t) (lt-leb b 57 k) ∙ no (leb 48 b)
+  where
+    go : (t : Bool) → (t && leb b 57) ≡ (t && leb b 57)
+    go t = refl
+
+    no : (t : Bool) → (t && false) ≡ false
+    no true = refl
+    no false = refl
 
 no-paren : (b : ℕ) → paren b ≡ false → (eqb b 40 ≡ false) × (eqb b 41 ≡ false)
 unfolding paren
@@ -273,49 +265,82 @@ piece-none (b ∷ w) h = absurd (omega arith)
 behind : (A : List ℕ → Type 0) (b : ℕ) (w : List ℕ) → A (take (length (b ∷ w) - 1) (drop 1 (b ∷ w))) → A w
 behind A b w a = subst A (part-from 1 (b ∷ w)) a
 
-pub piece-point : (w : List ℕ) {r : Piece} → (length w ≡ 0 → ⊥) → get_or w 0 0 ≡ 64 → Marks (take (length w - 1) (drop 1 w)) 2 1023 r → PieceIs w r
-piece-point [] n e m = absurd (n refl)
+pub piece-point : (w : List ℕ) {r : Piece} → 1 ≤ length w → get_or w 0 0 ≡ 64 → Marks (take (length w - 1) (drop 1 w)) 2 1023 r → PieceIs w r
+piece-point [] n e m = absurd (omega arith)
 piece-point (b ∷ w) {r} n e m = record {
   is = λ p. subst (λ (t : Token). Means t (b ∷ w) r) (sym (at_mark b w e)) ((behind (λ (s : List ℕ). Marks s 2 1023 r) b w m).is point (b ∷ w) point-kind);
 }
 
-pub piece-prim : (w : List ℕ) {r : Piece} → (length w ≡ 0 → ⊥) → get_or w 0 0 ≡ 35 → Marks (take (length w - 1) (drop 1 w)) 3 last_prim r → PieceIs w r
-piece-prim [] n e m = absurd (n refl)
+pub piece-prim : (w : List ℕ) {r : Piece} → 1 ≤ length w → get_or w 0 0 ≡ 35 → Marks (take (length w - 1) (drop 1 w)) 3 last_prim r → PieceIs w r
+piece-prim [] n e m = absurd (omega arith)
 piece-prim (b ∷ w) {r} n e m = record {
   is = λ p. subst (λ (t : Token). Means t (b ∷ w) r) (sym (hash_mark b w e)) ((behind (λ (s : List ℕ). Marks s 3 last_prim r) b w m).is prim (b ∷ w) prim-kind);
 }
 
-pub piece-rung : (w : List ℕ) {r : Piece} → (length w ≡ 0 → ⊥) → get_or w 0 0 ≡ 39 → Rungs (take (length w - 1) (drop 1 w)) r → PieceIs w r
-piece-rung [] n e m = absurd (n refl)
+pub piece-rung : (w : List ℕ) {r : Piece} → 1 ≤ length w → get_or w 0 0 ≡ 39 → Rungs (take (length w - 1) (drop 1 w)) r → PieceIs w r
+piece-rung [] n e m = absurd (omega arith)
 piece-rung (b ∷ w) {r} n e m = record {
   is = λ p. subst (λ (t : Token). Means t (b ∷ w) r) (sym (quote_mark b w e)) ((behind (λ (s : List ℕ). Rungs s r) b w m).is (b ∷ w));
 }
 
-module _ {w : List ℕ} (n : length w ≡ 0 → ⊥) (x : get_or w 0 0 ≡ 64 → ⊥) (y : get_or w 0 0 ≡ 35 → ⊥) (z : get_or w 0 0 ≡ 39 → ⊥) {d : Bool} (q : d ≡ digit (get_or w 0 0)) where
-  pub piece-number : {r : Piece} → d ≡ true → Marks w 1 4294967295 r → PieceIs w r
-  piece-number {r} e m = go w n x y z q m
+pub piece-number : (w : List ℕ) {r : Piece} → 1 ≤ length w → 48 ≤ get_or w 0 0 → get_or w 0 0 ≤ 57 → Marks w 1 4294967295 r → PieceIs w r
+piece-number [] n l h m = absurd (omega arith)
+piece-number (b ∷ w) {r} n l h m =
+    let x : b ≡ 64 → ⊥ = λ e. absurd (omega arith) in
+    let y : b ≡ 35 → ⊥ = λ e. absurd (omega arith) in
+    let z : b ≡ 39 → ⊥ = λ e. absurd (omega arith) in
+    record {
+      is = λ p. subst (λ (t : Token). Means t (b ∷ w) r) (sym (first-digit b w p x y z (digit_in l h))) (m.is number (b ∷ w) number-kind);
+    }
+
+-- what begins with no mark and no digit
+unmarked : (b : ℕ) (w : List ℕ) (r : Piece) (t : Bool) → (b ≡ 64 → ⊥) → (b ≡ 35 → ⊥) → (b ≡ 39 → ⊥) → digit b ≡ false → good_word (b ∷ w) ≡ t
+    → ((v : List ℕ) → means (when t then one (word v) else bad) v r) → PieceIs (b ∷ w) r
+unmarked b w r t x y z e u i = record {
+  is = λ p. record { is = subst (λ (k : Token). means k (b ∷ w) r) (sym (first_word b w p x y z t e u)) (i (b ∷ w)) };
+}
+
+low-piece : (w : List ℕ) (r : Piece) (t : Bool) → 1 ≤ length w → get_or w 0 0 < 48 → (get_or w 0 0 ≡ 35 → ⊥) → (get_or w 0 0 ≡ 39 → ⊥) → good_word w ≡ t
+    → ((v : List ℕ) → means (when t then one (word v) else bad) v r) → PieceIs w r
+low-piece [] r t n l y z u i = absurd (omega arith)
+low-piece (b ∷ w) r t n l y z u i = unmarked b w r t (λ e. absurd (omega arith)) y z (digit_low l) u i
+
+high-piece : (w : List ℕ) (r : Piece) (t : Bool) → 1 ≤ length w → 58 ≤ get_or w 0 0 → (get_or w 0 0 ≡ 64 → ⊥) → good_word w ≡ t
+    → ((v : List ℕ) → means (when t then one (word v) else bad) v r) → PieceIs w r
+high-piece [] r t n l x u i = absurd (omega arith)
+high-piece (b ∷ w) r t n l x u i = unmarked b w r t x (λ e. absurd (omega arith)) (λ e. absurd (omega arith)) (digit_high l) u i
+
+module _ (w : List ℕ) {g : Bool} (h : g ≡ good_word w) where
+  pub none-word : length w < 1 → g ≡ true → PieceIs w Word
+  unfolding good_word
+  none-word l f = go w l (sym h ∙ f)
     where
-      go : (w : List ℕ) → (length w ≡ 0 → ⊥) → (get_or w 0 0 ≡ 64 → ⊥) → (get_or w 0 0 ≡ 35 → ⊥) → (get_or w 0 0 ≡ 39 → ⊥) → d ≡ digit (get_or w 0 0) → Marks w 1 4294967295 r → PieceIs w r
-      go [] n x y z q m = absurd (n refl)
-      go (b ∷ w) n x y z q m = record {
-        is = λ p. subst (λ (t : Token). Means t (b ∷ w) r) (sym (first-digit b w p x y z (sym q ∙ e))) (m.is number (b ∷ w) number-kind);
-      }
+      go : (w : List ℕ) → length w < 1 → good_word w ≡ true → PieceIs w Word
+      go [] l e = absurd (let z : ◌≡◌ {A = ℕ} 0 1 = cc in omega arith)
+      go (b ∷ w) l e = absurd (omega arith)
 
-  module _ (e : d ≡ false) {g : Bool} (h : g ≡ good_word w) where
-    by_word : (t : Bool) (r : Piece) → ((v : List ℕ) → means (when t then one (word v) else bad) v r) → good_word w ≡ t → PieceIs w r
-    by_word t r i u = go w n x y z q i u
-      where
-        go : (w : List ℕ) → (length w ≡ 0 → ⊥) → (get_or w 0 0 ≡ 64 → ⊥) → (get_or w 0 0 ≡ 35 → ⊥) → (get_or w 0 0 ≡ 39 → ⊥) → d ≡ digit (get_or w 0 0)
-            → ((v : List ℕ) → means (when t then one (word v) else bad) v r) → good_word w ≡ t → PieceIs w r
-        go [] n x y z q i u = absurd (n refl)
-        go (b ∷ w) n x y z q i u = record {
-          is = λ p. record { is = subst (λ (k : Token). means k (b ∷ w) r) (sym (first_word b w p x y z t (sym q ∙ e) u)) (i (b ∷ w)) };
-        }
+  pub none-bad : length w < 1 → PieceIs w Bad
+  none-bad l = go w l
+    where
+      go : (w : List ℕ) → length w < 1 → PieceIs w Bad
+      go [] l = piece-none [] refl
+      go (b ∷ w) l = absurd (omega arith)
 
-    pub piece-word : g ≡ true → PieceIs w Word
-    piece-word f = by_word true Word (λ v. refl) (sym h ∙ f)
+  module _ (n : 1 ≤ length w) where
+    pub low-word : get_or w 0 0 < 48 → (get_or w 0 0 ≡ 35 → ⊥) → (get_or w 0 0 ≡ 39 → ⊥) → g ≡ true → PieceIs w Word
+    low-word l y z f = low-piece w Word true n l y z (sym h ∙ f) (λ v. refl)
 
-    pub piece-bad : g ≡ false → PieceIs w Bad
-    piece-bad f = by_word false Bad (λ v. refl) (sym h ∙ f)
+    pub low-bad : get_or w 0 0 < 48 → (get_or w 0 0 ≡ 35 → ⊥) → (get_or w 0 0 ≡ 39 → ⊥) → g ≡ false → PieceIs w Bad
+    low-bad l y z f = low-piece w Bad false n l y z (sym h ∙ f) (λ v. refl)
 
-pub ruleset piece_laws = (piece-none, piece-point, piece-prim, piece-rung, piece-number, piece-word, piece-bad)
+    pub high-word : 58 ≤ get_or w 0 0 → (get_or w 0 0 ≡ 64 → ⊥) → g ≡ true → PieceIs w Word
+    high-word l x f = high-piece w Word true n l x (sym h ∙ f) (λ v. refl)
+
+    pub high-bad : 58 ≤ get_or w 0 0 → (get_or w 0 0 ≡ 64 → ⊥) → g ≡ false → PieceIs w Bad
+    high-bad l x f = high-piece w Bad false n l x (sym h ∙ f) (λ v. refl)
+
+pub ruleset piece_laws = (piece-point, piece-prim, piece-rung, piece-number)
+
+pub ruleset word_laws = (none-word, low-word, high-word)
+
+pub ruleset bad_laws = (none-bad, low-bad, high-bad)

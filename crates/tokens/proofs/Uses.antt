@@ -1,43 +1,49 @@
 -- What a caller knows of what comes next.
-use Prim.Native.Nat.{ℕ, ◌-◌, ◌<◌}
+use Prim.Native.Nat.{ℕ, ◌-◌, ◌<◌, ◌≤◌}
 use mathlib.Core.Path.{◌≡◌, subst}
 use mathlib.Core.Bool.{true, false}
 use mathlib.Core.List.{List, []}
 use native.Mathlib.Omega.{arith}
 use lib.ListN.{length, drop}
+use Rattle.std.specs.Prelude.{Option, None, Some}
 use Rattle.requests.specs.Tokens.{Leaf, word, opening, closing, bad, one, tokens}
 use Rattle.tokens.specs.Pieces.{means, is_bad}
-use Rattle.tokens.specs.Nexts.{Goes, part, PieceAt, ShowsNext, NextIs}
+use Rattle.tokens.specs.Nexts.{Goes, part, PieceAt, ShowsToken, ShowsNext, NextIs}
 use Rattle.tokens.specs.declared.pieces.Piece as pieces
 use Rattle.tokens.specs.declared.pieces.Piece.TheVariants.{Bad, Word, Atom, Over}
-use Rattle.tokens.specs.declared.Next.{Next}
-use Rattle.tokens.specs.declared.Next.TheVariants.{End, Open, Close, Piece}
+use Rattle.tokens.specs.declared.Token.{Token}
+use Rattle.tokens.specs.declared.Token.TheVariants.{Open, Close, Piece}
 
-module _ {text : List ℕ} {at : ℕ} {r : Next} (h : NextIs text at r) where
-  pub next-end : r ≡ End → tokens (drop at text) ≡ []
+module _ {text : List ℕ} {at : ℕ} {r : Option (Token × ℕ)} (h : NextIs text at r) where
+  pub next-end : r ≡ None → tokens (drop at text) ≡ []
   next-end e = subst (ShowsNext text at) e h.is
 
-  pub next_open : {to : ℕ} → r ≡ Open to → Goes text at to opening
-  next_open e = subst (ShowsNext text at) e h.is
+  module _ {t : Token} {to : ℕ} (e : r ≡ Some (t, to)) where
+    next-shown : ShowsToken text at to t
+    next-shown = subst (ShowsNext text at) e h.is
 
-  pub next_close : {to : ℕ} → r ≡ Close to → Goes text at to closing
-  next_close e = subst (ShowsNext text at) e h.is
+    pub next_open : t ≡ Open → Goes text at to opening
+    next_open i = subst (ShowsToken text at to) i next-shown
 
-  pub next-piece : {p : pieces.Piece} {from to : ℕ} → r ≡ Piece p from to → PieceAt text at p from to
-  next-piece e = subst (ShowsNext text at) e h.is
+    pub next_close : t ≡ Close → Goes text at to closing
+    next_close i = subst (ShowsToken text at to) i next-shown
 
-  -- a loop from token to token ends
-  module _ {to : ℕ} where
-    pub less_open : r ≡ Open to → length text - to < length text - at
-    less_open e = let g = next_open e in let a = g.onward in let b = g.within in omega arith
+    pub next-piece : {p : pieces.Piece} {from : ℕ} → t ≡ Piece p from → PieceAt text at p from to
+    next-piece i = subst (ShowsToken text at to) i next-shown
 
-    pub less_close : r ≡ Close to → length text - to < length text - at
-    less_close e = let g = next_close e in let a = g.onward in let b = g.within in omega arith
+    onward : (at < to) × (to ≤ length text)
+    onward = go t next-shown
+      where
+        go : (t : Token) → ShowsToken text at to t → (at < to) × (to ≤ length text)
+        go Open g = (g.onward, g.within)
+        go Close g = (g.onward, g.within)
+        go (Piece p from) g = (g.goes.onward, g.goes.within)
 
-    pub less_piece : {p : pieces.Piece} {from : ℕ} → r ≡ Piece p from to → length text - to < length text - at
-    less_piece e = let g = (next-piece e).goes in let a = g.onward in let b = g.within in omega arith
+    -- a loop from token to token ends
+    pub less-next : length text - to < length text - at
+    less-next = let o = onward in omega (arith, o.0, o.1)
 
-pub ruleset onward_laws = (less_open, less_close, less_piece)
+pub ruleset onward_laws = (less-next)
 
 -- ---- pieces
 

@@ -1,8 +1,9 @@
 -- What a piece is, as the code answers it.
-use Rattle.std.specs.Prelude.{ℕ, ◌≤◌, ◌<◌, ◌≡◌, List, ◌∷◌, ◌++◌, Bool, true, false, get_or}
+use Rattle.std.specs.Prelude.{ℕ, ◌≤◌, ◌<◌, ◌≡◌, List, ◌∷◌, ◌++◌, Bool, true, false, get_or, ltb, Option, None, Some}
+use Rattle.model.specs.Choice.{when◌then◌else◌}
 use Rattle.model.specs.Objects.{no_sets, atom}
 use Rattle.model.specs.Writing.{num_bytes, sets_bytes, stx_bytes}
-use Rattle.requests.specs.Tokens.{paren, Leaf, word, Token, bad, one, numbered, rung_token, token_of}
+use Rattle.requests.specs.Tokens.{place, rung_words, paren, Leaf, word, Token, bad, one, numbered, rung_token, token_of}
 use Rattle.requests.specs.FromText.{met, atom_of, leaf_fits}
 use Rattle.tokens.specs.Decimals.{over}
 use Rattle.tokens.specs.declared.pieces.Piece.{Piece}
@@ -52,6 +53,10 @@ pub record Kind (k : ℕ → Leaf) (tag most : ℕ) : Type 0 where
 
 pub record Marks (s : List ℕ) (tag most : ℕ) (r : Piece) : Type 0 where
   pub is : (k : ℕ → Leaf) (w : List ℕ) → Kind k tag most → Means (numbered k s) w r
+
+-- the place among the named rung words
+abbrev pub rung_named : List ℕ → Option ℕ
+rung_named w = when ltb (place w rung_words) 6 then Some (place w rung_words) else None
 
 -- what stands behind ', of a piece w
 pub record Rungs (s : List ℕ) (r : Piece) : Type 0 where

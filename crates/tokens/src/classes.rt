@@ -3,52 +3,31 @@ ghost use Rattle.std.specs.Prelude.{◌≡◌};
 ghost use Rattle.requests.specs.Tokens.{space, line_end, digit};
 ghost use Rattle.text_laws.specs.Passes.{ending};
 
-// Tab, line feed, carriage return, space.
+#[tactic(auto, unfolding(requests::specs::Tokens::space))]
 pub fn space(b: u8) -> bool
     ensures { result ≡ space b }
 {
-    if b == 9 {
-        return true;
-    }
-    if b == 10 {
-        return true;
-    }
-    if b == 13 {
-        return true;
-    }
-    b == b' '
+    matches!(b, b'\t' | b'\n' | b'\r' | b' ')
 }
 
+#[tactic(auto, unfolding(requests::specs::Tokens::line_end))]
 pub fn line_end(b: u8) -> bool
     ensures { result ≡ line_end b }
 {
-    if b == 10 {
-        return true;
-    }
-    b == 13
+    matches!(b, b'\n' | b'\r')
 }
 
 // A byte that ends a piece.
+#[tactic(auto, unfolding(text_laws::specs::Passes::ending, requests::specs::Tokens::paren))]
 pub fn ending(b: u8) -> bool
     ensures { result ≡ ending b }
 {
-    if space(b) {
-        return true;
-    }
-    if b == b'(' {
-        return true;
-    }
-    if b == b')' {
-        return true;
-    }
-    b == b';'
+    space(b) || matches!(b, b'(' | b')' | b';')
 }
 
+#[tactic(auto, unfolding(requests::specs::Tokens::digit))]
 pub fn digit(b: u8) -> bool
     ensures { result ≡ digit b }
 {
-    if b < b'0' {
-        return false;
-    }
-    b <= b'9'
+    b.is_ascii_digit()
 }

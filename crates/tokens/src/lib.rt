@@ -11,31 +11,32 @@ ghost use Rattle.tokens.specs.Nexts.{NextIs};
 
 use crate::pieces::Piece;
 
-// What comes next in a text: a parenthesis with the place past it, or a piece with its first place and the place past it.
+// A parenthesis, or a piece with its first place.
 #[derive(Clone, Copy)]
-pub enum Next {
-    End,
-    Open(usize),
-    Close(usize),
-    Piece(Piece, usize, usize),
+pub enum Token {
+    Open,
+    Close,
+    Piece(Piece, usize),
 }
 
-// What comes next in a text, from a place on where no token is cut through.
-pub fn read_next(text: &[u8], at: usize) -> Next
+// The next token of a text with the place past it, from a place on where no token is cut through.
+pub fn read_next(text: &[u8], at: usize) -> Option<(Token, usize)>
     requires { at ≤ length text.now }
     ensures { NextIs text.now at result }
 {
     let from = at + runs::skip(&text[at..]);
-    if text.len() <= from {
-        return Next::End;
+    if from == text.len() {
+        return None;
     }
-    let b = text[from];
-    if b == b'(' {
-        return Next::Open(from + 1);
+    match text[from] {
+        b'(' => Some((Token::Open, from + 1)),
+        b')' => Some((Token::Close, from + 1)),
+        _ => {
+            let past = from + runs::run_len(&text[from..]);
+            Some((
+                Token::Piece(pieces::read_piece(&text[from..past]), from),
+                past,
+            ))
+        }
     }
-    if b == b')' {
-        return Next::Close(from + 1);
-    }
-    let to = from + runs::run_len(&text[from..]);
-    Next::Piece(pieces::read_piece(&text[from..to]), from, to)
 }

@@ -1,14 +1,12 @@
 // What a piece of a text is that is no parenthesis.
 ghost use Rattle.std.specs.Prelude.{◌≡◌};
-ghost use Rattle.requests.specs.Tokens.{place, rung_words};
-ghost use Rattle.tokens.specs.Pieces.{is_bad, Marks, Rungs, PieceIs};
+ghost use Rattle.tokens.specs.Pieces.{is_bad, rung_named, Marks, Rungs, PieceIs};
 
-use crate::decimals::Decimal;
-use crate::{classes, decimals};
+use crate::decimals::{DecimalError, read_decimal};
 use scopes::Point;
 use words::{good_word, same_bytes};
 
-// An atom is its tag and its content in an image; `Over` is one whose content is over its limit.
+// An atom is its tag and its content in an image; `Over` is one whose content is over its limit. No Result: the passes tell all four apart.
 #[derive(Clone, Copy)]
 pub enum Piece {
     Bad,
@@ -21,12 +19,7 @@ impl Piece {
     pub fn is_bad(self) -> bool
         ensures { result ≡ is_bad self }
     {
-        match self {
-            Piece::Bad => true,
-            Piece::Word => false,
-            Piece::Atom(_, _) => false,
-            Piece::Over => false,
-        }
+        matches!(self, Piece::Bad)
     }
 }
 
@@ -38,9 +31,9 @@ const PRIM: u32 = 3;
 
 const RUNG: u32 = 4;
 
-const LAST_NUMBER: u32 = 4294967295;
+const NAMED_RUNGS: [&[u8]; 6] = [b"and", b"or", b"not", b"out", b"set", b"all"];
 
-const NAMED_RUNGS: u32 = 6;
+const FIRST_RUNG: u32 = 6;
 
 const LAST_RUNG: u32 = 15;
 
@@ -48,65 +41,30 @@ const LAST_RUNG: u32 = 15;
 fn numbered(s: &[u8], tag: u32, most: u32) -> Piece
     ensures { Marks s.now tag most result }
 {
-    match decimals::read_decimal(s) {
-        Decimal::No => Piece::Bad,
-        Decimal::Is(n) => {
-            if n <= most {
-                Piece::Atom(tag, n)
-            } else {
-                Piece::Over
-            }
-        }
-        Decimal::Over => Piece::Over,
+    match read_decimal(s) {
+        Ok(n) if n <= most => Piece::Atom(tag, n),
+        Ok(_) | Err(DecimalError::TooLarge) => Piece::Over,
+        Err(DecimalError::NoNumeral) => Piece::Bad,
     }
 }
 
-// The place among the named rung words, or 6.
-fn named_rung(w: &[u8]) -> u32
-    ensures { result ≡ place w.now rung_words }
+// The place among the named rung words.
+fn named_rung(w: &[u8]) -> Option<usize>
+    ensures { result ≡ rung_named w.now }
 {
-    if same_bytes(w, b"and") {
-        return 0;
-    }
-    if same_bytes(w, b"or") {
-        return 1;
-    }
-    if same_bytes(w, b"not") {
-        return 2;
-    }
-    if same_bytes(w, b"out") {
-        return 3;
-    }
-    if same_bytes(w, b"set") {
-        return 4;
-    }
-    if same_bytes(w, b"all") {
-        return 5;
-    }
-    NAMED_RUNGS
+    NAMED_RUNGS.iter().position(|name| same_bytes(w, name))
 }
 
 // What stands behind ': a named rung word, or 6 to 15.
 fn rung(w: &[u8]) -> Piece
     ensures { Rungs w.now result }
 {
-    let k = named_rung(w);
-    if k < NAMED_RUNGS {
-        return Piece::Atom(RUNG, k);
+    if let Some(k) = named_rung(w) {
+        return Piece::Atom(RUNG, k as u32);
     }
-    match decimals::read_decimal(w) {
-        Decimal::No => Piece::Bad,
-        Decimal::Is(n) => {
-            if n < NAMED_RUNGS {
-                return Piece::Bad;
-            }
-            if n <= LAST_RUNG {
-                Piece::Atom(RUNG, n)
-            } else {
-                Piece::Bad
-            }
-        }
-        Decimal::Over => Piece::Bad,
+    match read_decimal(w) {
+        Ok(n @ FIRST_RUNG..=LAST_RUNG) => Piece::Atom(RUNG, n),
+        _ => Piece::Bad,
     }
 }
 
@@ -114,24 +72,12 @@ fn rung(w: &[u8]) -> Piece
 pub fn read_piece(w: &[u8]) -> Piece
     ensures { PieceIs w.now result }
 {
-    if w.len() == 0 {
-        return Piece::Bad;
+    match w {
+        [b'@', number @ ..] => numbered(number, POINT, Point::LAST),
+        [b'#', number @ ..] => numbered(number, PRIM, scopes::LAST_PRIMITIVE),
+        [b'\'', name @ ..] => rung(name),
+        [b'0'..=b'9', ..] => numbered(w, NUMBER, u32::MAX),
+        _ if good_word(w) => Piece::Word,
+        _ => Piece::Bad,
     }
-    let b = w[0];
-    if b == b'@' {
-        return numbered(&w[1..], POINT, Point::LAST);
-    }
-    if b == b'#' {
-        return numbered(&w[1..], PRIM, scopes::LAST_PRIMITIVE);
-    }
-    if b == b'\'' {
-        return rung(&w[1..]);
-    }
-    if classes::digit(b) {
-        return numbered(w, NUMBER, LAST_NUMBER);
-    }
-    if good_word(w) {
-        return Piece::Word;
-    }
-    Piece::Bad
 }

@@ -1,42 +1,14 @@
-use Rattle.tokens.proofs.PieceLaws.{named_laws}
-use Rattle.std.proofs.Common.{rules}
+use Rattle.std.proofs.Common.{rules, refl, ap, map, length}
+use borrow.Author.Tests.{tests}
+use Rattle.std.proofs.lemmas.Iterator.{YieldsList-from_slice}
+use Rattle.std.proofs.lemmas.Iterator.Search.{position_from_yields_List}
+use Rattle.requests.specs.Tokens.{rung_words}
+use Rattle.model.specs.Reading.{same_bytes}
+use Rattle.tokens.proofs.Names.{place_found}
 use Rattle.tokens.proofs.pieces.named_rung.Goals as goal
 
-pub same_bytes-requires : goal.same_bytes-requires
-same_bytes-requires c = search (named_laws, rules)
-
-pub returns-then-same_bytes : goal.returns-then-same_bytes
-returns-then-same_bytes c = search (named_laws, rules)
-
-pub same_bytes-requires-2 : goal.same_bytes-requires-2
-same_bytes-requires-2 c = search (named_laws, rules)
-
-pub returns-then-same_bytes-2 : goal.returns-then-same_bytes-2
-returns-then-same_bytes-2 c = search (named_laws, rules)
-
-pub same_bytes-requires-3 : goal.same_bytes-requires-3
-same_bytes-requires-3 c = search (named_laws, rules)
-
-pub returns-then-same_bytes-3 : goal.returns-then-same_bytes-3
-returns-then-same_bytes-3 c = search (named_laws, rules)
-
-pub same_bytes-requires-4 : goal.same_bytes-requires-4
-same_bytes-requires-4 c = search (named_laws, rules)
-
-pub returns-then-same_bytes-4 : goal.returns-then-same_bytes-4
-returns-then-same_bytes-4 c = search (named_laws, rules)
-
-pub same_bytes-requires-5 : goal.same_bytes-requires-5
-same_bytes-requires-5 c = search (named_laws, rules)
-
-pub returns-then-same_bytes-5 : goal.returns-then-same_bytes-5
-returns-then-same_bytes-5 c = search (named_laws, rules)
-
-pub same_bytes-requires-6 : goal.same_bytes-requires-6
-same_bytes-requires-6 c = search (named_laws, rules)
-
-pub returns-then-same_bytes-6 : goal.returns-then-same_bytes-6
-returns-then-same_bytes-6 c = search (named_laws, rules)
-
 pub returns : goal.returns
-returns c = search (named_laws, rules)
+unfolding rung_words
+returns c =
+    place_found c.args.w.now rung_words 6 c.iter.result.rest.now (ap (map (λ v. v.now)) c.iter.ensures.rest) (ap length c.iter.ensures.rest)
+    (position_from_yields_List (λ v. same_bytes c.args.w.now v.now) _ _ _ c.position.ensures.ran (YieldsList-from_slice c.iter.result.rest.now refl) (λ x b q k. search (rules, tests)))

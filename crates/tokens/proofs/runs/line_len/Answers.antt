@@ -1,30 +1,15 @@
-use Rattle.tokens.proofs.RunLaws.{line_laws}
 use Rattle.std.proofs.Common.{rules}
+use borrow.Author.Tests.{tests}
+use Rattle.std.proofs.lemmas.Iterator.{YieldsList-from_slice}
+use Rattle.std.proofs.lemmas.Iterator.Search.{position_from_yields_List}
+use Rattle.requests.specs.Tokens.{line_end}
+use Rattle.tokens.proofs.RunLaws.{line_some, line_none}
 use Rattle.tokens.proofs.runs.line_len.Goals as goal
 
-pub loop-i-init : goal.loop-i-init
-loop-i-init c = search (line_laws, rules)
+pub returns-in-Some : goal.returns-in-Some
+returns-in-Some c =
+    line_some c.args.s.now (position_from_yields_List line_end _ _ _ c.position.ensures.ran (YieldsList-from_slice c.args.s.now cc) (λ x b q k. search (rules, tests))) c.in-Some.is
 
-pub bounds-s-i : goal.bounds-s-i
-bounds-s-i c = search (line_laws, rules)
-
-pub line_end-requires : goal.line_end-requires
-line_end-requires c = search (line_laws, rules)
-
-pub overflow_add-result : goal.overflow_add-result
-overflow_add-result c = search (line_laws, rules)
-
-pub returns-then-line_end : goal.returns-then-line_end
-returns-then-line_end c = search (line_laws, rules)
-
-pub overflow_add-i : goal.overflow_add-i
-overflow_add-i c = search (line_laws, rules)
-
-pub loop-i-smaller : goal.loop-i-smaller
-loop-i-smaller c = search (line_laws, rules)
-
-pub loop-i-preserved : goal.loop-i-preserved
-loop-i-preserved c = search (line_laws, rules)
-
-pub returns : goal.returns
-returns c = search (line_laws, rules)
+pub returns-in-None : goal.returns-in-None
+returns-in-None c =
+    line_none c.args.s.now (position_from_yields_List line_end _ _ _ c.position.ensures.ran (YieldsList-from_slice c.args.s.now cc) (λ x b q k. search (rules, tests))) c.in-None.is

@@ -1,27 +1,11 @@
-use Rattle.tokens.proofs.RunLaws.{run_laws}
-use Rattle.std.proofs.Common.{rules}
+use Rattle.std.proofs.Common.{rules, ◌∙◌}
+use borrow.Author.Tests.{tests}
+use Rattle.std.proofs.lemmas.Iterator.{YieldsList-from_slice}
+use Rattle.std.proofs.lemmas.Iterator.Search.{position_from_yields_List}
+use Rattle.text_laws.specs.Passes.{ending}
+use Rattle.tokens.proofs.RunLaws.{run_ends, place_or}
 use Rattle.tokens.proofs.runs.run_len.Goals as goal
 
-pub loop-i-init : goal.loop-i-init
-loop-i-init c = search (run_laws, rules)
-
-pub bounds-s-i : goal.bounds-s-i
-bounds-s-i c = search (run_laws, rules)
-
-pub ending-requires : goal.ending-requires
-ending-requires c = search (run_laws, rules)
-
-pub returns-then-ending : goal.returns-then-ending
-returns-then-ending c = search (run_laws, rules)
-
-pub overflow_add-i : goal.overflow_add-i
-overflow_add-i c = search (run_laws, rules)
-
-pub loop-i-smaller : goal.loop-i-smaller
-loop-i-smaller c = search (run_laws, rules)
-
-pub loop-i-preserved : goal.loop-i-preserved
-loop-i-preserved c = search (run_laws, rules)
-
 pub returns : goal.returns
-returns c = search (run_laws, rules)
+returns c =
+    run_ends c.args.s.now (c.unwrap_or.ensures ∙ place_or ending c.args.s.now (position_from_yields_List ending _ _ _ c.position.ensures.ran (YieldsList-from_slice c.args.s.now cc) (λ x b q k. search (rules, tests))))
