@@ -20,7 +20,7 @@ use Rattle.refusals.specs.declared.Refusal.TheVariants.{TooLong}
 use Rattle.refusals.specs.Refusing.{refusal_of}
 use Rattle.text_endings.specs.declared.TextRefusal.{TextRefusal}
 use Rattle.text_endings.specs.declared.TextRefusal.TheVariants.{Base}
-use Rattle.text_endings.specs.declared.Written.TheVariants.{Made, Refused}
+use Rattle.std.specs.Prelude.{Ok, Err}
 use Rattle.text_endings.specs.Ending.{text_refusal_of, Room, Measured, Ends}
 
 pub base-code : {k : ℕ} {q : TextRefusal} {f : Refusal} → q ≡ Base f → k ≡ code_of (refusal_of f) → k ≡ text_code (text_refusal_of q)
@@ -51,11 +51,11 @@ too_long_lem room b over = go (leb (length b) room) (leb (length b) 65536) refl 
     go true false p q = refl
     go false y p q = refl
 
-pub ends-refused : {e : TextEnding} {out : List ℕ} (f : TextRefusal) → e ≡ refused (text_refusal_of f) → Ends e out out (Refused f)
+pub ends-refused : {e : TextEnding} {out : List ℕ} (f : TextRefusal) → e ≡ refused (text_refusal_of f) → Ends e out out (Err f)
 unfolding output_after_text
 ends-refused {e} {out} f i = record { answer = i; left = sym (ap (λ (z : TextEnding). output_after_text z out) i) }
 
-ends-made : {e : TextEnding} {out out' : List ℕ} (b : List ℕ) → e ≡ made b → out' ≡ b ++ drop (length b) out → Ends e out out' (Made (length b))
+ends-made : {e : TextEnding} {out out' : List ℕ} (b : List ℕ) → e ≡ made b → out' ≡ b ++ drop (length b) out → Ends e out out' (Ok (length b))
 unfolding output_after_text
 ends-made {e} {out} {out'} b i o = record { answer = record { bytes = b; is = i; long = refl }; left = o ∙ sym (ap (λ (z : TextEnding). output_after_text z out) i) }
 
@@ -68,16 +68,16 @@ there_is_room r m h =
 
 -- these bytes, measured: too long, or there is room, and they are written
 module _ {out bytes : List ℕ} {room len : ℕ} (r : Room (length out) room) (m : Measured bytes room len) where
-  pub ends_too_long : room < len → Ends (fitted (length out) bytes) out out (Refused (Base TooLong))
+  pub ends_too_long : room < len → Ends (fitted (length out) bytes) out out (Err (Base TooLong))
   ends_too_long h = ends-refused (Base TooLong) (too_long_lem (length out) bytes (λ k a b e. no k (r.most k a b) e (m.long h)))
     where
       no : (k : ℕ) → k ≤ room → k ≡ length bytes → room < length bytes → ⊥
       no k a b c = omega arith
 
-  pub ends-written : {out' : List ℕ} → len ≤ room → out' ≡ sets out 0 bytes → Ends (fitted (length out) bytes) out out' (Made len)
+  pub ends-written : {out' : List ℕ} → len ≤ room → out' ≡ sets out 0 bytes → Ends (fitted (length out) bytes) out out' (Ok len)
   ends-written {out'} h o =
       let e = m.exact h in
       let f = there_is_room r m h in
       let z : 0 + length bytes ≡ length bytes = omega arith in
-      subst (λ (k : ℕ). Ends (fitted (length out) bytes) out out' (Made k)) e
+      subst (λ (k : ℕ). Ends (fitted (length out) bytes) out out' (Ok k)) e
       (ends-made bytes (fits_in (length out) bytes f.0 f.1) (o ∙ sets-eq bytes out 0 (let g = f.0 in omega arith) ∙ ap (λ (k : ℕ). bytes ++ drop k out) z))

@@ -1,5 +1,5 @@
 -- How the jobs of text end, as the code answers it.
-use Rattle.std.specs.Prelude.{ℕ, ◌≤◌, ◌<◌, ◌≡◌, List, length}
+use Rattle.std.specs.Prelude.{ℕ, ◌≤◌, ◌<◌, ◌≡◌, List, length, Result, Ok, Err}
 use Rattle.requests.specs.FromText as t
 use Rattle.requests.specs.FromText.{made, refused}
 use Rattle.requests.specs.TextJobs.{TextEnding, output_after_text}
@@ -7,8 +7,6 @@ use Rattle.refusals.specs.Refusing.{refusal_of}
 use Rattle.numbers.specs.Limits.{most_image}
 use Rattle.text_endings.specs.declared.TextRefusal.{TextRefusal}
 use Rattle.text_endings.specs.declared.TextRefusal.TheVariants.{Base, BadText, Unbalanced}
-use Rattle.text_endings.specs.declared.Written.{Written}
-use Rattle.text_endings.specs.declared.Written.TheVariants.{Made, Refused}
 
 -- the code's refusals as the request's
 abbrev pub text_refusal_of : TextRefusal → t.TextRefusal
@@ -33,11 +31,11 @@ pub record MadeOf (e : TextEnding) (n : ℕ) : Type 0 where
   pub is : e ≡ made bytes
   pub long : length bytes ≡ n
 
-abbrev pub says : TextEnding → Written → Type 0
-says e (Made n) = MadeOf e n
-says e (Refused f) = e ≡ refused (text_refusal_of f)
+abbrev pub says : TextEnding → Result ℕ TextRefusal → Type 0
+says e (Ok n) = MadeOf e n
+says e (Err f) = e ≡ refused (text_refusal_of f)
 
 -- an ending, as the code answers it and leaves the bytes lent
-pub record Ends (e : TextEnding) (out out' : List ℕ) (r : Written) : Type 0 where
+pub record Ends (e : TextEnding) (out out' : List ℕ) (r : Result ℕ TextRefusal) : Type 0 where
   pub answer : says e r
   pub left : out' ≡ output_after_text e out

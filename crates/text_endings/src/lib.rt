@@ -4,6 +4,7 @@
 ghost use Rattle.std.specs.Prelude.{◌≡◌};
 ghost use Rattle.requests.specs.FromText.{text_code};
 ghost use Rattle.text_endings.specs.Ending.{text_refusal_of, Room};
+ghost use Rattle.text_endings.specs.declared.TextRefusal.TheVariants.{Base};
 
 use numbers::Cursor;
 use refusals::Refusal;
@@ -17,10 +18,14 @@ pub enum TextRefusal {
 }
 
 // How many bytes were written.
-#[derive(Clone, Copy)]
-pub enum Written {
-    Made(u32),
-    Refused(TextRefusal),
+pub type Written = Result<u32, TextRefusal>;
+
+impl From<Refusal> for TextRefusal {
+    ghost from_gives = { λ f r. r ≡ Base f };
+
+    fn from(refusal: Refusal) -> TextRefusal {
+        TextRefusal::Base(refusal)
+    }
 }
 
 impl TextRefusal {
@@ -39,9 +44,5 @@ impl TextRefusal {
 pub fn room_in(out: usize) -> usize
     ensures { Room out result }
 {
-    if out < Cursor::MOST_IMAGE {
-        out
-    } else {
-        Cursor::MOST_IMAGE
-    }
+    out.min(Cursor::MOST_IMAGE)
 }
