@@ -18,36 +18,13 @@ use Rattle.requests.specs.Tokens.{word, Token, one, place}
 use Rattle.requests.specs.FromText.{met, leaf_fits, all_fit}
 use Rattle.text_laws.proofs.Words.{among-place, not_among_place, place-first, place-second, place-most}
 use Rattle.text_laws.proofs.MetLaws.{met-new, met-old, found-new}
+use Rattle.tokens.proofs.Names.{place_some, place_none}
+use Rattle.std.specs.Prelude.{Option, Some, None, Ok, Err}
+use Rattle.refusals.specs.declared.Refusal.TheVariants.{OverLimit}
 use Rattle.tokens.specs.Nexts.{part}
-use Rattle.text_reader.specs.Found.{word_at, words_from, found, all_words, Span, Sought, FoundAt, Numbered, Storable, Notes}
+use Rattle.text_reader.specs.Found.{core_named, word_at, words_from, found, all_words, Span, Sought, FoundAt, Numbered, Storable, Notes}
 
 -- ---- the core words
-
-module _ (w : List ℕ) where
-  pub core-lambda : {r : Bool} → r ≡ same_bytes w (108 ∷ 97 ∷ 109 ∷ 98 ∷ 100 ∷ 97 ∷ []) → r ≡ true → 0 ≡ place w core_words
-  unfolding place core_words
-  core-lambda h e = simp (sym h ∙ e)
-
-  module _ {a : Bool} (ha : a ≡ same_bytes w (108 ∷ 97 ∷ 109 ∷ 98 ∷ 100 ∷ 97 ∷ [])) (ea : a ≡ false) where
-    pub core_let : {r : Bool} → r ≡ same_bytes w (108 ∷ 101 ∷ 116 ∷ 45 ∷ 115 ∷ 121 ∷ 110 ∷ 116 ∷ 97 ∷ 120 ∷ []) → r ≡ true → 1 ≡ place w core_words
-    unfolding place core_words
-    core_let h e = simp (sym ha ∙ ea, sym h ∙ e)
-
-    module _ {b : Bool} (hb : b ≡ same_bytes w (108 ∷ 101 ∷ 116 ∷ 45 ∷ 115 ∷ 121 ∷ 110 ∷ 116 ∷ 97 ∷ 120 ∷ [])) (eb : b ≡ false) where
-      pub core-quote : {r : Bool} → r ≡ same_bytes w (113 ∷ 117 ∷ 111 ∷ 116 ∷ 101 ∷ []) → r ≡ true → 2 ≡ place w core_words
-      unfolding place core_words
-      core-quote h e = simp (sym ha ∙ ea, sym hb ∙ eb, sym h ∙ e)
-
-      module _ {c : Bool} (hc : c ≡ same_bytes w (113 ∷ 117 ∷ 111 ∷ 116 ∷ 101 ∷ [])) (ec : c ≡ false) where
-        pub core-syntax : {r : Bool} → r ≡ same_bytes w (115 ∷ 121 ∷ 110 ∷ 116 ∷ 97 ∷ 120 ∷ []) → r ≡ true → 3 ≡ place w core_words
-        unfolding place core_words
-        core-syntax h e = simp (sym ha ∙ ea, sym hb ∙ eb, sym hc ∙ ec, sym h ∙ e)
-
-        pub core-none : {r : Bool} → r ≡ same_bytes w (115 ∷ 121 ∷ 110 ∷ 116 ∷ 97 ∷ 120 ∷ []) → r ≡ false → 4 ≡ place w core_words
-        unfolding place core_words
-        core-none h e = simp (sym ha ∙ ea, sym hb ∙ eb, sym hc ∙ ec, sym h ∙ e)
-
-pub ruleset core_laws = (core-lambda, core_let, core-quote, core-syntax, core-none)
 
 four : length core_words ≡ 4
 unfolding core_words
@@ -82,9 +59,9 @@ place_on : (w v : List ℕ) (l : List (List ℕ)) → same_bytes w v ≡ false �
 unfolding place
 place_on w v l e = rw e
 
-place_none : (w : List ℕ) → place w [] ≡ 0
+place_nothing : (w : List ℕ) → place w [] ≡ 0
 unfolding place
-place_none w = refl
+place_nothing w = refl
 
 -- the word is none of the first i
 pub record Seeking (text spans : List ℕ) (n from to i : ℕ) : Type 0 where
@@ -118,11 +95,11 @@ module _ {text spans : List ℕ} {n from to : ℕ} (s : Sought text spans n from
     span-within = (s.stored.inside i h).within
 
 module _ {text spans : List ℕ} {n from to i : ℕ} (k : Seeking text spans n from to i) where
-  pub seek_none : n ≤ i → FoundAt text spans n from to i
+  pub seek_none : n ≤ i → FoundAt text spans n from to n
   seek_none h =
       let z : n - i ≡ 0 = omega arith in
       let e = k.so_far ∙ ap (λ (m : ℕ). i + place (part text from to) (words_from text spans i m)) z
-      ∙ ap (λ (l : List (List ℕ)). i + place (part text from to) l) (no_words text spans i) ∙ ap (λ (m : ℕ). i + m) (place_none (part text from to)) in
+      ∙ ap (λ (l : List (List ℕ)). i + place (part text from to) l) (no_words text spans i) ∙ ap (λ (m : ℕ). i + m) (place_nothing (part text from to)) in
       record { is = omega arith }
 
   module _ {f : Bool} (h : i < n) (q : f ≡ same_bytes (part text from to) (word_at text spans i)) where
@@ -146,15 +123,19 @@ pub ruleset seek_laws = (seek_start, seek_forward, seek_within, first-there, pas
 -- ---- its number
 
 module _ (text spans : List ℕ) (n from to : ℕ) where
-  module _ {k : ℕ} (h : k ≡ place (part text from to) core_words) where
-    pub symbol-core : k < 4 → Numbered text spans n from to k
-    symbol-core l =
-        let c : place (part text from to) core_words < length core_words = subst (λ (m : ℕ). place (part text from to) core_words < m) (sym four) (subst (λ (m : ℕ). m < 4) h l) in
-        record { is = h ∙ sym (place-first (part text from to) core_words (found text spans n) c) }
+  module _ {o : Option ℕ} (h : o ≡ core_named (part text from to)) where
+    pub symbol-core : {k : ℕ} → o ≡ Some k → Numbered text spans n from to k
+    symbol-core e =
+        let a = place_some (part text from to) core_words 4 h e in
+        let c : place (part text from to) core_words < length core_words = subst (λ (m : ℕ). place (part text from to) core_words < m) (sym four) a.0 in
+        record { is = a.1 ∙ sym (place-first (part text from to) core_words (found text spans n) c) }
 
-    pub symbol-found : {j : ℕ} → 4 ≤ k → FoundAt text spans n from to j → Numbered text spans n from to (4 + j)
-    symbol-found {j} l f =
-        let c : length core_words ≤ place (part text from to) core_words = subst (λ (m : ℕ). m ≤ place (part text from to) core_words) (sym four) (subst (λ (m : ℕ). 4 ≤ m) h l) in
+    pub core-fits : {k : ℕ} → o ≡ Some k → Fits w32 k
+    core-fits e = let a = place_some (part text from to) core_words 4 h e in omega (arith, a.0, a.1)
+
+    pub symbol-found : {j : ℕ} → o ≡ None → FoundAt text spans n from to j → Numbered text spans n from to (4 + j)
+    symbol-found {j} e f =
+        let c : length core_words ≤ place (part text from to) core_words = subst (λ (m : ℕ). m ≤ place (part text from to) core_words) (sym four) (place_none (part text from to) core_words 4 h e) in
         let a = place-second (part text from to) core_words (found text spans n) c in
         let b = four in
         let d = f.is in
@@ -175,7 +156,7 @@ module _ (text spans : List ℕ) (n from to : ℕ) where
     pub number_fits : Fits w32 (4 + j)
     number_fits = let l = found-few in omega arith
 
-pub ruleset symbol_laws = (seek_forward, seek_within, symbol-core, symbol-found, found-fits, number_fits)
+pub ruleset symbol_laws = (seek_forward, seek_within, symbol-core, core-fits, symbol-found, found-fits, number_fits)
 
 -- ---- one word more
 
@@ -269,21 +250,18 @@ module _ {text spans : List ℕ} {n from to : ℕ} (s : Storable text spans n fr
     all_many : length (all_words text spans n) ≡ 4 + n
     all_many = length-append core_words (found text spans n) ∙ ap₂ (λ (a b : ℕ). a + b) four (found_many text spans n)
 
-    pub note_old : known < 4 + n → Notes text spans n from to spans n
+    pub note_old : known < 4 + n → Notes text spans n from to spans (Ok n)
     note_old h =
-        let few = s.sought.stored.few in
         let l : place (part text from to) (all_words text spans n) < length (all_words text spans n) = let e = k.is in let a = all_many in omega arith in
         let e = among-place (part text from to) (all_words text spans n) l in
         record {
           same = refl;
-          over = λ m ts. absurd (no m few);
-          stored = λ m. s.sought.stored;
-          fits = λ m ts. fits_more (part text from to) ts word-short;
-          words = λ m ts. ap (λ (l : List (List ℕ)). found text spans n ++ l) (met-old (all_words text spans n) (part text from to) ts e);
+          is = record {
+            stored = s.sought.stored;
+            fits = λ ts. fits_more (part text from to) ts word-short;
+            words = λ ts. ap (λ (l : List (List ℕ)). found text spans n ++ l) (met-old (all_words text spans n) (part text from to) ts e);
+          };
         }
-      where
-        no : 1020 < n → n ≤ 1020 → ⊥
-        no a b = omega arith
 
     module _ (h : 4 + n ≤ known) where
       new : among (part text from to) (all_words text spans n) ≡ false
@@ -291,18 +269,9 @@ module _ {text spans : List ℕ} {n from to : ℕ} (s : Storable text spans n fr
           let l : length (all_words text spans n) ≤ place (part text from to) (all_words text spans n) = let e = k.is in let a = all_many in omega arith in
           not_among_place (part text from to) (all_words text spans n) l
 
-      pub note_full : 1020 ≤ n → Notes text spans n from to spans 1021
-      note_full m = record {
-        same = refl;
-        over = λ y ts. inr (longer ts);
-        stored = λ y. absurd (no y);
-        fits = λ y ts. absurd (no y);
-        words = λ y ts. absurd (no y);
-      }
+      pub note_full : 1020 ≤ n → Notes text spans n from to spans (Err OverLimit)
+      note_full m = record { same = refl; is = (refl, record { over = λ ts. inr (longer ts) }) }
         where
-          no : 1021 ≤ 1020 → ⊥
-          no y = omega arith
-
           longer : (ts : List Token) → 1020 < length (found text spans n ++ met (all_words text spans n) (one (word (part text from to)) ∷ ts))
           longer ts =
               let a = ap length (met-new (all_words text spans n) (part text from to) ts new) in
@@ -310,20 +279,18 @@ module _ {text spans : List ℕ} {n from to : ℕ} (s : Storable text spans n fr
               let c = found_many text spans n in
               omega arith
 
-      pub note_new : n < 1020 → Notes text spans n from to (set (set spans (n * 2) from) (n * 2 + 1) to) (n + 1)
+      pub note_new : n < 1020 → Notes text spans n from to (set (set spans (n * 2) from) (n * 2 + 1) to) (Ok (n + 1))
       note_new m = record {
         same = length-set (set spans (n * 2) from) (n * 2 + 1) to ∙ length-set spans (n * 2) from;
-        over = λ y ts. absurd (no y);
-        stored = λ y. record { few = y; room = room; inside = inside; short = short };
-        fits = λ y ts. fits_more (part text from to) ts word-short;
-        words = λ y ts.
-            found-new core_words (found text spans n) (part text from to) ts new
-            ∙ ap (λ (l : List (List ℕ)). l ++ met (core_words ++ l) ts) (sym (found_one_more text spans n from to space));
+        is = record {
+          stored = record { few = omega arith; room = room; inside = inside; short = short };
+          fits = λ ts. fits_more (part text from to) ts word-short;
+          words = λ ts.
+              found-new core_words (found text spans n) (part text from to) ts new
+              ∙ ap (λ (l : List (List ℕ)). l ++ met (core_words ++ l) ts) (sym (found_one_more text spans n from to space));
+        };
       }
         where
-          no : 1020 < n + 1 → ⊥
-          no y = omega arith
-
           space : n * 2 + 1 < length spans
           space = let e = s.space in omega arith
 

@@ -16,15 +16,15 @@ use Rattle.text_laws.specs.Passes.{parts_left, token_bytes}
 use Rattle.text_laws.proofs.PassLaws.{parts-short}
 use Rattle.tokens.specs.declared.pieces.Piece as pieces
 use Rattle.tokens.specs.declared.pieces.Piece.TheVariants as piece
-use Rattle.tokens.specs.declared.Next.{Next}
-use Rattle.tokens.specs.declared.Next.TheVariants.{Open, Close, Piece}
-use Rattle.tokens.specs.declared.Next.TheVariants as next
+use Rattle.std.specs.Prelude.{Option, None, Some}
+use Rattle.tokens.specs.declared.Token as code
+use Rattle.tokens.specs.declared.Token.TheVariants.{Open, Close, Piece}
 use Rattle.tokens.specs.Pieces.{is_bad, means, AtomToken, OverToken}
 use Rattle.tokens.specs.Nexts.{Goes, part, PieceAt, NextIs}
 use Rattle.tokens.proofs.Uses.{next-end, next_open, next_close, next-piece, piece-bad, piece-leaf, onward_laws}
 use Rattle.text_reader.specs.Found.{all_words, Sought, Numbered}
 use Rattle.text_reader.specs.Items.{directly, Counts, Parts, root_from, thing_bytes, Sound, Steps, ItemIs}
-use Rattle.text_reader.specs.declared.items.Item.TheVariants.{End, Passed, Thing, Long}
+use Rattle.text_reader.specs.declared.items.Item.TheVariants.{Nothing, Thing, Long}
 
 -- ---- one part more
 
@@ -106,37 +106,37 @@ module _ {text : List ℕ} {at here depth count : ℕ} (j : Counting text at her
   counted : parts_left depth (tokens (drop here text)) ≡ 0 → Parts text at count
   counted z = let e = j.so_far in record { exact = λ l. omega arith; large = λ l. omega arith }
 
-  module _ {r : Next} (h : NextIs text here r) where
-    pub parts-end : r ≡ next.End → Parts text at count
+  module _ {r : Option (code.Token × ℕ)} (h : NextIs text here r) where
+    pub parts-end : r ≡ None → Parts text at count
     parts-end e = counted (ap (parts_left depth) (next-end h e) ∙ parts_none depth)
 
     module _ {to : ℕ} {k : Token} (g : Goes text here to k) where
       on : {d c : ℕ} → d ≤ to → c ≤ 65537 → count + parts_left depth (k ∷ tokens (drop to text)) ≡ c + parts_left d (tokens (drop to text)) → Counting text at to d c
       on a b e = record { within = g.within; shallow = a; few = b; so_far = j.so_far ∙ ap (λ (ts : List Token). count + parts_left depth ts) g.here ∙ e }
 
-    pub parts_open : {to c : ℕ} → r ≡ Open to → count ≤ 65536 → c ≡ count + directly depth → Counting text at to (depth + 1) c
-    parts_open {to} {c} e l q =
-        let g = next_open h e in
+    pub parts_open : {to c : ℕ} {t : code.Token} → r ≡ Some (t, to) → t ≡ Open → count ≤ 65536 → c ≡ count + directly depth → Counting text at to (depth + 1) c
+    parts_open {to} {c} e i l q =
+        let g = next_open h e i in
         let a = j.shallow in
         let b = g.onward in
         let d = at_most_one depth in
         let f = parts-opening depth (tokens (drop to text)) in
         on g (omega arith) (omega arith) (omega arith)
 
-    module _ {to : ℕ} (e : r ≡ Close to) where
+    module _ {to : ℕ} {t : code.Token} (e : r ≡ Some (t, to)) (i : t ≡ Close) where
       pub parts_stop : depth ≡ 0 → Parts text at count
-      parts_stop z = counted (ap (parts_left depth) (next_close h e).here ∙ parts_own depth (tokens (drop to text)) z)
+      parts_stop z = counted (ap (parts_left depth) (next_close h e i).here ∙ parts_own depth (tokens (drop to text)) z)
 
       pub parts_close : (depth ≡ 0 → ⊥) → Counting text at to (depth - 1) count
       parts_close n =
-          let g = next_close h e in
+          let g = next_close h e i in
           let a = j.shallow in
           let b = g.onward in
           on g (omega arith) j.few (ap (λ (k : ℕ). count + k) (parts-closing depth (tokens (drop to text)) n))
 
-    pub parts-piece : {p : pieces.Piece} {from to c : ℕ} → r ≡ Piece p from to → count ≤ 65536 → Counts count depth p c → Counting text at to depth c
-    parts-piece {p} {from} {to} {c} e l q =
-        let a = next-piece h e in
+    pub parts-piece : {p : pieces.Piece} {from to c : ℕ} {t : code.Token} → r ≡ Some (t, to) → t ≡ Piece p from → count ≤ 65536 → Counts count depth p c → Counting text at to depth c
+    parts-piece {p} {from} {to} {c} e i l q =
+        let a = next-piece h e i in
         let x = j.shallow in
         let y = a.goes.onward in
         on a.goes (omega arith) (few (is_bad p) q.is) (go (is_bad p) refl q.is)
@@ -146,12 +146,12 @@ module _ {text : List ℕ} {at here depth count : ℕ} (j : Counting text at her
         few false w = let d = at_most_one depth in omega arith
 
         go : (t : Bool) → is_bad p ≡ t → c ≡ count + (when t then 0 else directly depth)
-            → count + parts_left depth ((next-piece h e).token ∷ tokens (drop to text)) ≡ c + parts_left depth (tokens (drop to text))
-        go true i w =
-            let f = ap (λ (k : Token). parts_left depth (k ∷ tokens (drop to text))) (piece-bad (next-piece h e) i) ∙ parts-bad depth (tokens (drop to text)) in
+            → count + parts_left depth ((next-piece h e i).token ∷ tokens (drop to text)) ≡ c + parts_left depth (tokens (drop to text))
+        go true v w =
+            let f = ap (λ (k : Token). parts_left depth (k ∷ tokens (drop to text))) (piece-bad (next-piece h e i) v) ∙ parts-bad depth (tokens (drop to text)) in
             omega arith
-        go false i w =
-            let m = piece-leaf (next-piece h e) i in
+        go false v w =
+            let m = piece-leaf (next-piece h e i) v in
             let f = ap (λ (k : Token). parts_left depth (k ∷ tokens (drop to text))) m.1 ∙ parts-leaf depth m.0 (tokens (drop to text)) in
             omega arith
 
@@ -203,8 +203,8 @@ module _ {text spans : List ℕ} {n at : ℕ} (s : Sound text spans n at) where
   pub sound-within : at ≤ length text
   sound-within = s.within
 
-  module _ {r : Next} (h : NextIs text at r) where
-    pub item_end : r ≡ next.End → ItemIs text spans n at End
+  module _ {r : Option (code.Token × ℕ)} (h : NextIs text at r) where
+    pub item_end : r ≡ None → ItemIs text spans n at None
     item_end e = record { is = ap (token_bytes (all_words text spans n)) (next-end h e) ∙ bytes-end (all_words text spans n) }
 
     module _ {to : ℕ} {k : Token} (g : Goes text at to k) where
@@ -218,23 +218,23 @@ module _ {text spans : List ℕ} {n at : ℕ} (s : Sound text spans n at) where
       still : all_fit (k ∷ tokens (drop to text)) ≡ true
       still = ap all_fit (sym g.here) ∙ s.fits
 
-    module _ {to : ℕ} (e : r ≡ Open to) where
+    module _ {to : ℕ} {t : code.Token} (e : r ≡ Some (t, to)) (i : t ≡ Open) where
       pub open_within : to ≤ length text
-      open_within = (next_open h e).within
+      open_within = (next_open h e i).within
 
       module _ {m : ℕ} (c : Parts text to m) where
-        pub item_long : 65536 < m → ItemIs text spans n at Long
+        pub item_long : 65536 < m → ItemIs text spans n at (Some (Long, to))
         item_long l =
-            let g = next_open h e in
+            let g = next_open h e i in
             let a = parts-short (all_words text spans n) (tokens (drop to text)) 0 in
             let b = length-append (thing_bytes 5 (parts_left 0 (tokens (drop to text)))) (root_from text spans n to) in
             let d = ap length (ap (token_bytes (all_words text spans n)) g.here ∙ bytes-opening (all_words text spans n) (tokens (drop to text))) in
             let f = c.large l in
             record { is = omega arith }
 
-        pub item_list : m ≤ 65536 → ItemIs text spans n at (Thing 5 m to)
+        pub item_list : m ≤ 65536 → ItemIs text spans n at (Some (Thing 5 m, to))
         item_list l =
-            let g = next_open h e in
+            let g = next_open h e i in
             record {
               is = (
                 omega arith,
@@ -243,49 +243,49 @@ module _ {text spans : List ℕ} {n at : ℕ} (s : Sound text spans n at) where
               );
             }
 
-    pub item_close : {to : ℕ} → r ≡ Close to → ItemIs text spans n at (Passed to)
-    item_close {to} e =
-        let g = next_close h e in
+    pub item_close : {to : ℕ} {t : code.Token} → r ≡ Some (t, to) → t ≡ Close → ItemIs text spans n at (Some (Nothing, to))
+    item_close {to} e i =
+        let g = next_close h e i in
         record { is = goes_on g [] (sym (fits-closing (tokens (drop to text))) ∙ still g) (bytes-closing (all_words text spans n) (tokens (drop to text))) }
 
-    module _ {p : pieces.Piece} {from to : ℕ} (e : r ≡ Piece p from to) where
+    module _ {p : pieces.Piece} {from to : ℕ} {t : code.Token} (e : r ≡ Some (t, to)) (i : t ≡ Piece p from) where
       here : PieceAt text at p from to
-      here = next-piece h e
+      here = next-piece h e i
 
-      read_as : {q : pieces.Piece} → p ≡ q → means (next-piece h e).token (part text from to) q
-      read_as i = subst (means (next-piece h e).token (part text from to)) i (next-piece h e).means.is
+      read_as : {q : pieces.Piece} → p ≡ q → means (next-piece h e i).token (part text from to) q
+      read_as j = subst (means (next-piece h e i).token (part text from to)) j (next-piece h e i).means.is
 
       -- the token is k
-      steps : (k : Token) (b : List ℕ) → (next-piece h e).token ≡ k → (all_fit (k ∷ tokens (drop to text)) ≡ true → all_fit (tokens (drop to text)) ≡ true)
+      steps : (k : Token) (b : List ℕ) → (next-piece h e i).token ≡ k → (all_fit (k ∷ tokens (drop to text)) ≡ true → all_fit (tokens (drop to text)) ≡ true)
           → token_bytes (all_words text spans n) (k ∷ tokens (drop to text)) ≡ b ++ root_from text spans n to → Steps text spans n at to b
-      steps k b i f d =
-          let g : Goes text at to k = subst (Goes text at to) i (next-piece h e).goes in
+      steps k b j f d =
+          let g : Goes text at to k = subst (Goes text at to) j (next-piece h e i).goes in
           goes_on g b (f (still g)) d
 
       leaf-fits : (l : Leaf) → all_fit (one l ∷ tokens (drop to text)) ≡ true → (leaf_fits l ≡ true) × (all_fit (tokens (drop to text)) ≡ true)
       leaf-fits l f = and_both (leaf_fits l) (all_fit (tokens (drop to text))) (sym (fits-leaf l (tokens (drop to text))) ∙ f)
 
       pub item_sought : Sought text spans n from to
-      item_sought = let a = next-piece h e in record { stored = s.stored; span = record { forward = a.ends; within = a.goes.within } }
+      item_sought = let a = next-piece h e i in record { stored = s.stored; span = record { forward = a.ends; within = a.goes.within } }
 
-      pub item_bad : p ≡ piece.Bad → ItemIs text spans n at (Passed to)
-      item_bad i = record {
-        is = steps bad [] (read_as i) (λ f. sym (fits-bad (tokens (drop to text))) ∙ f) (bytes-bad (all_words text spans n) (tokens (drop to text)));
+      pub item_bad : p ≡ piece.Bad → ItemIs text spans n at (Some (Nothing, to))
+      item_bad j = record {
+        is = steps bad [] (read_as j) (λ f. sym (fits-bad (tokens (drop to text))) ∙ f) (bytes-bad (all_words text spans n) (tokens (drop to text)));
       }
 
-      pub item_word : {m : ℕ} → p ≡ piece.Word → Numbered text spans n from to m → ItemIs text spans n at (Thing 0 m to)
-      item_word {m} i w = record {
+      pub item_word : {m : ℕ} → p ≡ piece.Word → Numbered text spans n from to m → ItemIs text spans n at (Some (Thing 0 m, to))
+      item_word {m} j w = record {
         is = (
           omega arith,
-          steps (one (word (part text from to))) (thing_bytes 0 m) (read_as i) (λ f. (leaf-fits (word (part text from to)) f).1)
+          steps (one (word (part text from to))) (thing_bytes 0 m) (read_as j) (λ f. (leaf-fits (word (part text from to)) f).1)
               (bytes-leaf (all_words text spans n) (word (part text from to)) (tokens (drop to text))
               ∙ ap (λ (b : List ℕ). b ++ root_from text spans n to) (bytes_word (all_words text spans n) (part text from to) ∙ ap (thing_bytes 0) (sym w.is))),
         );
       }
 
-      pub item_atom : {tag content : ℕ} → p ≡ piece.Atom tag content → ItemIs text spans n at (Thing tag content to)
-      item_atom {tag} {content} i =
-          let a : AtomToken tag content (next-piece h e).token = read_as i in
+      pub item_atom : {tag content : ℕ} → p ≡ piece.Atom tag content → ItemIs text spans n at (Some (Thing tag content, to))
+      item_atom {tag} {content} j =
+          let a : AtomToken tag content (next-piece h e i).token = read_as j in
           let t = a.atom-is.tag_small in
           record {
             is = (
@@ -296,10 +296,10 @@ module _ {text spans : List ℕ} {n at : ℕ} (s : Sound text spans n at) where
           }
 
       -- the limits were tested before
-      pub item_over : p ≡ piece.Over → ItemIs text spans n at (Passed to)
-      item_over i =
-          let a : OverToken (next-piece h e).token = read_as i in
-          let g : Goes text at to (one a.leaf) = subst (Goes text at to) a.is (next-piece h e).goes in
+      pub item_over : p ≡ piece.Over → ItemIs text spans n at (Some (Nothing, to))
+      item_over j =
+          let a : OverToken (next-piece h e i).token = read_as j in
+          let g : Goes text at to (one a.leaf) = subst (Goes text at to) a.is (next-piece h e i).goes in
           absurd (false≢true (sym a.not-fits ∙ (leaf-fits a.leaf (still g)).0))
 
 pub ruleset item_laws = (sound-within, item_end, open_within, item_long, item_list, item_close, item_sought, item_bad, item_word, item_atom, item_over)

@@ -1,11 +1,11 @@
 -- The job: one law for each way out.
-use Prim.Native.Nat.{ℕ, ◌+◌, ◌-◌, ◌*◌, ◌≤◌, ◌<◌}
+use Prim.Native.Nat.{ℕ, ◌+◌, ◌-◌, ◌≤◌, ◌<◌}
 use mathlib.Core.Path.{◌≡◌, refl, sym, ap, ◌∙◌, subst}
 use mathlib.Core.Bool.{Bool, true, false, ◌&&◌}
 use mathlib.Core.List.{List, [], ◌∷◌, ◌++◌, append_assoc}
 use mathlib.Core.Option.{none}
 use native.Mathlib.Omega.{arith}
-use lib.ListN.{length, replicate, length-replicate}
+use lib.ListN.{length}
 use Rattle.model.specs.Choice.{when◌then◌else◌}
 use Rattle.model.specs.Limits.{core_names}
 use Rattle.model.specs.Refusals.{over_limit}
@@ -17,17 +17,14 @@ use Rattle.requests.specs.FromText.{base, refused, judged, met, all_fit}
 use Rattle.requests.specs.TextJobs.{TextEnding, fitted, read_ending}
 use Rattle.text_laws.specs.Passes.{token_bytes, head_of, passes_within, passes_bytes, after_faults, read_passes}
 use Rattle.text_laws.proofs.JobLaws.{read_as_passes}
-use Rattle.refusals.specs.declared.Refusal.TheVariants.{TooLong, OverLimit}
+use Rattle.refusals.specs.declared.Refusal.TheVariants.{TooLong}
 use Rattle.text.specs.Placing.{Placed}
 use Rattle.text.proofs.Placing.{placed-length}
 use Rattle.text_endings.specs.declared.TextRefusal.{TextRefusal}
 use Rattle.text_endings.specs.declared.TextRefusal.TheVariants.{Base}
-use Rattle.text_endings.specs.declared.Written.{Written}
-use Rattle.text_endings.specs.declared.Written.TheVariants.{Made, Refused}
-use Rattle.text_reader.specs.declared.judging.Judged.{Judged}
-use Rattle.text_reader.specs.declared.judging.Judged.TheVariants.{Fine, Fault}
-use Rattle.text_reader.specs.declared.limits.Limits.{Limits}
-use Rattle.text_reader.specs.declared.limits.Limits.TheVariants.{Over, Within}
+use Rattle.std.specs.Prelude.{Result, Ok, Err}
+use Rattle.refusals.specs.declared.Refusal.{Refusal}
+use Rattle.text_reader.specs.declared.judging.Fault.{Fault}
 use Rattle.text_reader.specs.Judging.{fault_of, Judges}
 use Rattle.text_reader.specs.Found.{found}
 use Rattle.text_reader.specs.Limiting.{WordsMet, LimitedAs, Limited}
@@ -40,14 +37,14 @@ use Rattle.text_reader.specs.Job.{Writes, Reads}
 -- ---- code 20, or the image
 
 module _ {text spans : List ℕ} {n : ℕ} {out : List ℕ} {room len : ℕ} (r : Room (length out) room) (m : Measured (image_from text spans n) room len) where
-  pub image_too_long : room < len → Writes text spans n out out (Refused (Base TooLong))
+  pub image_too_long : room < len → Writes text spans n out out (Err (Base TooLong))
   image_too_long h = record { ends = ends_too_long r m h }
 
   module _ (h : len ≤ room) where
     pub image-room : Sound text spans n 0 → ImageRoom out text spans n
     image-room s = let f = there_is_room r m h in record { sound = s; short = f.1; room = f.0 }
 
-    pub image-written : {out' : List ℕ} {p : ℕ} → Placed out 0 (image_from text spans n) out' p → Writes text spans n out out' (Made len)
+    pub image-written : {out' : List ℕ} {p : ℕ} → Placed out 0 (image_from text spans n) out' p → Writes text spans n out out' (Ok len)
     image-written w = record { ends = ends-written r m h w.is }
 
 pub ruleset write_laws = (room_small, len-fits, image_too_long, image-room, image-written, placed-length)
@@ -89,18 +86,20 @@ module _ (text out : List ℕ) (clean : judged 0 false (tokens text) ≡ none) w
   unfolding read_passes after_faults
   after b e = read_as_passes text (length out) ∙ rw (clean, e)
 
-module _ {text spans : List ℕ} {r : Limits} (h : Limited text spans r) where
-  pub job_over : {out : List ℕ} → judged 0 false (tokens text) ≡ none → r ≡ Over → Reads text out out (Refused (Base OverLimit))
-  job_over {out} clean e = ends-refused (Base OverLimit) (after text out clean false (subst (LimitedAs text spans) e h.is))
+module _ {text spans : List ℕ} {r : Result ℕ Refusal} (h : Limited text spans r) where
+  pub job_over : {out : List ℕ} → judged 0 false (tokens text) ≡ none → {f : Refusal} → r ≡ Err f → Reads text out out (Err (Base f))
+  job_over {out} clean {f} e =
+      let a = subst (LimitedAs text spans) e h.is in
+      ends-refused (Base f) (rw a.0 (after text out clean false a.1))
 
-  module _ {n : ℕ} (e : r ≡ Within n) where
+  module _ {n : ℕ} (e : r ≡ Ok n) where
     met_all : WordsMet text spans n
     met_all = subst (LimitedAs text spans) e h.is
 
     pub job_sound : Sound text spans n 0
     job_sound = record { within = omega arith; stored = met_all.stored; fits = within-fits (tokens text) met_all.within }
 
-    pub job_written : {out out' : List ℕ} {q : Written} → judged 0 false (tokens text) ≡ none → Writes text spans n out out' q → Reads text out out' q
+    pub job_written : {out out' : List ℕ} {q : Result ℕ TextRefusal} → judged 0 false (tokens text) ≡ none → Writes text spans n out out' q → Reads text out out' q
     job_written {out} {out'} {q} clean w =
         subst (λ (z : TextEnding). Ends z out out' q)
         (ap (fitted (length out)) (image-is (tokens text) (found text spans n) met_all.words) ∙ sym (after text out clean true met_all.within)) w.ends
@@ -109,17 +108,12 @@ pub ruleset limited_laws = (job_over, job_sound, job_written)
 
 -- ---- 26 and 27
 
-module _ {text : List ℕ} {r : Judged} (h : Judges text r) where
-  pub job_fault : {out : List ℕ} {f : TextRefusal} {at : ℕ} → r ≡ Fault f at → Reads text out out (Refused f)
+module _ {text : List ℕ} {r : Result (Unit {0}) Fault} (h : Judges text r) where
+  pub job_fault : {out : List ℕ} {f : Fault} → r ≡ Err f → Reads text out out (Err f.refusal)
   unfolding read_passes after_faults
-  job_fault {out} {f} e = ends-refused f (read_as_passes text (length out) ∙ rw (sym h.is ∙ ap fault_of e))
+  job_fault {out} {f} e = ends-refused f.refusal (read_as_passes text (length out) ∙ rw (sym h.is ∙ ap fault_of e))
 
-  pub job_fine : r ≡ Fine → judged 0 false (tokens text) ≡ none
+  pub job_fine : {u : Unit {0}} → r ≡ Ok u → judged 0 false (tokens text) ≡ none
   job_fine e = sym h.is ∙ ap fault_of e
 
 pub ruleset judged_laws = (job_fault, job_fine)
-
-pub spans_room : length (replicate {A = ℕ} 2040 0) ≡ 1020 * 2
-spans_room = length-replicate {A = ℕ} 2040 0
-
-pub ruleset job_laws = (spans_room)

@@ -18,45 +18,32 @@ use Rattle.text_laws.specs.Passes.{levels_to, passes_within}
 use Rattle.tokens.specs.declared.pieces.Piece as pieces
 use Rattle.tokens.specs.declared.pieces.Piece.TheVariants.{Bad, Word, Atom}
 use Rattle.tokens.specs.declared.pieces.Piece.TheVariants as piece
-use Rattle.tokens.specs.declared.Next.{Next}
-use Rattle.tokens.specs.declared.Next.TheVariants.{End, Open, Close, Piece}
+use Rattle.std.specs.Prelude.{Option, None, Some, Result, Ok, Err}
+use Rattle.tokens.specs.declared.Token as code
+use Rattle.tokens.specs.declared.Token.TheVariants.{Open, Close, Piece}
 use Rattle.tokens.specs.Pieces.{means, Means, AtomToken, OverToken}
 use Rattle.tokens.specs.Nexts.{Goes, part, PieceAt, NextIs}
 use Rattle.tokens.proofs.Uses.{next-end, next_open, next_close, next-piece, onward_laws}
-use Rattle.text_reader.specs.Found.{most_words, found, all_words, Spans, Storable, Noted, Notes}
+use Rattle.text_reader.specs.Found.{most_words, found, all_words, Spans, Storable, Beyond, NotedAs, Noted, Notes}
 use Rattle.text_reader.specs.Limiting.{Placeable, NotesPiece, Limited}
-use Rattle.text_reader.specs.declared.limits.Limits.TheVariants.{Over, Within}
+use Rattle.refusals.specs.declared.Refusal.{Refusal}
+use Rattle.refusals.specs.declared.Refusal.TheVariants.{OverLimit}
 use Rattle.text_reader.proofs.FoundLaws.{found_many}
 
 -- ---- one piece
 
-no_more : 1021 ≤ 1020 → ⊥
-no_more h = omega arith
-
 module _ {text spans : List ℕ} {n : ℕ} where
   -- a token that is no word
   keeps : (k : Token) → Spans text spans n → ((ts : List Token) → all_fit (k ∷ ts) ≡ all_fit ts) → ((seen : List (List ℕ)) (ts : List Token) → met seen (k ∷ ts) ≡ met seen ts)
-      → Noted text spans n k spans n
+      → Noted text spans n k spans (Ok n)
   keeps k s f m = record {
     same = refl;
-    over = λ y ts. absurd (no y s.few);
-    stored = λ y. s;
-    fits = λ y ts. f ts;
-    words = λ y ts. ap (λ (l : List (List ℕ)). found text spans n ++ l) (m (all_words text spans n) ts);
+    is = record { stored = s; fits = f; words = λ ts. ap (λ (l : List (List ℕ)). found text spans n ++ l) (m (all_words text spans n) ts) };
   }
-    where
-      no : 1020 < n → n ≤ 1020 → ⊥
-      no a b = omega arith
 
   -- a token over its limit
-  fails : (k : Token) → ((ts : List Token) → all_fit (k ∷ ts) ≡ false) → Noted text spans n k spans 1021
-  fails k f = record {
-    same = refl;
-    over = λ y ts. inl (f ts);
-    stored = λ y. absurd (no_more y);
-    fits = λ y ts. absurd (no_more y);
-    words = λ y ts. absurd (no_more y);
-  }
+  fails : (k : Token) → ((ts : List Token) → all_fit (k ∷ ts) ≡ false) → Noted text spans n k spans (Err OverLimit)
+  fails k f = record { same = refl; is = (refl, record { over = λ ts. inl (f ts) }) }
 
 fit-leaf : (l : Leaf) (ts : List Token) → leaf_fits l ≡ true → all_fit (one l ∷ ts) ≡ all_fit ts
 unfolding all_fit
@@ -89,34 +76,38 @@ module _ {text spans : List ℕ} {n from to : ℕ} (s : Placeable text spans n f
   read_as : {q : pieces.Piece} → p ≡ q → (k : Token) → Means k (part text from to) p → means k (part text from to) q
   read_as e k m = subst (means k (part text from to)) e m.is
 
-  pub piece-bad : p ≡ Bad → NotesPiece text spans n p from to spans n
+  pub piece-bad : p ≡ Bad → NotesPiece text spans n p from to spans (Ok n)
   piece-bad e = record {
     same = refl;
-    is = λ k m. subst (λ (t : Token). Noted text spans n t spans n) (sym (read_as e k m)) (keeps bad s.sought.stored fit-bad met-bad);
+    is = λ k m. subst (λ (t : Token). Noted text spans n t spans (Ok n)) (sym (read_as e k m)) (keeps bad s.sought.stored fit-bad met-bad);
   }
 
-  pub piece-atom : {g c : ℕ} → p ≡ Atom g c → NotesPiece text spans n p from to spans n
+  pub piece-atom : {g c : ℕ} → p ≡ Atom g c → NotesPiece text spans n p from to spans (Ok n)
   piece-atom {g} {c} e = record {
     same = refl;
     is = λ k m.
         let a : AtomToken g c k = read_as e k m in
-        subst (λ (t : Token). Noted text spans n t spans n) (sym a.is)
+        subst (λ (t : Token). Noted text spans n t spans (Ok n)) (sym a.is)
         (keeps (one a.leaf) s.sought.stored (λ ts. fit-leaf a.leaf ts a.atom-is.fits) a.atom-is.no_word);
   }
 
-  pub piece-over : p ≡ piece.Over → NotesPiece text spans n p from to spans 1021
+  pub piece-kept : (p ≡ Bad) ⊎ ((g : ℕ) × (c : ℕ) × (p ≡ Atom g c)) → NotesPiece text spans n p from to spans (Ok n)
+  piece-kept (inl e) = piece-bad e
+  piece-kept (inr h) = piece-atom h.2
+
+  pub piece-over : p ≡ piece.Over → NotesPiece text spans n p from to spans (Err OverLimit)
   piece-over e = record {
     same = refl;
     is = λ k m.
         let a : OverToken k = read_as e k m in
-        subst (λ (t : Token). Noted text spans n t spans 1021) (sym a.is) (fails (one a.leaf) (λ ts. fit-not a.leaf ts a.not-fits));
+        subst (λ (t : Token). Noted text spans n t spans (Err OverLimit)) (sym a.is) (fails (one a.leaf) (λ ts. fit-not a.leaf ts a.not-fits));
   }
 
   module _ (e : p ≡ Word) where
-    pub piece-long : 32 < to - from → NotesPiece text spans n p from to spans 1021
+    pub piece-long : 32 < to - from → NotesPiece text spans n p from to spans (Err OverLimit)
     piece-long h = record {
       same = refl;
-      is = λ k m. subst (λ (t : Token). Noted text spans n t spans 1021) (sym (read_as e k m)) (fails (one (word (part text from to))) (λ ts. fit-not (word (part text from to)) ts (word_over (part text from to) long)));
+      is = λ k m. subst (λ (t : Token). Noted text spans n t spans (Err OverLimit)) (sym (read_as e k m)) (fails (one (word (part text from to))) (λ ts. fit-not (word (part text from to)) ts (word_over (part text from to) long)));
     }
       where
         long : 32 < length (part text from to)
@@ -127,13 +118,13 @@ module _ {text spans : List ℕ} {n from to : ℕ} (s : Placeable text spans n f
             let l = length-take-le (to - from) (drop from text) (omega arith) in
             omega arith
 
-    pub piece-word : {spans' : List ℕ} {r : ℕ} → Notes text spans n from to spans' r → NotesPiece text spans n p from to spans' r
+    pub piece-word : {spans' : List ℕ} {r : Result ℕ Refusal} → Notes text spans n from to spans' r → NotesPiece text spans n p from to spans' r
     piece-word {spans'} {r} w = record {
       same = w.same;
       is = λ k m. subst (λ (t : Token). Noted text spans n t spans' r) (sym (read_as e k m)) w;
     }
 
-pub ruleset piece_laws = (note_forward, note_storable, piece-bad, piece-atom, piece-over, piece-long, piece-word)
+pub ruleset piece_laws = (note_forward, note_storable, piece-kept, piece-over, piece-long, piece-word)
 
 -- ---- the pass
 
@@ -242,8 +233,8 @@ piece-levels {text} {at} {from} {to} {p} a level ts = go p a.means.is
     go (Atom g c) m = leaf-level a.token m.leaf m.is
     go piece.Over m = leaf-level a.token m.leaf m.is
 
-module _ {text spans : List ℕ} {at level n : ℕ} (j : Limiting text spans at level n) {r : Next} (h : NextIs text at r) where
-  pub limit_end : r ≡ End → Limited text spans (Within n)
+module _ {text spans : List ℕ} {at level n : ℕ} (j : Limiting text spans at level n) {r : Option (code.Token × ℕ)} (h : NextIs text at r) where
+  pub limit_end : r ≡ None → Limited text spans (Ok n)
   limit_end e =
       let none = next-end h e in
       let met-is : found text spans n ≡ met core_words (tokens text) =
@@ -260,8 +251,8 @@ module _ {text spans : List ℕ} {at level n : ℕ} (j : Limiting text spans at 
 
   -- the token here is k, and the rest comes after `to`
   module _ {to : ℕ} {k : Token} (g : Goes text at to k) where
-    stops : sound level (k ∷ tokens (drop to text)) ≡ false → Limited text spans Over
-    stops e = record { is = unsound (tokens text) (sym j.so_far ∙ ap (sound level) g.here ∙ e) }
+    stops : sound level (k ∷ tokens (drop to text)) ≡ false → Limited text spans (Err OverLimit)
+    stops e = record { is = (refl, unsound (tokens text) (sym j.so_far ∙ ap (sound level) g.here ∙ e)) }
 
     on : (d : ℕ) → d ≤ 64 → sound level (k ∷ tokens (drop to text)) ≡ sound d (tokens (drop to text)) → ((seen : List (List ℕ)) (ts : List Token) → met seen (k ∷ ts) ≡ met seen ts)
         → Limiting text spans to d n
@@ -274,71 +265,72 @@ module _ {text spans : List ℕ} {at level n : ℕ} (j : Limiting text spans at 
       so_far = sym (ap (sound level) g.here ∙ e) ∙ j.so_far;
     }
 
-  module _ {to : ℕ} (e : r ≡ Open to) where
-    pub limit_open_deep : 64 ≤ level → Limited text spans Over
-    limit_open_deep l = stops (next_open h e) (open_deep level (tokens (drop to text)) l)
+  module _ {to : ℕ} {t : code.Token} (e : r ≡ Some (t, to)) (i : t ≡ Open) where
+    pub limit_open_deep : 64 ≤ level → Limited text spans (Err OverLimit)
+    limit_open_deep l = stops (next_open h e i) (open_deep level (tokens (drop to text)) l)
 
     pub limit_open : level < 64 → Limiting text spans to (level + 1) n
-    limit_open l = on (next_open h e) (level + 1) (omega arith) (open_level level (tokens (drop to text)) l) met_open
+    limit_open l = on (next_open h e i) (level + 1) (omega arith) (open_level level (tokens (drop to text)) l) met_open
 
-  pub limit_close : {to d : ℕ} → r ≡ Close to → d ≡ level - 1 → Limiting text spans to d n
-  limit_close {to} {d} e q =
+  pub limit_close : {to d : ℕ} {t : code.Token} → r ≡ Some (t, to) → t ≡ Close → d ≡ level - 1 → Limiting text spans to d n
+  limit_close {to} {d} e i q =
       let l = j.shallow in
-      subst (λ (m : ℕ). Limiting text spans to m n) (sym q) (on (next_close h e) (level - 1) (omega arith) (close_level level (tokens (drop to text))) met_close)
+      subst (λ (m : ℕ). Limiting text spans to m n) (sym q) (on (next_close h e i) (level - 1) (omega arith) (close_level level (tokens (drop to text))) met_close)
 
-  module _ {p : pieces.Piece} {from to : ℕ} (e : r ≡ Piece p from to) where
+  module _ {p : pieces.Piece} {from to : ℕ} {t : code.Token} (e : r ≡ Some (t, to)) (i : t ≡ Piece p from) where
     pub limit_placeable : Placeable text spans n from to
     limit_placeable =
-        let a = next-piece h e in
+        let a = next-piece h e i in
         record { sought = record { stored = j.stored; span = record { forward = a.ends; within = a.goes.within } }; space = j.space }
 
     rest : List Token
     rest = tokens (drop to text)
 
-    levels-are : (t : Bool) → ltb level 64 ≡ t → sound level ((next-piece h e).token ∷ tokens (drop to text)) ≡ (all_fit ((next-piece h e).token ∷ tokens (drop to text)) && (t && levels_to 64 level (tokens (drop to text))))
+    levels-are : (t : Bool) → ltb level 64 ≡ t → sound level ((next-piece h e i).token ∷ tokens (drop to text)) ≡ (all_fit ((next-piece h e i).token ∷ tokens (drop to text)) && (t && levels_to 64 level (tokens (drop to text))))
     levels-are t q =
-        ap (λ (b : Bool). all_fit ((next-piece h e).token ∷ tokens (drop to text)) && b)
-        (piece-levels (next-piece h e) level (tokens (drop to text)) ∙ ap (λ (b : Bool). b && levels_to 64 level (tokens (drop to text))) q)
+        ap (λ (b : Bool). all_fit ((next-piece h e i).token ∷ tokens (drop to text)) && b)
+        (piece-levels (next-piece h e i) level (tokens (drop to text)) ∙ ap (λ (b : Bool). b && levels_to 64 level (tokens (drop to text))) q)
 
-    pub limit_piece_deep : 64 ≤ level → Limited text spans Over
+    pub limit_piece_deep : 64 ≤ level → Limited text spans (Err OverLimit)
     limit_piece_deep l =
-        stops (next-piece h e).goes (levels-are false (le-ltb level 64 l) ∙ and-false (all_fit ((next-piece h e).token ∷ tokens (drop to text))))
+        stops (next-piece h e i).goes (levels-are false (le-ltb level 64 l) ∙ and-false (all_fit ((next-piece h e i).token ∷ tokens (drop to text))))
 
-    module _ (l : level < 64) {spans' : List ℕ} {m : ℕ} (w : NotesPiece text spans n p from to spans' m) where
-      noted : Noted text spans n (next-piece h e).token spans' m
-      noted = let a = next-piece h e in w.is a.token a.means
+    module _ {spans' : List ℕ} {m : Result ℕ Refusal} (w : NotesPiece text spans n p from to spans' m) where
+      abbrev a : PieceAt text at p from to
+      a = next-piece h e i
 
-      pub limit_many : 1020 < m → Limited text spans' Over
-      limit_many y = go (noted.over y (tokens (drop to text)))
+      noted : Noted text spans n a.token spans' m
+      noted = w.is a.token a.means
+
+      beyond : Beyond text spans n a.token → passes_within (tokens text) ≡ false
+      beyond b = go (b.over (tokens (drop to text)))
         where
-          a : PieceAt text at p from to
-          a = next-piece h e
-
           go : (all_fit (a.token ∷ tokens (drop to text)) ≡ false) ⊎ (1020 < length (found text spans n ++ met (all_words text spans n) (a.token ∷ tokens (drop to text))))
-              → Limited text spans' Over
-          go (inl f) = record {
-            is = unsound (tokens text) (sym j.so_far ∙ ap (sound level) a.goes.here ∙ ap (λ (b : Bool). b && levels_to 64 level (a.token ∷ tokens (drop to text))) f);
-          }
-          go (inr f) = record {
-            is = too_many (tokens text) (subst (λ (z : List (List ℕ)). 1020 < length z)
-                (ap (λ (ts : List Token). found text spans n ++ met (all_words text spans n) ts) (sym a.goes.here) ∙ j.words) f);
-          }
+              → passes_within (tokens text) ≡ false
+          go (inl f) = unsound (tokens text) (sym j.so_far ∙ ap (sound level) a.goes.here ∙ ap (λ (b : Bool). b && levels_to 64 level (a.token ∷ tokens (drop to text))) f)
+          go (inr f) = too_many (tokens text) (subst (λ (z : List (List ℕ)). 1020 < length z)
+              (ap (λ (ts : List Token). found text spans n ++ met (all_words text spans n) ts) (sym a.goes.here) ∙ j.words) f)
 
-      pub limit_piece : m ≤ 1020 → Limiting text spans' to level m
-      limit_piece y =
-          let a = next-piece h e in
+      pub limit_beyond : {f : Refusal} → m ≡ Err f → Limited text spans' (Err f)
+      limit_beyond q =
+          let b = subst (NotedAs text spans n a.token spans') q noted.is in
+          record { is = (b.0, beyond b.1) }
+
+      pub limit_piece : {k : ℕ} → level < 64 → m ≡ Ok k → Limiting text spans' to level k
+      limit_piece l q =
+          let y = subst (NotedAs text spans n a.token spans') q noted.is in
           record {
             within = a.goes.within;
             shallow = j.shallow;
             space = w.same ∙ j.space;
-            stored = noted.stored y;
-            words = sym (noted.words y (tokens (drop to text))) ∙ ap (λ (ts : List Token). found text spans n ++ met (all_words text spans n) ts) (sym a.goes.here) ∙ j.words;
+            stored = y.stored;
+            words = sym (y.words (tokens (drop to text))) ∙ ap (λ (ts : List Token). found text spans n ++ met (all_words text spans n) ts) (sym a.goes.here) ∙ j.words;
             so_far =
-                ap (λ (b : Bool). b && levels_to 64 level (tokens (drop to text))) (sym (noted.fits y (tokens (drop to text))))
+                ap (λ (b : Bool). b && levels_to 64 level (tokens (drop to text))) (sym (y.fits (tokens (drop to text))))
                 ∙ sym (levels-are true (lt-ltb level 64 l)) ∙ ap (sound level) (sym a.goes.here) ∙ j.so_far;
           }
 
-pub limit_room : {text spans spans' : List ℕ} {n m from to : ℕ} {p : pieces.Piece} → NotesPiece text spans n p from to spans' m → length spans' ≡ length spans
+pub limit_room : {text spans spans' : List ℕ} {n from to : ℕ} {m : Result ℕ Refusal} {p : pieces.Piece} → NotesPiece text spans n p from to spans' m → length spans' ≡ length spans
 limit_room w = w.same
 
-pub ruleset limit_laws = (limit_start, limit_end, limit_open_deep, limit_open, limit_close, limit_placeable, limit_piece_deep, limit_many, limit_piece, limit_room, onward_laws)
+pub ruleset limit_laws = (limit_start, limit_end, limit_open_deep, limit_open, limit_close, limit_placeable, limit_piece_deep, limit_beyond, limit_piece, limit_room, onward_laws)

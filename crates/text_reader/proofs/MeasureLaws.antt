@@ -12,37 +12,42 @@ use Rattle.model.specs.Writing.{num_bytes, sets_bytes, words_bytes}
 use Rattle.codec_laws.proofs.Lengths.{num-one}
 use Rattle.numbers.proofs.Writing.{num-short}
 use Rattle.text_reader.specs.Found.{word_at, words_from, found, Spans}
-use Rattle.text_reader.specs.Items.{root_from, thing_bytes, Sound, Steps, ShowsItem, ItemIs}
+use Rattle.text_reader.specs.Items.{root_from, thing_bytes, Sound, Steps, ShowsItem, ShowsItems, ItemIs}
 use Rattle.text_reader.specs.Writing.{head_from, word_bytes, image_from}
 use Rattle.text_endings.specs.Ending.{Measured}
 use Rattle.text_reader.specs.Measuring.{WordsLong, HeadLong}
 use Rattle.text_reader.specs.declared.items.Item.{Item}
-use Rattle.text_reader.specs.declared.items.Item.TheVariants.{End, Passed, Thing, Long}
+use Rattle.text_reader.specs.declared.items.Item.TheVariants.{Nothing, Thing, Long}
+use Rattle.std.specs.Prelude.{Option, None, Some}
 use Rattle.text_reader.proofs.FoundLaws.{found_many, words-one, no_words}
 
 -- ---- what an item says
 
-module _ {text spans : List ℕ} {n at : ℕ} {r : Item} (h : ItemIs text spans n at r) where
-  pub item_end : r ≡ End → root_from text spans n at ≡ []
-  item_end e = subst (ShowsItem text spans n at) e h.is
+module _ {text spans : List ℕ} {n at : ℕ} {r : Option (Item × ℕ)} (h : ItemIs text spans n at r) where
+  pub item_end : r ≡ None → root_from text spans n at ≡ []
+  item_end e = subst (ShowsItems text spans n at) e h.is
 
-  pub item_passed : {to : ℕ} → r ≡ Passed to → Steps text spans n at to []
-  item_passed e = subst (ShowsItem text spans n at) e h.is
+  module _ {x : Item} {to : ℕ} (e : r ≡ Some (x, to)) where
+    item-shown : ShowsItem text spans n at to x
+    item-shown = subst (ShowsItems text spans n at) e h.is
 
-  pub item_thing : {tag content to : ℕ} → r ≡ Thing tag content to → (tag < 128) × Steps text spans n at to (thing_bytes tag content)
-  item_thing e = subst (ShowsItem text spans n at) e h.is
+    pub item_nothing : x ≡ Nothing → Steps text spans n at to []
+    item_nothing i = subst (ShowsItem text spans n at to) i item-shown
 
-  pub item_long : r ≡ Long → 65536 < length (root_from text spans n at)
-  item_long e = subst (ShowsItem text spans n at) e h.is
+    pub item_thing : {tag content : ℕ} → x ≡ Thing tag content → (tag < 128) × Steps text spans n at to (thing_bytes tag content)
+    item_thing i = subst (ShowsItem text spans n at to) i item-shown
 
-  -- a loop from item to item ends
-  pub less_passed : {to : ℕ} → r ≡ Passed to → length text - to < length text - at
-  less_passed e = let s = item_passed e in let a = s.onward in let b = s.sound.within in omega arith
+    pub item_long : x ≡ Long → 65536 < length (root_from text spans n at)
+    item_long i = subst (ShowsItem text spans n at to) i item-shown
 
-  pub less_thing : {tag content to : ℕ} → r ≡ Thing tag content to → length text - to < length text - at
-  less_thing e = let s = (item_thing e).1 in let a = s.onward in let b = s.sound.within in omega arith
+    -- a loop from item to item ends
+    pub less_nothing : x ≡ Nothing → length text - to < length text - at
+    less_nothing i = let s = item_nothing i in let a = s.onward in let b = s.sound.within in omega arith
 
-pub ruleset items_onward = (less_passed, less_thing)
+    pub less_thing : {tag content : ℕ} → x ≡ Thing tag content → length text - to < length text - at
+    less_thing i = let s = (item_thing i).1 in let a = s.onward in let b = s.sound.within in omega arith
+
+pub ruleset items_onward = (less_nothing, less_thing)
 
 three : length (sets_bytes no_sets) ≡ 3
 unfolding sets_bytes no_sets
@@ -81,31 +86,31 @@ module _ {text spans : List ℕ} {n at len : ℕ} (j : Measuring text spans n at
   pub root-few : len ≤ 65545
   root-few = j.small
 
-  module _ {r : Item} (h : ItemIs text spans n at r) where
-    pub root-end : {most : ℕ} → r ≡ End → Measured (root_from text spans n 0) most len
+  module _ {r : Option (Item × ℕ)} (h : ItemIs text spans n at r) where
+    pub root-end : {most : ℕ} → r ≡ None → Measured (root_from text spans n 0) most len
     root-end e =
         let t = j.total in
         let z = ap length (item_end h e) in
         record { exact = λ l. omega arith; long = λ l. omega arith }
 
-    pub root-long : {most : ℕ} → r ≡ Long → most ≤ 65536 → Measured (root_from text spans n 0) most 65537
-    root-long {most} e m =
+    pub root-long : {most : ℕ} {x : Item} {to : ℕ} → r ≡ Some (x, to) → x ≡ Long → most ≤ 65536 → Measured (root_from text spans n 0) most 65537
+    root-long {most} e i m =
         let t = j.total in
-        let z = item_long h e in
+        let z = item_long h e i in
         record { exact = λ l. absurd (no l); long = λ l. omega arith }
       where
         no : 65537 ≤ most → ⊥
         no l = omega arith
 
-    pub root_passed : {to : ℕ} → r ≡ Passed to → Measuring text spans n to len
-    root_passed {to} e =
-        let s = item_passed h e in
+    pub root_passed : {to : ℕ} {x : Item} → r ≡ Some (x, to) → x ≡ Nothing → Measuring text spans n to len
+    root_passed {to} e i =
+        let s = item_nothing h e i in
         record { sound = s.sound; small = j.small; total = ap (λ (b : List ℕ). len + length b) (sym s.is) ∙ j.total }
 
-    module _ {most tag content to k : ℕ} (e : r ≡ Thing tag content to) (l : len ≤ most) (m : most ≤ 65536) (q : k ≡ length (num_bytes content)) where
+    module _ {most tag content to k : ℕ} {x : Item} (e : r ≡ Some (x, to)) (i : x ≡ Thing tag content) (l : len ≤ most) (m : most ≤ 65536) (q : k ≡ length (num_bytes content)) where
       pub root-thing : Measuring text spans n to (len + (4 + k))
       root-thing =
-          let s = item_thing h e in
+          let s = item_thing h e i in
           let a = thing-long tag content s.0 in
           let b = length-append (thing_bytes tag content) (root_from text spans n to) in
           let c = ap length s.1.is in

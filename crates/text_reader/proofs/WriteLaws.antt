@@ -1,11 +1,11 @@
 -- The image written, by the steps that the code takes.
-use Prim.Native.Nat.{ℕ, suc, ◌+◌, ◌-◌, ◌*◌, ◌≤◌, ◌<◌}
+use Prim.Native.Nat.{ℕ, ◌+◌, ◌-◌, ◌*◌, ◌≤◌, ◌<◌}
 use mathlib.Core.Path.{◌≡◌, refl, sym, ap, ap₂, ◌∙◌, subst}
 use mathlib.Core.List.{List, [], ◌∷◌, ◌++◌}
 use native.Mathlib.Omega.{arith}
 use mir.Syntax.{w32}
 use mir.Val.{Fits}
-use lib.ListN.{length, get_or, set, length-set, length-append}
+use lib.ListN.{length, get_or, length-append}
 use lib.Seq.{sets, length-sets}
 use Rattle.model.specs.Objects.{no_sets}
 use Rattle.model.specs.Writing.{num_bytes, sets_bytes, words_bytes}
@@ -18,9 +18,10 @@ use Rattle.text_reader.specs.Found.{words_from, found, Spans}
 use Rattle.text_reader.specs.Items.{root_from, thing_bytes, Sound, ItemIs}
 use Rattle.text_reader.specs.Writing.{head_from, word_bytes, image_from, RootRoom, WordRoom, WordsRoom, HeadRoom, ImageRoom}
 use Rattle.text_reader.specs.declared.items.Item.{Item}
-use Rattle.text_reader.specs.declared.items.Item.TheVariants.{End, Passed, Thing, Long}
+use Rattle.text_reader.specs.declared.items.Item.TheVariants.{Nothing, Thing, Long}
+use Rattle.std.specs.Prelude.{Option, None, Some}
 use Rattle.text_reader.proofs.FoundLaws.{found_many}
-use Rattle.text_reader.proofs.MeasureLaws.{item_end, item_passed, item_thing, item_long, items_onward, word_first, word_past, words_step, words-done, words-all, head-long}
+use Rattle.text_reader.proofs.MeasureLaws.{item_end, item_nothing, item_thing, item_long, items_onward, word_first, word_past, words_step, words-done, words-all, head-long}
 
 -- ---- pieces of text placed one behind another
 
@@ -44,26 +45,6 @@ placing_room xs rest h w =
     let b = w.same in
     let c = length-append xs rest in
     omega arith
-
--- ---- three bytes 0
-
-module _ (out : List ℕ) (at : ℕ) (h : at + 3 ≤ length out) where
-  pub second-room : at + 1 < length (set out at 0)
-  second-room = let a = length-set out at 0 in omega arith
-
-  pub third-room : at + 2 < length (set (set out at 0) (at + 1) 0)
-  third-room = let a = length-set out at 0 in let b = length-set (set out at 0) (at + 1) 0 in omega arith
-
-pub zeros_placed : {out : List ℕ} {at : ℕ} → Placed out at (0 ∷ 0 ∷ 0 ∷ []) (set (set (set out at 0) (at + 1) 0) (at + 2) 0) (at + 3)
-zeros_placed {out} {at} =
-    let a : at + 1 ≡ suc at = omega arith in
-    let b : at + 2 ≡ suc (suc at) = omega arith in
-    record { ends = refl; is = ap₂ (λ (i j : ℕ). set (set (set out at 0) i 0) j 0) a b }
-
-pub zeros_length : (out : List ℕ) (at : ℕ) → length (set (set (set out at 0) (at + 1) 0) (at + 2) 0) ≡ length out
-zeros_length out at = length-set (set (set out at 0) (at + 1) 0) (at + 2) 0 ∙ length-set (set out at 0) (at + 1) 0 ∙ length-set out at 0
-
-pub ruleset zero_laws = (second-room, third-room, zeros_placed, zeros_length)
 
 -- ---- a thing
 
@@ -121,35 +102,35 @@ module _ {out₀ : List ℕ} {at : ℕ} {text spans : List ℕ} {n : ℕ} {out :
   pub rooting_length : length out ≡ length out₀
   rooting_length = j.placing.same
 
-  module _ {r : Item} (h : ItemIs text spans n here r) where
-    pub rooting_end : r ≡ End → Placed out₀ at (root_from text spans n 0) out to
+  module _ {r : Option (Item × ℕ)} (h : ItemIs text spans n here r) where
+    pub rooting_end : r ≡ None → Placed out₀ at (root_from text spans n 0) out to
     rooting_end e = ended (subst (Placing out₀ at (root_from text spans n 0) out to) (item_end h e) j.placing)
 
-    pub rooting_long : r ≡ Long → Placed out₀ at (root_from text spans n 0) out to
-    rooting_long e = let a = item_long h e in let b = j.short in absurd (no a b)
+    pub rooting_long : {x : Item} {to : ℕ} → r ≡ Some (x, to) → x ≡ Long → Placed out₀ at (root_from text spans n 0) out to
+    rooting_long e i = let a = item_long h e i in let b = j.short in absurd (no a b)
       where
         no : 65536 < length (root_from text spans n here) → length (root_from text spans n here) ≤ 65536 → ⊥
         no a b = omega arith
 
-    pub rooting_passed : {past : ℕ} → r ≡ Passed past → Rooting out₀ at text spans n out past to
-    rooting_passed {past} e =
-        let s = item_passed h e in
+    pub rooting_passed : {past : ℕ} {x : Item} → r ≡ Some (x, past) → x ≡ Nothing → Rooting out₀ at text spans n out past to
+    rooting_passed {past} e i =
+        let s = item_nothing h e i in
         record {
           sound = s.sound;
           short = subst (λ (b : List ℕ). length b ≤ 65536) s.is j.short;
           placing = subst (Placing out₀ at (root_from text spans n 0) out to) s.is j.placing;
         }
 
-    module _ {tag content past : ℕ} (e : r ≡ Thing tag content past) where
+    module _ {tag content past : ℕ} {x : Item} (e : r ≡ Some (x, past)) (i : x ≡ Thing tag content) where
       rest : Placing out₀ at (root_from text spans n 0) out to (thing_bytes tag content ++ root_from text spans n past)
-      rest = subst (Placing out₀ at (root_from text spans n 0) out to) (item_thing h e).1.is j.placing
+      rest = subst (Placing out₀ at (root_from text spans n 0) out to) (item_thing h e i).1.is j.placing
 
       pub rooting_room : RootRoom out₀ at text spans n → to + length (thing_bytes tag content) ≤ length out
       rooting_room q = placing_room (thing_bytes tag content) (root_from text spans n past) q.room rest
 
       pub rooting_thing : {out' : List ℕ} {to' : ℕ} → Placed out to (thing_bytes tag content) out' to' → Rooting out₀ at text spans n out' past to'
       rooting_thing p =
-          let s = (item_thing h e).1 in
+          let s = (item_thing h e i).1 in
           let a = length-append (thing_bytes tag content) (root_from text spans n past) in
           let b = ap length s.is in
           let c = j.short in

@@ -1,5 +1,5 @@
 -- What the root of the image has for each token.
-use Rattle.std.specs.Prelude.{ℕ, zero, suc, ◌+◌, ◌≤◌, ◌<◌, ◌≡◌, List, [], ◌++◌, true, length, drop}
+use Rattle.std.specs.Prelude.{ℕ, zero, suc, ◌+◌, ◌≤◌, ◌<◌, ◌≡◌, List, [], ◌++◌, true, length, drop, Option, None, Some}
 use Rattle.model.specs.Choice.{when◌then◌else◌}
 use Rattle.model.specs.Objects.{no_sets}
 use Rattle.model.specs.Writing.{num_bytes, sets_bytes}
@@ -11,7 +11,7 @@ use Rattle.tokens.specs.declared.pieces.Piece.{Piece}
 use Rattle.tokens.specs.Pieces.{is_bad}
 use Rattle.text_reader.specs.Found.{all_words, Spans}
 use Rattle.text_reader.specs.declared.items.Item.{Item}
-use Rattle.text_reader.specs.declared.items.Item.TheVariants.{End, Passed, Thing, Long}
+use Rattle.text_reader.specs.declared.items.Item.TheVariants.{Nothing, Thing, Long}
 
 -- ---- parts of a list
 
@@ -50,11 +50,14 @@ pub record Steps (text spans : List ℕ) (n at to : ℕ) (bytes : List ℕ) : Ty
   pub sound : Sound text spans n to
   pub is : root_from text spans n at ≡ bytes ++ root_from text spans n to
 
-abbrev pub ShowsItem : List ℕ → List ℕ → ℕ → ℕ → Item → Type 0
-ShowsItem text spans n at End = root_from text spans n at ≡ []
-ShowsItem text spans n at (Passed to) = Steps text spans n at to []
-ShowsItem text spans n at (Thing tag content to) = (tag < one_byte_bound) × Steps text spans n at to (thing_bytes tag content)
-ShowsItem text spans n at Long = most_image < length (root_from text spans n at)
+abbrev pub ShowsItem : List ℕ → List ℕ → ℕ → ℕ → ℕ → Item → Type 0
+ShowsItem text spans n at to Nothing = Steps text spans n at to []
+ShowsItem text spans n at to (Thing tag content) = (tag < one_byte_bound) × Steps text spans n at to (thing_bytes tag content)
+ShowsItem text spans n at to Long = most_image < length (root_from text spans n at)
 
-pub record ItemIs (text spans : List ℕ) (n at : ℕ) (r : Item) : Type 0 where
-  pub is : ShowsItem text spans n at r
+abbrev pub ShowsItems : List ℕ → List ℕ → ℕ → ℕ → Option (Item × ℕ) → Type 0
+ShowsItems text spans n at None = root_from text spans n at ≡ []
+ShowsItems text spans n at (Some r) = ShowsItem text spans n at r.1 r.0
+
+pub record ItemIs (text spans : List ℕ) (n at : ℕ) (r : Option (Item × ℕ)) : Type 0 where
+  pub is : ShowsItems text spans n at r

@@ -3,15 +3,15 @@ ghost use Rattle.std.specs.Prelude.{◌≡◌, ◌+◌, ◌≤◌, length};
 ghost use Rattle.text_reader.specs.Items.{directly, Counts, Parts, Sound, ItemIs};
 
 use crate::found;
+use crate::found::Words;
 use numbers::Cursor;
-use tokens::Next;
+use tokens::Token;
 use tokens::pieces::Piece;
 
 #[derive(Clone, Copy)]
 pub enum Item {
-    End,
-    Passed(usize),
-    Thing(u32, u32, usize),
+    Nothing,
+    Thing(u32, u32),
     // the root is longer than any image
     Long,
 }
@@ -36,9 +36,10 @@ fn count_piece(count: u32, depth: usize, p: Piece) -> u32
     ensures { Counts count depth p result }
 {
     if p.is_bad() {
-        return count;
+        count
+    } else {
+        count_part(count, depth)
     }
-    count_part(count, depth)
 }
 
 // How many parts a list has whose parenthesis stands before `at`, or some number over 65,536: each takes bytes of the image. The parts are counted
@@ -51,50 +52,51 @@ fn count_parts(text: &[u8], at: usize) -> u32
     let mut depth = 0;
     let mut count = 0;
     while count <= MOST_PARTS {
-        match tokens::read_next(text, here) {
-            Next::End => return count,
-            Next::Open(to) => {
+        let Some((token, past)) = tokens::read_next(text, here) else {
+            return count;
+        };
+        match token {
+            Token::Open => {
                 count = count_part(count, depth);
                 depth += 1;
-                here = to;
             }
-            Next::Close(to) => {
+            Token::Close => {
                 if depth == 0 {
                     return count;
                 }
                 depth -= 1;
-                here = to;
             }
-            Next::Piece(p, _, to) => {
-                count = count_piece(count, depth, p);
-                here = to;
-            }
+            Token::Piece(p, _) => count = count_piece(count, depth, p),
         }
+        here = past;
     }
     count
 }
 
-// What the root has for the token at a place.
-pub fn read_item(text: &[u8], spans: &[usize], count: usize, at: usize) -> Item
-    requires { Sound text.now spans.now count at }
-    ensures { ItemIs text.now spans.now count at result }
+// What the root has for the token at a place, and the place past it.
+pub fn read_item(words: Words, at: usize) -> Option<(Item, usize)>
+    requires { Sound words.text.now words.spans.now words.count at }
+    ensures { ItemIs words.entry.text.now words.entry.spans.now words.entry.count at result }
 {
-    match tokens::read_next(text, at) {
-        Next::End => Item::End,
-        Next::Open(to) => {
-            let n = count_parts(text, to);
+    let (token, past) = tokens::read_next(words.text, at)?;
+    match token {
+        Token::Open => {
+            let n = count_parts(words.text, past);
             if MOST_PARTS < n {
-                return Item::Long;
+                return Some((Item::Long, past));
             }
-            Item::Thing(LIST, n, to)
+            Some((Item::Thing(LIST, n), past))
         }
-        Next::Close(to) => Item::Passed(to),
-        Next::Piece(p, from, to) => match p {
-            Piece::Bad => Item::Passed(to),
-            Piece::Word => Item::Thing(SYMBOL, found::symbol(text, spans, count, from, to), to),
-            Piece::Atom(tag, content) => Item::Thing(tag, content, to),
+        Token::Close => Some((Item::Nothing, past)),
+        Token::Piece(p, from) => match p {
+            Piece::Bad => Some((Item::Nothing, past)),
+            Piece::Word => {
+                let n = found::symbol(words, from, past);
+                Some((Item::Thing(SYMBOL, n), past))
+            }
+            Piece::Atom(tag, content) => Some((Item::Thing(tag, content), past)),
             // the limits were tested before
-            Piece::Over => Item::Passed(to),
+            Piece::Over => Some((Item::Nothing, past)),
         },
     }
 }

@@ -3,72 +3,85 @@ ghost use Rattle.std.specs.Prelude.{◌≡◌, ◌&&◌, eqb};
 ghost use Rattle.text_reader.specs.Judging.{Lasts, Judges};
 
 use text_endings::TextRefusal;
-use tokens::Next;
+use tokens::Token;
 
-// A fault stands at the first token from its place on, or at the text's end where none comes.
+// It stands at the first token from its place on, or at the text's end where none comes.
 #[derive(Clone, Copy)]
-pub enum Judged {
-    Fine,
-    Fault(TextRefusal, usize),
+pub struct Fault {
+    pub refusal: TextRefusal,
+    pub at: usize,
 }
 
 // Whether what starts here is a second object.
 fn second(depth: usize, begun: bool) -> bool
     ensures { result ≡ (begun && eqb depth 0) }
 {
-    if begun {
-        return depth == 0;
-    }
-    false
+    begun && depth == 0
 }
 
 // At the end something open is 27, no object 26.
-fn at_last(depth: usize, begun: bool, at: usize) -> Judged
+fn at_last(depth: usize, begun: bool, at: usize) -> Result<(), Fault>
     ensures { Lasts depth begun at result }
 {
     if 0 < depth {
-        return Judged::Fault(TextRefusal::Unbalanced, at);
+        return Err(Fault {
+            refusal: TextRefusal::Unbalanced,
+            at,
+        });
     }
-    if begun {
-        return Judged::Fine;
+    if !begun {
+        return Err(Fault {
+            refusal: TextRefusal::BadText,
+            at,
+        });
     }
-    Judged::Fault(TextRefusal::BadText, at)
+    Ok(())
 }
 
-pub fn judge(text: &[u8]) -> Judged
+pub fn judge(text: &[u8]) -> Result<(), Fault>
     ensures { Judges text.now result }
 {
     let mut at = 0;
     let mut depth = 0;
     let mut begun = false;
-    loop {
-        match tokens::read_next(text, at) {
-            Next::End => return at_last(depth, begun, at),
-            Next::Open(to) => {
+    while let Some((token, past)) = tokens::read_next(text, at) {
+        match token {
+            Token::Close => {
+                if depth == 0 {
+                    return Err(Fault {
+                        refusal: TextRefusal::Unbalanced,
+                        at,
+                    });
+                }
+                depth -= 1;
+            }
+            Token::Open => {
                 if second(depth, begun) {
-                    return Judged::Fault(TextRefusal::BadText, at);
+                    return Err(Fault {
+                        refusal: TextRefusal::BadText,
+                        at,
+                    });
                 }
                 depth += 1;
                 begun = true;
-                at = to;
             }
-            Next::Close(to) => {
-                if depth == 0 {
-                    return Judged::Fault(TextRefusal::Unbalanced, at);
-                }
-                depth -= 1;
-                at = to;
-            }
-            Next::Piece(p, _, to) => {
+            Token::Piece(p, _) => {
                 if p.is_bad() {
-                    return Judged::Fault(TextRefusal::BadText, at);
+                    return Err(Fault {
+                        refusal: TextRefusal::BadText,
+                        at,
+                    });
                 }
                 if second(depth, begun) {
-                    return Judged::Fault(TextRefusal::BadText, at);
+                    return Err(Fault {
+                        refusal: TextRefusal::BadText,
+                        at,
+                    });
                 }
                 begun = true;
-                at = to;
             }
         }
+        at = past;
     }
+    at_last(depth, begun, at)
 }

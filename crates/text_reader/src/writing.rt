@@ -6,6 +6,7 @@ ghost use Rattle.text_reader.specs.Found.{found};
 ghost use Rattle.text_reader.specs.Items.{root_from, thing_bytes};
 ghost use Rattle.text_reader.specs.Writing.{head_from, word_bytes, image_from, RootRoom, WordRoom, WordsRoom, HeadRoom, ImageRoom};
 
+use crate::found::Words;
 use crate::items;
 use crate::items::Item;
 use numbers::put_number;
@@ -18,10 +19,7 @@ fn put_zeros(out: &mut [u8], at: usize) -> usize
     requires { at + 3 ≤ length out.old }
     ensures { Placed out.old at (0 ∷ 0 ∷ 0 ∷ []) out.new result }
 {
-    out[at] = 0;
-    out[at + 1] = 0;
-    out[at + 2] = 0;
-    at + 3
+    put_text(out, at, &[0, 0, 0])
 }
 
 fn put_thing(out: &mut [u8], at: usize, tag: u32, content: u32) -> usize
@@ -33,24 +31,22 @@ fn put_thing(out: &mut [u8], at: usize, tag: u32, content: u32) -> usize
     put_number(out, behind, content)
 }
 
-fn put_root(out: &mut [u8], at: usize, text: &[u8], spans: &[usize], count: usize) -> usize
-    requires { RootRoom out.old at text.now spans.now count }
-    ensures { Placed out.old at (root_from text.now spans.now count 0) out.new result }
+fn put_root(out: &mut [u8], at: usize, words: Words) -> usize
+    requires { RootRoom out.old at words.text.now words.spans.now words.count }
+    ensures { Placed out.old at (root_from words.entry.text.now words.entry.spans.now words.entry.count 0) out.new result }
 {
     let mut here = 0;
     let mut to = at;
-    loop {
-        match items::read_item(text, spans, count, here) {
-            Item::End => return to,
-            Item::Passed(past) => here = past,
-            Item::Thing(tag, content, past) => {
-                to = put_thing(out, to, tag, content);
-                here = past;
-            }
+    while let Some((item, past)) = items::read_item(words, here) {
+        match item {
+            Item::Nothing => {}
+            Item::Thing(tag, content) => to = put_thing(out, to, tag, content),
             // there is room for the root
             Item::Long => return to,
         }
+        here = past;
     }
+    to
 }
 
 // A word of the text behind its length.
@@ -62,34 +58,38 @@ fn put_word(out: &mut [u8], at: usize, text: &[u8], first: usize, past: usize) -
     put_text(out, bytes, &text[first..past])
 }
 
-fn put_words(out: &mut [u8], at: usize, text: &[u8], spans: &[usize], count: usize) -> usize
-    requires { WordsRoom out.old at text.now spans.now count }
-    ensures { Placed out.old at (words_bytes (found text.now spans.now count)) out.new result }
+fn put_words(out: &mut [u8], at: usize, words: Words) -> usize
+    requires { WordsRoom out.old at words.text.now words.spans.now words.count }
+    ensures { Placed out.old at (words_bytes (found words.entry.text.now words.entry.spans.now words.entry.count)) out.new result }
 {
-    let mut i = 0;
     let mut to = at;
-    while i < count {
-        to = put_word(out, to, text, spans[i * 2], spans[i * 2 + 1]);
-        i += 1;
+    for i in 0..words.count {
+        to = put_word(
+            out,
+            to,
+            words.text,
+            words.spans[i * 2],
+            words.spans[i * 2 + 1],
+        );
     }
     to
 }
 
 // The image as far as its root: kind, words, and no made names, scopes or bindings.
-fn put_head(out: &mut [u8], text: &[u8], spans: &[usize], count: usize) -> usize
-    requires { HeadRoom out.old text.now spans.now count }
-    ensures { Placed out.old 0 (head_from (found text.now spans.now count)) out.new result }
+fn put_head(out: &mut [u8], words: Words) -> usize
+    requires { HeadRoom out.old words.text.now words.spans.now words.count }
+    ensures { Placed out.old 0 (head_from (found words.entry.text.now words.entry.spans.now words.entry.count)) out.new result }
 {
-    let words = put_number(out, 0, SYNTAX);
-    let first = put_number(out, words, count as u32);
-    let counts = put_words(out, first, text, spans, count);
+    let many = put_number(out, 0, SYNTAX);
+    let first = put_number(out, many, words.count as u32);
+    let counts = put_words(out, first, words);
     put_zeros(out, counts)
 }
 
-pub fn put_image(out: &mut [u8], text: &[u8], spans: &[usize], count: usize) -> usize
-    requires { ImageRoom out.old text.now spans.now count }
-    ensures { Placed out.old 0 (image_from text.now spans.now count) out.new result }
+pub fn put_image(out: &mut [u8], words: Words) -> usize
+    requires { ImageRoom out.old words.text.now words.spans.now words.count }
+    ensures { Placed out.old 0 (image_from words.entry.text.now words.entry.spans.now words.entry.count) out.new result }
 {
-    let root = put_head(out, text, spans, count);
-    put_root(out, root, text, spans, count)
+    let root = put_head(out, words);
+    put_root(out, root, words)
 }

@@ -1,30 +1,13 @@
-use Rattle.text_reader.proofs.FoundLaws.{core_laws}
-use Rattle.std.proofs.Common.{rules}
+use Rattle.std.proofs.Common.{rules, refl, ap, map, length}
+use borrow.Author.Tests.{tests}
+use Rattle.std.proofs.lemmas.Iterator.{YieldsList-from_slice}
+use Rattle.std.proofs.lemmas.Iterator.Search.{position_from_yields_List}
+use Rattle.model.specs.Reading.{same_bytes, core_words}
+use Rattle.tokens.proofs.Names.{place_found}
 use Rattle.text_reader.proofs.found.core_place.Goals as goal
 
-pub same_bytes-requires : goal.same_bytes-requires
-same_bytes-requires c = search (core_laws, rules)
-
-pub returns-then-same_bytes : goal.returns-then-same_bytes
-returns-then-same_bytes c = search (core_laws, rules)
-
-pub same_bytes-requires-2 : goal.same_bytes-requires-2
-same_bytes-requires-2 c = search (core_laws, rules)
-
-pub returns-then-same_bytes-2 : goal.returns-then-same_bytes-2
-returns-then-same_bytes-2 c = search (core_laws, rules)
-
-pub same_bytes-requires-3 : goal.same_bytes-requires-3
-same_bytes-requires-3 c = search (core_laws, rules)
-
-pub returns-then-same_bytes-3 : goal.returns-then-same_bytes-3
-returns-then-same_bytes-3 c = search (core_laws, rules)
-
-pub same_bytes-requires-4 : goal.same_bytes-requires-4
-same_bytes-requires-4 c = search (core_laws, rules)
-
-pub returns-then-same_bytes-4 : goal.returns-then-same_bytes-4
-returns-then-same_bytes-4 c = search (core_laws, rules)
-
 pub returns : goal.returns
-returns c = search (core_laws, rules)
+unfolding core_words
+returns c =
+    place_found c.args.w.now core_words 4 c.iter.result.rest.now (ap (map (λ v. v.now)) c.iter.ensures.rest) (ap length c.iter.ensures.rest)
+    (position_from_yields_List (λ v. same_bytes c.args.w.now v.now) _ _ _ c.position.ensures.ran (YieldsList-from_slice c.iter.result.rest.now refl) (λ x b q k. search (rules, tests)))

@@ -1,9 +1,6 @@
-use Rattle.text_reader.proofs.ItemLaws.{count_laws}
 use Rattle.std.proofs.Common.{rules}
+use Rattle.text_reader.proofs.ItemLaws.{count_laws}
 use Rattle.text_reader.proofs.items.count_part.Goals as goal
-
-pub overflow_add-result : goal.overflow_add-result
-overflow_add-result c = search (count_laws, rules)
 
 pub returns-then-depth-eq0 : goal.returns-then-depth-eq0
 returns-then-depth-eq0 c = search (count_laws, rules)

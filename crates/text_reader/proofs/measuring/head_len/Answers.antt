@@ -1,18 +1,9 @@
-use Rattle.text_reader.proofs.MeasureLaws.{head_laws}
 use Rattle.std.proofs.Common.{rules}
+use Rattle.text_reader.proofs.MeasureLaws.{head_laws}
 use Rattle.text_reader.proofs.measuring.head_len.Goals as goal
-
-pub overflow_cast-count : goal.overflow_cast-count
-overflow_cast-count c = search (head_laws, rules)
-
-pub number_len-requires : goal.number_len-requires
-number_len-requires c = search (head_laws, rules)
 
 pub overflow_add-result : goal.overflow_add-result
 overflow_add-result c = search (head_laws, rules)
-
-pub words_len-requires : goal.words_len-requires
-words_len-requires c = search (head_laws, rules)
 
 pub overflow_add-result-2 : goal.overflow_add-result-2
 overflow_add-result-2 c = search (head_laws, rules)

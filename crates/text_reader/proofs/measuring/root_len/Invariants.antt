@@ -4,7 +4,7 @@ use Rattle.text_reader.proofs.MeasureLaws.{Measuring}
 use Rattle.text_reader.proofs.measuring.root_len.Given as goal
 
 abbrev pub invariant-loop-len : goal.invariant-loop-len
-invariant-loop-len l = Measuring l.text l.spans l.count l.at l.len
+invariant-loop-len l = Measuring l.words.text.now l.words.spans.now l.words.count l.at l.len
 
 abbrev pub decreases-loop-len : goal.decreases-loop-len
-decreases-loop-len l = length l.text - l.at
+decreases-loop-len l = length l.words.text.now - l.at

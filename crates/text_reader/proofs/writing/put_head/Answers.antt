@@ -1,12 +1,6 @@
-use Rattle.text_reader.proofs.WriteLaws.{head_laws}
 use Rattle.std.proofs.Common.{rules}
+use Rattle.text_reader.proofs.WriteLaws.{head_laws}
 use Rattle.text_reader.proofs.writing.put_head.Goals as goal
-
-pub put_number-words-requires : goal.put_number-words-requires
-put_number-words-requires c = search (head_laws, rules)
-
-pub overflow_cast-count : goal.overflow_cast-count
-overflow_cast-count c = search (head_laws, rules)
 
 pub put_number-first-requires : goal.put_number-first-requires
 put_number-first-requires c = search (head_laws, rules)
