@@ -20,9 +20,10 @@ use Rattle.text_laws.proofs.TextTrip.{toks}
 use Rattle.text_laws.proofs.PassLaws.{whole-text}
 use Rattle.text_printer.specs.declared.walking.Walk.{Walk}
 use Rattle.text_printer.specs.declared.walking.Step.{Step}
-use Rattle.text_printer.specs.declared.walking.Step.TheVariants.{End, Open, Close}
+use Rattle.text_printer.specs.declared.walking.Step.TheVariants.{Open, Close}
+use Rattle.std.specs.Prelude.{Option, None, Some}
 use Rattle.text_printer.specs.declared.walking.Step.TheVariants as step
-use Rattle.text_printer.specs.Walking.{bytes_ahead, behind, tokens_ahead, Standing, Walkable, Opens, Closes, Meets, ShowsStep, Steps}
+use Rattle.text_printer.specs.Walking.{bytes_ahead, behind, tokens_ahead, Standing, Walkable, Opens, Closes, Meets, ShowsStep, ShowsSteps, Steps}
 use Rattle.text_printer.specs.Spelling.{spelling, Spelled}
 use Rattle.text_printer.specs.Atoms.{atom_text, Printable}
 use Rattle.text_printer.specs.Printing.{text_of_read, print_of, Ready}
@@ -108,20 +109,25 @@ module _ {image starts : List ℕ} {n : ℕ} {left : List ℕ} {w : Walk} {due :
   pub ahead_walkable : Walkable image left w
   ahead_walkable = record { symbols = 4 + n; scopes = a.scopes; first = a.first; others = a.others; stands = a.stands }
 
-  module _ {left' : List ℕ} {r : Step} (s : Steps image left w left' r) where
-    stepped : {q : Step} → r ≡ q → ShowsStep (4 + n) a.scopes image w a.first a.others left' q
-    stepped e = subst (ShowsStep (4 + n) a.scopes image w a.first a.others left') e (s.is (4 + n) a.scopes a.first a.others a.stands)
+  module _ {left' : List ℕ} {r : Option (Step × Walk)} (s : Steps image left w left' r) where
+    ended_so : r ≡ None → (a.first ≡ nil) × (a.others ≡ [])
+    ended_so e = subst (ShowsSteps (4 + n) a.scopes image w a.first a.others left') e (s.is (4 + n) a.scopes a.first a.others a.stands)
 
-    pub ahead-end : r ≡ End → rest ≡ []
+    stepped : {q x : Step} {w' : Walk} → r ≡ Some (x, w') → x ≡ q → ShowsStep (4 + n) a.scopes image w a.first a.others left' w' q
+    stepped {w' = w'} e i =
+        subst (ShowsStep (4 + n) a.scopes image w a.first a.others left' w') i
+        (subst (ShowsSteps (4 + n) a.scopes image w a.first a.others left') e (s.is (4 + n) a.scopes a.first a.others a.stands))
+
+    pub ahead-end : r ≡ None → rest ≡ []
     ahead-end e =
-        let t : (a.first ≡ nil) × (a.others ≡ []) = stepped e in
+        let t : (a.first ≡ nil) × (a.others ≡ []) = ended_so e in
         a.is ∙ ap₂ (λ (l : Stxs) (ls : List Stxs). text_from due (tokens_ahead (spelling image starts n) l ls)) t.0 t.1
         ∙ ap (text_from due) (tokens_none (spelling image starts n)) ∙ text-none due
 
-    pub ahead_open : {w' : Walk} → r ≡ Open w' → Onward image starts n w rest (space_if due (40 ∷ [])) left' w' false
-    ahead_open {w'} e =
-        let t : Opens (4 + n) a.scopes image w a.first a.others left' w' = stepped e in
-        let x = t.onward in
+    pub ahead_open : {w' : Walk} {x : Step} → r ≡ Some (x, w') → x ≡ Open → Onward image starts n w rest (space_if due (40 ∷ [])) left' w' false
+    ahead_open {w'} e i =
+        let t : Opens (4 + n) a.scopes image w a.first a.others left' w' = stepped e i in
+        let u = t.onward in
         let y = t.deeper in
         let z = t.stands.within in
         record {
@@ -133,10 +139,10 @@ module _ {image starts : List ℕ} {n : ℕ} {left : List ℕ} {w : Walk} {due :
           less = omega arith;
         }
 
-    pub ahead_close : {w' : Walk} → r ≡ Close w' → Onward image starts n w rest (41 ∷ []) left' w' true
-    ahead_close {w'} e =
-        let t : Closes (4 + n) a.scopes image w a.first a.others left' w' = stepped e in
-        let x = t.same in
+    pub ahead_close : {w' : Walk} {x : Step} → r ≡ Some (x, w') → x ≡ Close → Onward image starts n w rest (41 ∷ []) left' w' true
+    ahead_close {w'} e i =
+        let t : Closes (4 + n) a.scopes image w a.first a.others left' w' = stepped e i in
+        let u = t.same in
         let y = t.higher in
         record {
           further = text_from true (tokens_ahead (spelling image starts n) t.next t.others);
@@ -147,14 +153,14 @@ module _ {image starts : List ℕ} {n : ℕ} {left : List ℕ} {w : Walk} {due :
           less = omega arith;
         }
 
-    module _ {tag content : ℕ} {w' : Walk} (e : r ≡ step.Atom tag content w') where
+    module _ {tag content : ℕ} {w' : Walk} {x : Step} (e : r ≡ Some (x, w')) (i : x ≡ step.Atom tag content) where
       met : Meets (4 + n) a.scopes image w a.first a.others left' tag content w'
-      met = stepped e
+      met = stepped e i
 
       pub ahead-atom : Onward image starts n w rest (space_if due (atom_text (spelling image starts n) tag content)) left' w' true
       ahead-atom =
           let t = met in
-          let x = t.onward in
+          let u = t.onward in
           let y = t.level in
           let z = t.stands.within in
           record {

@@ -1,7 +1,8 @@
 -- The text of an atom, by the tests that the code makes.
-use Prim.Native.Nat.{ℕ, zero, suc, ◌+◌, ◌-◌, ◌/◌, ◌%◌, ◌^◌, ◌≤◌, ◌<◌}
+use Prim.Native.Nat.{ℕ, zero, suc, ◌+◌, ◌/◌, ◌%◌, ◌^◌, ◌≤◌, ◌<◌}
 use mathlib.Core.Path.{◌≡◌, refl, sym, ap, ◌∙◌}
 use mathlib.Core.List.{List, [], ◌∷◌}
+use mathlib.Core.Logic.{◌⊎◌, inl, inr}
 use native.Mathlib.Omega.{arith}
 use native.Mathlib.Numerals.{add-one}
 use mir.Syntax.{w64}
@@ -161,16 +162,20 @@ module _ (all : List (List ℕ)) (tag x : ℕ) {r : ℕ} where
   pub number-len : tag ≡ 1 → r ≡ length (digits 10 x []) → r ≡ length (atom_text all tag x)
   number-len z e = e ∙ sym (ap length (number-text all tag x z))
 
-  pub point-len : tag ≡ 2 → r ≡ length (digits 10 x []) → 1 + r ≡ length (atom_text all tag x)
+  point-len : tag ≡ 2 → r ≡ length (digits 10 x []) → 1 + r ≡ length (atom_text all tag x)
   point-len z e = let a = ap length (point-text all tag x z) in omega arith
 
-  pub prim-len : tag ≡ 3 → r ≡ length (digits 10 x []) → 1 + r ≡ length (atom_text all tag x)
+  prim-len : tag ≡ 3 → r ≡ length (digits 10 x []) → 1 + r ≡ length (atom_text all tag x)
   prim-len z e = let a = ap length (prim-text all tag x z) in omega arith
+
+  pub marked-len : (tag ≡ 2) ⊎ (tag ≡ 3) → r ≡ length (digits 10 x []) → 1 + r ≡ length (atom_text all tag x)
+  marked-len (inl z) e = point-len z e
+  marked-len (inr z) e = prim-len z e
 
   pub rung-len : (tag ≡ 0 → ⊥) → (tag ≡ 1 → ⊥) → (tag ≡ 2 → ⊥) → (tag ≡ 3 → ⊥) → r ≡ length (rung_text x) → 1 + r ≡ length (atom_text all tag x)
   rung-len a b c d e = let f = ap length (rung-text all tag x a b c d) in omega arith
 
-pub ruleset atom_len_laws = (printable-symbol, symbol_len, number-len, point-len, prim-len, rung-len)
+pub ruleset atom_len_laws = (printable-symbol, symbol_len, number-len, marked-len, rung-len)
 
 -- ---- a number behind its mark
 

@@ -1,6 +1,6 @@
 -- Numbers and sets passed over, by the tests that the code makes; and what they leave of bytes that were written.
 use Prim.Native.Nat.{ℕ, zero, suc, ◌+◌, ◌-◌, ◌*◌, ◌≤◌, ◌<◌}
-use mathlib.Core.Path.{◌≡◌, refl, sym, ap, ◌∙◌}
+use mathlib.Core.Path.{◌≡◌, refl, sym, ap, ◌∙◌, subst}
 use mathlib.Core.Bool.{Bool, true, false, not, ◌&&◌}
 use mathlib.Core.List.{List, [], ◌∷◌, ◌++◌, append_assoc}
 use native.Mathlib.Omega.{arith}
@@ -18,12 +18,12 @@ use Rattle.codec_laws.proofs.Sequence.{next-got, need-got}
 use Rattle.codec_laws.proofs.SetTrip.{set_back}
 use Rattle.refusals.specs.declared.Refusal.{Refusal}
 use Rattle.numbers.specs.Limits.{most_image}
-use Rattle.numbers.specs.Answers.{number_at}
+use Rattle.numbers.specs.Answers.{read_at}
 use Rattle.numbers.specs.declared.Cursor.{Cursor}
-use Rattle.numbers.specs.declared.Number.{Number}
-use Rattle.numbers.specs.declared.Number.TheVariants as number
+use Rattle.std.specs.Prelude.{Result, Ok, Err}
 use Rattle.numbers.proofs.Reading.{part-from}
-use Rattle.words.proofs.Bytes.{at-cons}
+use native.Mathlib.Numerals.{add-one}
+use lib.Seq.{drop-cons}
 use Rattle.text_printer.specs.declared.fronts.Front.{Front}
 use Rattle.text_printer.specs.Fronts.{value_of, after_number, after_numbers, after_set, after_sets, Inside, After, FrontIs}
 
@@ -35,29 +35,36 @@ inside-short {image} {at} w = let a = w.within in let b = w.short in let d = len
 pub inside-within : {image : List ℕ} {at : ℕ} → Inside image at → at ≤ length image
 inside-within w = w.within
 
-value-got : (end : ℕ) (g : Read ℕ) {n : ℕ} {past : Cursor} → number.Read n past ≡ number_at end g → n ≡ value_of g
+abbrev first : Result (ℕ × Cursor) Refusal → ℕ
+first (Ok p) = p.0
+first (Err f) = 0
+
+value-got : (end : ℕ) (g : Read ℕ) {n : ℕ} {past : Cursor} → Ok (n, past) ≡ read_at end g → n ≡ value_of g
 unfolding value_of
-value-got end (got k s) e = cc
+value-got end (got k s) e = ap first e
 value-got end (fault r) e = absurd (let z : ◌≡◌ {A = ℕ} 0 1 = cc in omega arith)
 
-value-fault : (end : ℕ) (g : Read ℕ) {f : Refusal} → number.Fault f ≡ number_at end g → 0 ≡ value_of g
+value-fault : (end : ℕ) (g : Read ℕ) {f : Refusal} → Err f ≡ read_at end g → 0 ≡ value_of g
 unfolding value_of
 value-fault end (got k s) e = absurd (let z : ◌≡◌ {A = ℕ} 0 1 = cc in omega arith)
 value-fault end (fault r) e = refl
 
-module _ (image : List ℕ) (at : ℕ) {r : Number} (h : r ≡ number_at (at + length (take (length image - at) (drop at image))) (num (take (length image - at) (drop at image)))) where
-  whole : r ≡ number_at (at + length (drop at image)) (num (drop at image))
+module _ (image : List ℕ) (at : ℕ) {r : Result (ℕ × Cursor) Refusal} (h : r ≡ read_at (at + length (take (length image - at) (drop at image))) (num (take (length image - at) (drop at image)))) where
+  whole : r ≡ read_at (at + length (drop at image)) (num (drop at image))
   whole = rw part-from at h
 
-  pub value_read : {n : ℕ} {past : Cursor} → r ≡ number.Read n past → n ≡ value_of (num (drop at image))
+  pub value_read : {n : ℕ} {past : Cursor} → r ≡ Ok (n, past) → n ≡ value_of (num (drop at image))
   value_read e = value-got (at + length (drop at image)) (num (drop at image)) (sym e ∙ whole)
 
-  pub value_none : {f : Refusal} → r ≡ number.Fault f → 0 ≡ value_of (num (drop at image))
+  pub value_none : {f : Refusal} → r ≡ Err f → 0 ≡ value_of (num (drop at image))
   value_none e = value-fault (at + length (drop at image)) (num (drop at image)) (sym e ∙ whole)
 
 pub ruleset value_laws = (inside-short, inside-within, value_read, value_none)
 
 -- ---- past a number
+
+at-cons : (s : List ℕ) (i : ℕ) → i < length s → drop i s ≡ get_or s i 0 ∷ drop (i + 1) s
+at-cons s i h = rw (add-one, drop-cons s i 0 h)
 
 after_last : (b : ℕ) (s : List ℕ) → b < 128 → after_number (b ∷ s) ≡ s
 unfolding after_number
@@ -85,6 +92,9 @@ module _ {image : List ℕ} {at i : ℕ} (p : Passing image at i) where
       let d = drop_of_length-le image h in
       record { within = p.within; is = d ∙ sym after_none ∙ ap after_number (sym d) ∙ p.so_far }
 
+  pub passing_whole : length image ≤ i → After image (length image) (after_number (drop at image))
+  passing_whole h = let w = p.within in let z : i ≡ length image = omega arith in subst (λ (m : ℕ). After image m (after_number (drop at image))) z (passing-end h)
+
   module _ (h : i < length image) where
     pub passing-last : get_or image i 0 < 128 → After image (i + 1) (after_number (drop at image))
     passing-last l = record {
@@ -98,7 +108,7 @@ module _ {image : List ℕ} {at i : ℕ} (p : Passing image at i) where
       so_far = sym (after_on (get_or image i 0) (drop (i + 1) image) l) ∙ ap after_number (sym (at-cons image i h)) ∙ p.so_far;
     }
 
-pub ruleset passing_laws = (passing-start, passing-end, passing-last, passing_on)
+pub ruleset passing_laws = (passing-start, passing_whole, passing-last, passing_on)
 
 -- ---- past so many numbers, and past a set
 
@@ -115,23 +125,25 @@ pub record Leaping (image : List ℕ) (at count here left : ℕ) : Type 0 where
   pub within : here ≤ length image
   pub so_far : after_numbers left (drop here image) ≡ after_numbers count (drop at image)
 
-pub leaping_start : {image : List ℕ} {at count : ℕ} → at ≤ length image → Leaping image at count at count
-leaping_start h = record { within = h; so_far = refl }
+pub leaping_start : {image : List ℕ} {at count : ℕ} → at ≤ length image → Leaping image at count at (count - 0)
+leaping_start {count = count} h = let z : count - 0 ≡ count = omega arith in record { within = h; so_far = ap (λ (k : ℕ). after_numbers k _) z }
 
-module _ {image : List ℕ} {at count here left : ℕ} (p : Leaping image at count here left) where
-  pub leaping_within : here ≤ length image
-  leaping_within = p.within
+pub leaping_within : {image : List ℕ} {at count here left : ℕ} → Leaping image at count here left → here ≤ length image
+leaping_within p = p.within
 
-  pub leaping_end : left ≤ 0 → After image here (after_numbers count (drop at image))
+module _ {image : List ℕ} {at count here k : ℕ} (p : Leaping image at count here (count - k)) where
+  pub leaping_end : count ≤ k → After image here (after_numbers count (drop at image))
   leaping_end h =
-      let z : left ≡ 0 = omega arith in
-      record { within = p.within; is = sym (ap (λ (k : ℕ). after_numbers k (drop here image)) z ∙ numbers-none (drop here image)) ∙ p.so_far }
+      let z : count - k ≡ 0 = omega arith in
+      record { within = p.within; is = sym (ap (λ (m : ℕ). after_numbers m (drop here image)) z ∙ numbers-none (drop here image)) ∙ p.so_far }
 
-  pub leaping_on : {next : ℕ} → 0 < left → After image next (after_number (drop here image)) → Leaping image at count next (left - 1)
-  leaping_on h a = record {
-    within = a.within;
-    so_far = ap (after_numbers (left - 1)) a.is ∙ sym (numbers_more left (drop here image) h) ∙ p.so_far;
-  }
+  pub leaping_on : {next : ℕ} → k < count → After image next (after_number (drop here image)) → Leaping image at count next (count - (k + 1))
+  leaping_on {next} h a =
+      let z : count - k - 1 ≡ count - (k + 1) = omega arith in
+      subst (Leaping image at count next) z (record {
+        within = a.within;
+        so_far = ap (after_numbers (count - k - 1)) a.is ∙ sym (numbers_more (count - k) (drop here image) (omega arith)) ∙ p.so_far;
+      })
 
 pub ruleset leaping_laws = (leaping_start, leaping_within, leaping_end, leaping_on)
 

@@ -5,7 +5,7 @@ use mathlib.Core.List.{List, [], ◌∷◌, ◌++◌, append_assoc, append-nil}
 use native.Mathlib.Omega.{arith}
 use mir.Syntax.{w64}
 use mir.Val.{Fits}
-use lib.ListN.{length, take, drop, get_or, replicate, length-replicate, length-append, length-drop}
+use lib.ListN.{length, take, drop, get_or, length-append, length-drop}
 use lib.Seq.{drop-drop, take_at, drop_at}
 use borrow.Author.Tests.{lt-ltb}
 use Rattle.model.specs.Limits.{most_scopes, most_nesting, core_names, most_word_length}
@@ -26,14 +26,12 @@ use Rattle.refusals.specs.Refusing.{refusal_of}
 use Rattle.head.specs.declared.Front.{Front}
 use Rattle.head.specs.Fronts.{whole_head, Headed}
 use Rattle.image.specs.declared.Judgement.{Judgement}
-use Rattle.image.specs.declared.Judged.{Judged}
-use Rattle.image.specs.declared.Judged.TheVariants as judged
+use Rattle.std.specs.Prelude.{Result, Ok, Err}
 use Rattle.image.specs.Judging.{syntax_kind, judged_as, Good, Judges}
 use Rattle.text.specs.Placing.{Placed}
 use Rattle.text.proofs.Placing.{placed-length}
 use Rattle.text_endings.specs.declared.TextRefusal.TheVariants.{Base}
-use Rattle.text_endings.specs.declared.Written.{Written}
-use Rattle.text_endings.specs.declared.Written.TheVariants.{Made, Refused}
+use Rattle.text_endings.specs.declared.TextRefusal.{TextRefusal}
 use Rattle.text_endings.specs.Ending.{Room, Measured, Ends}
 use Rattle.text_endings.proofs.EndLaws.{len-fits, ends-refused, there_is_room, ends_too_long, ends-written}
 use Rattle.text_printer.specs.Spelling.{word_at, words_at, WordAt, place_of, WordsHere, FindsWords}
@@ -52,10 +50,10 @@ module _ {image starts : List ℕ} {n root : ℕ} (y : Ready image starts n root
   text-room r m l = record { ready = y; counts-room = h; room = (there_is_room r m l).0 }
 
 module _ {image out : List ℕ} {room len : ℕ} (r : Room (length out) room) (m : Measured (print_of image) room len) where
-  pub text_too_long : room < len → Writes image out out (Refused (Base TooLong))
+  pub text_too_long : room < len → Writes image out out (Err (Base TooLong))
   text_too_long h = record { ends = ends_too_long r m h }
 
-  pub text-written : {out' : List ℕ} {p : ℕ} → len ≤ room → Placed out 0 (print_of image) out' p → Writes image out out' (Made len)
+  pub text-written : {out' : List ℕ} {p : ℕ} → len ≤ room → Placed out 0 (print_of image) out' p → Writes image out out' (Ok len)
   text-written h w = record { ends = ends-written r m h w.is }
 
 pub ruleset write_laws = (len-fits, text-ready, text-room, text_too_long, text-written, placed-length)
@@ -269,16 +267,16 @@ print_fault : (room : ℕ) (f : Refusal) → text_in room (fault (refusal_of f))
 unfolding text_in
 print_fault room f = refl
 
-module _ {image store : List ℕ} {r : Judged} (h : Judges syntax_kind image store r) where
-  pub job_fault : {out : List ℕ} {f : Refusal} → r ≡ judged.Fault f → Prints image out out (Refused (Base f))
+module _ {image store : List ℕ} {r : Result Judgement Refusal} (h : Judges syntax_kind image store r) where
+  pub job_fault : {out : List ℕ} {f : Refusal} → r ≡ Err f → Prints image out out (Err (Base f))
   unfolding print_ending
   job_fault {out} {f} e = ends-refused (Base f) (ap (text_in (length out)) (h.is ∙ ap (judged_as syntax_kind image store) e) ∙ print_fault (length out) f)
 
-  module _ {j : Judgement} (e : r ≡ judged.Good j) where
+  module _ {j : Judgement} (e : r ≡ Ok j) where
     pub job_good : {starts left : List ℕ} → 1020 ≤ length starts → length left ≡ 65 → GoodRoom image j starts left
     job_good a b = record { good = record { store = store; good = h.good j e }; words-room = a; counts-room = b }
 
-    pub job_printed : {out out' : List ℕ} {q : Written} → Writes image out out' q → Prints image out out' q
+    pub job_printed : {out out' : List ℕ} {q : Result ℕ TextRefusal} → Writes image out out' q → Prints image out out' q
     unfolding print_ending
     job_printed {out} {out'} {q} w =
         let g = h.good j e in
@@ -286,16 +284,3 @@ module _ {image store : List ℕ} {r : Judged} (h : Judges syntax_kind image sto
         (ap (fitted (length out)) (read_print image g.image g.reads) ∙ sym (ap (text_in (length out)) g.reads ∙ print_got (length out) g.image)) w.ends
 
 pub ruleset judged_laws = (job_fault, job_good, job_printed)
-
--- ---- room
-
-pub starts-room : 1020 ≤ length (replicate {A = ℕ} 1020 0)
-starts-room = let e : length (replicate {A = ℕ} 1020 0) ≡ 1020 = length-replicate {A = ℕ} 1020 0 in omega arith
-
-pub counts-room : length (replicate {A = ℕ} 65 0) ≡ 65
-counts-room = length-replicate {A = ℕ} 65 0
-
-pub store-room : 3072 ≤ length (replicate {A = ℕ} 3072 0)
-store-room = let e : length (replicate {A = ℕ} 3072 0) ≡ 3072 = length-replicate {A = ℕ} 3072 0 in omega arith
-
-pub ruleset job_laws = (starts-room, counts-room, store-room)

@@ -13,8 +13,7 @@ use lib.Seq.{length-take-le, get_or-set_same, get_or-set_other, get_or-append-ad
 use borrow.Author.Tests.{ltb-true, ltb-false}
 use Rattle.model.specs.Reading.{core_words}
 use Rattle.text.specs.Placing.{Placed}
-use Rattle.text.proofs.Placing.{placed-length}
-use Rattle.text_printer.specs.Spelling.{word_at, words_at, spelling, WordAt, Spellable, RoomFor, place_of, WordsHere, FindsWords}
+use Rattle.text_printer.specs.Spelling.{word_at, words_at, spelling, WordAt, Spellable, place_of, WordsHere, FindsWords}
 
 -- ---- the word of a symbol
 
@@ -57,18 +56,6 @@ module _ (image starts : List ℕ) (n : ℕ) {x : ℕ} where
   unfolding core_words
   word-syntax z = core-word 3 _ refl z
 
-  pub long-lambda : x ≡ 0 → 6 ≡ length (get_or (spelling image starts n) x [])
-  long-lambda z = ap length (word-lambda z)
-
-  pub long_let : x ≡ 1 → 10 ≡ length (get_or (spelling image starts n) x [])
-  long_let z = ap length (word_let z)
-
-  pub long-quote : x ≡ 2 → 5 ≡ length (get_or (spelling image starts n) x [])
-  long-quote z = ap length (word-quote z)
-
-  pub long-syntax : x ≡ 3 → 6 ≡ length (get_or (spelling image starts n) x [])
-  long-syntax z = ap length (word-syntax z)
-
 four_more : (x : ℕ) → (x ≡ 0 → ⊥) → (x ≡ 1 → ⊥) → (x ≡ 2 → ⊥) → (x ≡ 3 → ⊥) → 4 ≤ x
 four_more x a b c d = omega arith
 
@@ -87,9 +74,6 @@ module _ {image starts : List ℕ} {n x : ℕ} (s : Spellable image starts n x) 
 
   pub own_begins : get_or starts (x - 4) 0 < length image
   own_begins = own_there.begins
-
-  pub own_length : get_or image (get_or starts (x - 4) 0) 0 ≡ length (get_or (spelling image starts n) x [])
-  own_length = sym (ap length (own_word image starts n x l s.declared) ∙ own_long)
 
   pub own_few : get_or image (get_or starts (x - 4) 0) 0 ≤ 32
   own_few = own_there.short
@@ -110,92 +94,33 @@ module _ {image starts : List ℕ} {n x : ℕ} (s : Spellable image starts n x) 
   pub len-begins : get_or starts (x - 4) 0 < length image
   len-begins = own_begins s far
 
-  pub len_is : get_or image (get_or starts (x - 4) 0) 0 ≡ length (get_or (spelling image starts n) x [])
-  len_is = own_length s far
-
-  pub len-few : get_or image (get_or starts (x - 4) 0) 0 ≤ 32
-  len-few = own_few s far
-
   pub len-fits : Fits w64 (get_or image (get_or starts (x - 4) 0) 0)
   len-fits = own_fits s far
 
-pub ruleset len_laws = (long-lambda, long_let, long-quote, long-syntax, len-from, len-place, len-begins, len_is, len-few, len-fits)
-
--- ---- the image's own words
-
-module _ {out : List ℕ} {at : ℕ} {image starts : List ℕ} {n x : ℕ} (r : RoomFor out at image starts n x) (l : 4 ≤ x) where
-  pub put_place : x - 4 < length starts
-  put_place = own_place r.spellable l
-
-  pub put_begins : get_or starts (x - 4) 0 < length image
-  put_begins = own_begins r.spellable l
-
-  pub put_fits : Fits w64 (get_or image (get_or starts (x - 4) 0) 0)
-  put_fits = own_fits r.spellable l
-
   pub from-fits : Fits w64 (get_or starts (x - 4) 0 + 1)
-  from-fits = let a = own_begins r.spellable l in let b = r.spellable.words.small in omega arith
+  from-fits = let p = own_begins s far in let q = s.words.small in omega arith
 
   pub to-fits : Fits w64 (get_or starts (x - 4) 0 + 1 + get_or image (get_or starts (x - 4) 0) 0)
-  to-fits = let a = (own_there r.spellable l).ends in let b = r.spellable.words.small in omega arith
+  to-fits = let p = (own_there s far).ends in let q = s.words.small in omega arith
 
   pub to-within : get_or starts (x - 4) 0 + 1 + get_or image (get_or starts (x - 4) 0) 0 ≤ length image
-  to-within = (own_there r.spellable l).ends
+  to-within = (own_there s far).ends
 
   taken : (p m : ℕ) → take (p + 1 + m - (p + 1)) (drop (p + 1) image) ≡ take m (drop (p + 1) image)
   taken p m = let z : p + 1 + m - (p + 1) ≡ m = omega arith in ap (λ (k : ℕ). take k (drop (p + 1) image)) z
 
-  is_own : take (get_or starts (x - 4) 0 + 1 + get_or image (get_or starts (x - 4) 0) 0 - (get_or starts (x - 4) 0 + 1)) (drop (get_or starts (x - 4) 0 + 1) image) ≡ get_or (spelling image starts n) x []
-  is_own = taken (get_or starts (x - 4) 0) (get_or image (get_or starts (x - 4) 0) 0) ∙ sym (own_word image starts n x l r.spellable.declared)
+  pub own_is : take (get_or starts (x - 4) 0 + 1 + get_or image (get_or starts (x - 4) 0) 0 - (get_or starts (x - 4) 0 + 1)) (drop (get_or starts (x - 4) 0 + 1) image) ≡ get_or (spelling image starts n) x []
+  own_is = taken (get_or starts (x - 4) 0) (get_or image (get_or starts (x - 4) 0) 0) ∙ sym (own_word image starts n x far s.declared)
 
-  pub own_room : at + length (take (get_or starts (x - 4) 0 + 1 + get_or image (get_or starts (x - 4) 0) 0 - (get_or starts (x - 4) 0 + 1)) (drop (get_or starts (x - 4) 0 + 1) image)) ≤ length out
-  own_room = let a = r.room in let e = ap length is_own in omega arith
+  pub own_small : length (take (get_or starts (x - 4) 0 + 1 + get_or image (get_or starts (x - 4) 0) 0 - (get_or starts (x - 4) 0 + 1)) (drop (get_or starts (x - 4) 0 + 1) image)) ≤ 32
+  own_small = let e = ap length (taken (get_or starts (x - 4) 0) (get_or image (get_or starts (x - 4) 0) 0)) in let f = own_long s far in let g = own_few s far in omega arith
 
-  pub own_placed : {out' : List ℕ} {p : ℕ}
-      → Placed out at (take (get_or starts (x - 4) 0 + 1 + get_or image (get_or starts (x - 4) 0) 0 - (get_or starts (x - 4) 0 + 1)) (drop (get_or starts (x - 4) 0 + 1) image)) out' p
-      → Placed out at (get_or (spelling image starts n) x []) out' p
-  own_placed {out'} {p} w = subst (λ (b : List ℕ). Placed out at b out' p) is_own w
+pub ruleset own_laws = (word-lambda, word_let, word-quote, word-syntax, len-from, len-place, len-begins, len-fits, from-fits, to-fits, to-within, own_is, own_small)
 
-pub ruleset own_laws = (put_place, put_begins, put_fits, from-fits, to-fits, to-within, own_room, own_placed, placed-length)
-
--- ---- any word
-
-module _ {out : List ℕ} {at : ℕ} {image starts : List ℕ} {n x : ℕ} (r : RoomFor out at image starts n x) where
-  word_room : (w : List ℕ) → w ≡ get_or (spelling image starts n) x [] → at + length w ≤ length out
-  word_room w e = let a = r.room in let l = ap length e in omega arith
-
-  pub lambda-room : x ≡ 0 → at + 6 ≤ length out
-  lambda-room z = word_room _ (word-lambda image starts n z)
-
-  pub let_room : x ≡ 1 → at + 10 ≤ length out
-  let_room z = word_room _ (word_let image starts n z)
-
-  pub quote-room : x ≡ 2 → at + 5 ≤ length out
-  quote-room z = word_room _ (word-quote image starts n z)
-
-  pub syntax-room : x ≡ 3 → at + 6 ≤ length out
-  syntax-room z = word_room _ (word-syntax image starts n z)
-
-  pub own_from : (x ≡ 0 → ⊥) → (x ≡ 1 → ⊥) → (x ≡ 2 → ⊥) → (x ≡ 3 → ⊥) → 4 ≤ x
-  own_from a b c d = four_more x a b c d
+-- ---- written
 
 pub placed_as : {out out' : List ℕ} {at p : ℕ} (w v : List ℕ) → w ≡ v → Placed out at w out' p → Placed out at v out' p
 placed_as {out} {out'} {at} {p} w v e q = subst (λ (b : List ℕ). Placed out at b out' p) e q
-
-module _ {out : List ℕ} {at : ℕ} (image starts : List ℕ) (n x : ℕ) {out' : List ℕ} {p : ℕ} where
-  pub lambda-placed : x ≡ 0 → Placed out at (108 ∷ 97 ∷ 109 ∷ 98 ∷ 100 ∷ 97 ∷ []) out' p → Placed out at (get_or (spelling image starts n) x []) out' p
-  lambda-placed z q = placed_as _ _ (word-lambda image starts n z) q
-
-  pub let_placed : x ≡ 1 → Placed out at (108 ∷ 101 ∷ 116 ∷ 45 ∷ 115 ∷ 121 ∷ 110 ∷ 116 ∷ 97 ∷ 120 ∷ []) out' p → Placed out at (get_or (spelling image starts n) x []) out' p
-  let_placed z q = placed_as _ _ (word_let image starts n z) q
-
-  pub quote-placed : x ≡ 2 → Placed out at (113 ∷ 117 ∷ 111 ∷ 116 ∷ 101 ∷ []) out' p → Placed out at (get_or (spelling image starts n) x []) out' p
-  quote-placed z q = placed_as _ _ (word-quote image starts n z) q
-
-  pub syntax-placed : x ≡ 3 → Placed out at (115 ∷ 121 ∷ 110 ∷ 116 ∷ 97 ∷ 120 ∷ []) out' p → Placed out at (get_or (spelling image starts n) x []) out' p
-  syntax-placed z q = placed_as _ _ (word-syntax image starts n z) q
-
-pub ruleset symbol_laws = (lambda-room, let_room, quote-room, syntax-room, own_from, lambda-placed, let_placed, quote-placed, syntax-placed, placed-length)
 
 -- ---- finding the words
 

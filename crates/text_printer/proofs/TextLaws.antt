@@ -15,7 +15,8 @@ use Rattle.text_endings.specs.Ending.{Measured}
 use Rattle.text_laws.specs.Single.{space_if}
 use Rattle.text_printer.specs.declared.walking.Walk.{Walk}
 use Rattle.text_printer.specs.declared.walking.Step.{Step}
-use Rattle.text_printer.specs.declared.walking.Step.TheVariants.{End, Open, Close}
+use Rattle.text_printer.specs.declared.walking.Step.TheVariants.{Open, Close}
+use Rattle.std.specs.Prelude.{Option, None, Some}
 use Rattle.text_printer.specs.declared.walking.Step.TheVariants as step
 use Rattle.text_printer.specs.Walking.{Walkable, Steps}
 use Rattle.text_printer.specs.Spelling.{spelling, Spelled}
@@ -77,8 +78,8 @@ module _ {image starts : List ℕ} {n : ℕ} {left₀ : List ℕ} {most : ℕ} {
       no : len ≤ most → ⊥
       no l = omega arith
 
-  module _ {left' : List ℕ} {r : Step} (s : Steps image left w left' r) where
-    pub measuring_end : r ≡ End → Measured (print_of image) most len
+  module _ {left' : List ℕ} {r : Option (Step × Walk)} (s : Steps image left w left' r) where
+    pub measuring_end : r ≡ None → Measured (print_of image) most len
     measuring_end e =
         let t = m.total in
         let z = ap length (ahead-end m.ahead s e) in
@@ -101,33 +102,33 @@ module _ {image starts : List ℕ} {n : ℕ} {left₀ : List ℕ} {most : ℕ} {
         record { rest = o.further; ahead = o.ahead; words = m.words; same = s.same ∙ m.same; most-small = h; small = omega arith; total = omega arith }
 
     module _ (l : len ≤ most) where
-      pub measuring_open : {w' : Walk} {k : ℕ} → r ≡ Open w' → k ≡ length (space_if due []) → Measuring image starts n left₀ most left' w' false (len + (1 + k))
-      measuring_open {w'} {k} e q =
+      pub measuring_open : {w' : Walk} {k : ℕ} {x : Step} → r ≡ Some (x, w') → x ≡ Open → k ≡ length (space_if due []) → Measuring image starts n left₀ most left' w' false (len + (1 + k))
+      measuring_open {w'} {k} e i q =
           let a = space-long due (40 ∷ []) in
           let b = space-few due in
-          on (1 + k) (omega arith) (omega arith) l (ahead_open m.ahead s e)
+          on (1 + k) (omega arith) (omega arith) l (ahead_open m.ahead s e i)
 
-      pub measuring_close : {w' : Walk} → r ≡ Close w' → Measuring image starts n left₀ most left' w' true (len + 1)
-      measuring_close e = on 1 refl (omega arith) l (ahead_close m.ahead s e)
+      pub measuring_close : {w' : Walk} {x : Step} → r ≡ Some (x, w') → x ≡ Close → Measuring image starts n left₀ most left' w' true (len + 1)
+      measuring_close e i = on 1 refl (omega arith) l (ahead_close m.ahead s e i)
 
-      pub measuring_atom : {w' : Walk} {tag content k a : ℕ} → r ≡ step.Atom tag content w' → k ≡ length (space_if due []) → a ≡ length (atom_text (spelling image starts n) tag content) → a ≤ 32
+      pub measuring_atom : {w' : Walk} {tag content k a : ℕ} {x : Step} → r ≡ Some (x, w') → x ≡ step.Atom tag content → k ≡ length (space_if due []) → a ≡ length (atom_text (spelling image starts n) tag content) → a ≤ 32
           → Measuring image starts n left₀ most left' w' true (len + (k + a))
-      measuring_atom {w'} {tag} {content} {k} {a} e q p f =
+      measuring_atom {w'} {tag} {content} {k} {a} e i q p f =
           let x = space-long due (atom_text (spelling image starts n) tag content) in
           let b = space-few due in
-          on (k + a) (omega arith) (omega arith) l (ahead-atom m.ahead s e)
+          on (k + a) (omega arith) (omega arith) l (ahead-atom m.ahead s e i)
 
-    pub measuring_printable : {w' : Walk} {tag content : ℕ} → r ≡ step.Atom tag content w' → Printable image starts n tag content
-    measuring_printable e = ahead-printable m.ahead s e m.words
+    pub measuring_printable : {w' : Walk} {tag content : ℕ} {x : Step} → r ≡ Some (x, w') → x ≡ step.Atom tag content → Printable image starts n tag content
+    measuring_printable e i = ahead-printable m.ahead s e i m.words
 
-    pub measuring_less_open : {w' : Walk} → r ≡ Open w' → (length image - w'.at) * 2 + w'.depth < (length image - w.at) * 2 + w.depth
-    measuring_less_open e = (ahead_open m.ahead s e).less
+    pub measuring_less_open : {w' : Walk} {x : Step} → r ≡ Some (x, w') → x ≡ Open → (length image - w'.at) * 2 + w'.depth < (length image - w.at) * 2 + w.depth
+    measuring_less_open e i = (ahead_open m.ahead s e i).less
 
-    pub measuring_less_close : {w' : Walk} → r ≡ Close w' → (length image - w'.at) * 2 + w'.depth < (length image - w.at) * 2 + w.depth
-    measuring_less_close e = (ahead_close m.ahead s e).less
+    pub measuring_less_close : {w' : Walk} {x : Step} → r ≡ Some (x, w') → x ≡ Close → (length image - w'.at) * 2 + w'.depth < (length image - w.at) * 2 + w.depth
+    measuring_less_close e i = (ahead_close m.ahead s e i).less
 
-    pub measuring_less_atom : {w' : Walk} {tag content : ℕ} → r ≡ step.Atom tag content w' → (length image - w'.at) * 2 + w'.depth < (length image - w.at) * 2 + w.depth
-    measuring_less_atom e = (ahead-atom m.ahead s e).less
+    pub measuring_less_atom : {w' : Walk} {tag content : ℕ} {x : Step} → r ≡ Some (x, w') → x ≡ step.Atom tag content → (length image - w'.at) * 2 + w'.depth < (length image - w.at) * 2 + w.depth
+    measuring_less_atom e i = (ahead-atom m.ahead s e i).less
 
   module _ (l : len ≤ most) where
     pub open_fits : {k : ℕ} → k ≡ length (space_if due []) → Fits w64 (len + (1 + k))
@@ -251,21 +252,21 @@ module _ {out₀ image starts : List ℕ} {n : ℕ} {left₀ out left : List ℕ
   pub writing_same : length left ≡ length left₀
   writing_same = m.same
 
-  module _ {left' : List ℕ} {r : Step} (s : Steps image left w left' r) where
-    pub writing_end : r ≡ End → Placed out₀ 0 (print_of image) out to
+  module _ {left' : List ℕ} {r : Option (Step × Walk)} (s : Steps image left w left' r) where
+    pub writing_end : r ≡ None → Placed out₀ 0 (print_of image) out to
     writing_end e = ended (subst (Placing out₀ 0 (print_of image) out to) (ahead-end m.ahead s e) m.placing)
 
     pub writing_end_same : length left' ≡ length left₀
     writing_end_same = s.same ∙ m.same
 
-    pub writing_less_open : {w' : Walk} → r ≡ Open w' → (length image - w'.at) * 2 + w'.depth < (length image - w.at) * 2 + w.depth
-    writing_less_open e = (ahead_open m.ahead s e).less
+    pub writing_less_open : {w' : Walk} {x : Step} → r ≡ Some (x, w') → x ≡ Open → (length image - w'.at) * 2 + w'.depth < (length image - w.at) * 2 + w.depth
+    writing_less_open e i = (ahead_open m.ahead s e i).less
 
-    pub writing_less_close : {w' : Walk} → r ≡ Close w' → (length image - w'.at) * 2 + w'.depth < (length image - w.at) * 2 + w.depth
-    writing_less_close e = (ahead_close m.ahead s e).less
+    pub writing_less_close : {w' : Walk} {x : Step} → r ≡ Some (x, w') → x ≡ Close → (length image - w'.at) * 2 + w'.depth < (length image - w.at) * 2 + w.depth
+    writing_less_close e i = (ahead_close m.ahead s e i).less
 
-    pub writing_less_atom : {w' : Walk} {tag content : ℕ} → r ≡ step.Atom tag content w' → (length image - w'.at) * 2 + w'.depth < (length image - w.at) * 2 + w.depth
-    writing_less_atom e = (ahead-atom m.ahead s e).less
+    pub writing_less_atom : {w' : Walk} {tag content : ℕ} {x : Step} → r ≡ Some (x, w') → x ≡ step.Atom tag content → (length image - w'.at) * 2 + w'.depth < (length image - w.at) * 2 + w.depth
+    writing_less_atom e i = (ahead-atom m.ahead s e i).less
 
     -- `piece` is next
     module _ {piece : List ℕ} {w' : Walk} {due' : Bool} (o : Onward image starts n w m.rest piece left' w' due') where
@@ -298,27 +299,27 @@ module _ {out₀ image starts : List ℕ} {n : ℕ} {left₀ out left : List ℕ
             };
           }
 
-    module _ {w' : Walk} (e : r ≡ Open w') where
+    module _ {w' : Walk} {x : Step} (e : r ≡ Some (x, w')) (i : x ≡ Open) where
       pub open_room : to + length (space_if due (40 ∷ [])) ≤ length out
-      open_room = next-room (ahead_open m.ahead s e)
+      open_room = next-room (ahead_open m.ahead s e i)
 
       pub open_written : {out' : List ℕ} {to' : ℕ} → Placed out to (space_if due (40 ∷ [])) out' to' → Writing out₀ image starts n left₀ out' left' w' false to'
-      open_written p = next-written (ahead_open m.ahead s e) p
+      open_written p = next-written (ahead_open m.ahead s e i) p
 
-    module _ {w' : Walk} (e : r ≡ Close w') where
+    module _ {w' : Walk} {x : Step} (e : r ≡ Some (x, w')) (i : x ≡ Close) where
       pub close_room : to + length (space_if false (41 ∷ [])) ≤ length out
       unfolding space_if
-      close_room = next-room (ahead_close m.ahead s e)
+      close_room = next-room (ahead_close m.ahead s e i)
 
       pub close_written : {out' : List ℕ} {to' : ℕ} → Placed out to (space_if false (41 ∷ [])) out' to' → Writing out₀ image starts n left₀ out' left' w' true to'
       unfolding space_if
-      close_written p = next-written (ahead_close m.ahead s e) p
+      close_written p = next-written (ahead_close m.ahead s e i) p
 
-    module _ {w' : Walk} {tag content : ℕ} (e : r ≡ step.Atom tag content w') where
+    module _ {w' : Walk} {tag content : ℕ} {x : Step} (e : r ≡ Some (x, w')) (i : x ≡ step.Atom tag content) where
       pub atom-room : SpacedRoom out to due image starts n tag content
-      atom-room = record { printable = ahead-printable m.ahead s e m.words; room = next-room (ahead-atom m.ahead s e) }
+      atom-room = record { printable = ahead-printable m.ahead s e i m.words; room = next-room (ahead-atom m.ahead s e i) }
 
       pub atom-written : {out' : List ℕ} {to' : ℕ} → Placed out to (space_if due (atom_text (spelling image starts n) tag content)) out' to' → Writing out₀ image starts n left₀ out' left' w' true to'
-      atom-written p = next-written (ahead-atom m.ahead s e) p
+      atom-written p = next-written (ahead-atom m.ahead s e i) p
 
 pub ruleset writing_laws = (counts_same, first-room, writing_start, writing_walkable, writing_length, writing_same, writing_end, writing_end_same, writing_less_open, writing_less_close, writing_less_atom, open_room, open_written, close_room, close_written, atom-room, atom-written, placed-length)

@@ -14,7 +14,8 @@ use Rattle.codec_laws.proofs.Lengths.{num-some, count_le}
 use Rattle.codec_laws.proofs.ObjectTrip.{tag_le}
 use Rattle.text_printer.specs.declared.fronts.Front.{Front}
 use Rattle.text_printer.specs.declared.walking.Walk.{Walk}
-use Rattle.text_printer.specs.declared.walking.Step.TheVariants.{End, Open, Close}
+use Rattle.text_printer.specs.declared.walking.Step.TheVariants.{Open, Close}
+use Rattle.std.specs.Prelude.{None, Some}
 use Rattle.text_printer.specs.declared.walking.Step.TheVariants as step
 use Rattle.text_printer.specs.Fronts.{Inside, After, FrontIs}
 use Rattle.text_printer.specs.Walking.{bytes_ahead, Counted, Shallow, Standing, Walkable, Opens, Closes, Meets, Steps}
@@ -145,7 +146,7 @@ past_onward image at past t m q c i e a =
     omega arith
 
 module _ {image left : List ℕ} {w : Walk} where
-  pub step_end : get_or left (w.depth - 1) 0 ≡ 0 → w.depth - 1 ≡ 0 → Steps image left w left End
+  pub step_end : get_or left (w.depth - 1) 0 ≡ 0 → w.depth - 1 ≡ 0 → Steps image left w left None
   step_end z d = record { same = refl; is = λ k n l ls s. (no-parts l (sym s.counts.1 ∙ z), none ls (subst (λ (m : ℕ). Counted left m ls) d s.counts.2)) }
     where
       none : (ls : List Stxs) → Counted left 0 ls → ls ≡ []
@@ -155,7 +156,7 @@ module _ {image left : List ℕ} {w : Walk} where
           no : 0 < 0 → ⊥
           no h = omega arith
 
-  pub step_close : get_or left (w.depth - 1) 0 ≡ 0 → (w.depth - 1 ≡ 0 → ⊥) → Steps image left w left (Close (record { at = w.at; depth = w.depth - 1 }))
+  pub step_close : get_or left (w.depth - 1) 0 ≡ 0 → (w.depth - 1 ≡ 0 → ⊥) → Steps image left w left (Some (Close, record { at = w.at; depth = w.depth - 1 }))
   step_close z d = record { same = refl; is = λ k n l ls s. closes k n l ls s }
     where
       closes : (k n : ℕ) (l : Stxs) (ls : List Stxs) → Standing k n image left w l ls → Closes k n image w l ls left (record { at = w.at; depth = w.depth - 1 })
@@ -212,7 +213,7 @@ module _ {image left : List ℕ} {w : Walk} where
     list-front k n c p l ls s =
         fronted n 5 (count p) c (bytes_ahead (p ∷ l ∷ ls)) f s.scopes-few s.fits.0.0.0 (omega arith) (few-parts k n c p l ls s) (s.bytes ∙ list-bytes c p l ls)
 
-    pub step-atom : (x.tag ≡ 5 → ⊥) → Steps image left w (set left (w.depth - 1) (get_or left (w.depth - 1) 0 - 1)) (step.Atom x.tag x.content (record { at = x.past; depth = w.depth }))
+    pub step-atom : (x.tag ≡ 5 → ⊥) → Steps image left w (set left (w.depth - 1) (get_or left (w.depth - 1) 0 - 1)) (Some (step.Atom x.tag x.content, record { at = x.past; depth = w.depth }))
     step-atom u = record { same = length-set left (w.depth - 1) (get_or left (w.depth - 1) 0 - 1); is = λ k n l ls s. meets k n l ls s }
       where
         meets : (k n : ℕ) (l : Stxs) (ls : List Stxs) → Standing k n image left w l ls → Meets k n image w l ls (one_less left w) x.tag x.content (record { at = x.past; depth = w.depth })
@@ -244,7 +245,7 @@ module _ {image left : List ℕ} {w : Walk} where
             }
 
     pub step_open : x.tag ≡ 5
-        → Steps image left w (set (set left (w.depth - 1) (get_or left (w.depth - 1) 0 - 1)) w.depth x.content) (Open (record { at = x.past; depth = w.depth + 1 }))
+        → Steps image left w (set (set left (w.depth - 1) (get_or left (w.depth - 1) 0 - 1)) w.depth x.content) (Some (Open, record { at = x.past; depth = w.depth + 1 }))
     step_open u = record {
       same = length-set (one_less left w) w.depth x.content ∙ length-set left (w.depth - 1) (get_or left (w.depth - 1) 0 - 1);
       is = λ k n l ls s. opens k n l ls s;

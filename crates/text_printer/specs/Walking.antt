@@ -1,5 +1,5 @@
 -- A walk along a root: what is still to come, as lists of objects, the innermost first.
-use Rattle.std.specs.Prelude.{ℕ, ◌+◌, ◌-◌, ◌≤◌, ◌<◌, ◌≡◌, List, [], ◌∷◌, ◌++◌, length, drop, get_or}
+use Rattle.std.specs.Prelude.{ℕ, ◌+◌, ◌-◌, ◌≤◌, ◌<◌, ◌≡◌, List, [], ◌∷◌, ◌++◌, length, drop, get_or, Option, None, Some}
 use Rattle.model.specs.Objects.{Atom, tag_of, content_of, Sets, atom, list, Stxs, nil, cons, count, nestings}
 use Rattle.model.specs.Writing.{stxs_bytes}
 use Rattle.codec_laws.specs.WellFormed.{AtomFits, StxsFit}
@@ -96,12 +96,15 @@ pub record Meets (k n : ℕ) (image : List ℕ) (w : Walk) (l : Stxs) (ls : List
   pub level : w'.depth ≡ w.depth
   pub stands : Standing k n image left' w' after ls
 
-abbrev pub ShowsStep : ℕ → ℕ → List ℕ → Walk → Stxs → List Stxs → List ℕ → Step → Type 0
-ShowsStep k n image w l ls left' step.End = (l ≡ nil) × (ls ≡ [])
-ShowsStep k n image w l ls left' (step.Open w') = Opens k n image w l ls left' w'
-ShowsStep k n image w l ls left' (step.Close w') = Closes k n image w l ls left' w'
-ShowsStep k n image w l ls left' (step.Atom tag content w') = Meets k n image w l ls left' tag content w'
+abbrev pub ShowsStep : ℕ → ℕ → List ℕ → Walk → Stxs → List Stxs → List ℕ → Walk → Step → Type 0
+ShowsStep k n image w l ls left' w' step.Open = Opens k n image w l ls left' w'
+ShowsStep k n image w l ls left' w' step.Close = Closes k n image w l ls left' w'
+ShowsStep k n image w l ls left' w' (step.Atom tag content) = Meets k n image w l ls left' tag content w'
 
-pub record Steps (image left : List ℕ) (w : Walk) (left' : List ℕ) (r : Step) : Type 0 where
+abbrev pub ShowsSteps : ℕ → ℕ → List ℕ → Walk → Stxs → List Stxs → List ℕ → Option (Step × Walk) → Type 0
+ShowsSteps k n image w l ls left' None = (l ≡ nil) × (ls ≡ [])
+ShowsSteps k n image w l ls left' (Some r) = ShowsStep k n image w l ls left' r.1 r.0
+
+pub record Steps (image left : List ℕ) (w : Walk) (left' : List ℕ) (r : Option (Step × Walk)) : Type 0 where
   pub same : length left' ≡ length left
-  pub is : (k n : ℕ) (l : Stxs) (ls : List Stxs) → Standing k n image left w l ls → ShowsStep k n image w l ls left' r
+  pub is : (k n : ℕ) (l : Stxs) (ls : List Stxs) → Standing k n image left w l ls → ShowsSteps k n image w l ls left' r

@@ -6,6 +6,7 @@ ghost use Rattle.text.specs.Placing.{Placed};
 ghost use Rattle.text_printer.specs.Spelling.{spelling};
 ghost use Rattle.text_printer.specs.Atoms.{atom_text, Printable, AtomRoom};
 
+use crate::spelling::Words;
 use crate::{lengths, spelling};
 use text::put_text;
 
@@ -18,24 +19,17 @@ const POINT: u32 = 2;
 const PRIM: u32 = 3;
 
 // How long the text of an atom is.
-pub fn atom_len(image: &[u8], starts: &[usize], count: usize, tag: u32, content: u32) -> usize
-    requires { Printable image.now starts.now count tag content }
-    ensures is { result ≡ length (atom_text (spelling image.now starts.now count) tag content) }
+pub fn atom_len(words: Words, tag: u32, content: u32) -> usize
+    requires { Printable words.image.now words.starts.now words.count tag content }
+    ensures is { result ≡ length (atom_text (spelling words.entry.image.now words.entry.starts.now words.entry.count) tag content) }
     ensures few { result ≤ 32 }
 {
-    if tag == SYMBOL {
-        return spelling::symbol_len(image, starts, count, content);
+    match tag {
+        SYMBOL => spelling::symbol_len(words, content),
+        NUMBER => lengths::decimal_len(content),
+        POINT | PRIM => 1 + lengths::decimal_len(content),
+        _ => 1 + lengths::rung_len(content),
     }
-    if tag == NUMBER {
-        return lengths::decimal_len(content);
-    }
-    if tag == POINT {
-        return 1 + lengths::decimal_len(content);
-    }
-    if tag == PRIM {
-        return 1 + lengths::decimal_len(content);
-    }
-    1 + lengths::rung_len(content)
 }
 
 // A number behind its mark.
@@ -52,25 +46,15 @@ fn put_rung(out: &mut [u8], at: usize, n: u32) -> usize
     requires { at + length (rung_text n) ≤ length out.old }
     ensures { Placed out.old at (rung_text n) out.new result }
 {
-    if n == 0 {
-        return put_text(out, at, b"and");
+    match n {
+        0 => put_text(out, at, b"and"),
+        1 => put_text(out, at, b"or"),
+        2 => put_text(out, at, b"not"),
+        3 => put_text(out, at, b"out"),
+        4 => put_text(out, at, b"set"),
+        5 => put_text(out, at, b"all"),
+        _ => text::put_number(out, at, n),
     }
-    if n == 1 {
-        return put_text(out, at, b"or");
-    }
-    if n == 2 {
-        return put_text(out, at, b"not");
-    }
-    if n == 3 {
-        return put_text(out, at, b"out");
-    }
-    if n == 4 {
-        return put_text(out, at, b"set");
-    }
-    if n == 5 {
-        return put_text(out, at, b"all");
-    }
-    text::put_number(out, at, n)
 }
 
 // An atom other than a symbol.
@@ -78,33 +62,23 @@ fn put_number(out: &mut [u8], at: usize, tag: u32, content: u32) -> usize
     requires { (tag ≡ 0 → ⊥) × (at + length (atom_text [] tag content) ≤ length out.old) }
     ensures { Placed out.old at (atom_text [] tag content) out.new result }
 {
-    if tag == NUMBER {
-        return text::put_number(out, at, content);
+    match tag {
+        NUMBER => text::put_number(out, at, content),
+        POINT => put_marked(out, at, b'@', content),
+        PRIM => put_marked(out, at, b'#', content),
+        _ => {
+            out[at] = b'\'';
+            put_rung(out, at + 1, content)
+        }
     }
-    if tag == POINT {
-        return put_marked(out, at, b'@', content);
-    }
-    if tag == PRIM {
-        return put_marked(out, at, b'#', content);
-    }
-    out[at] = b'\'';
-    put_rung(out, at + 1, content)
 }
 
-pub fn put_atom(
-    out: &mut [u8],
-    at: usize,
-    image: &[u8],
-    starts: &[usize],
-    count: usize,
-    tag: u32,
-    content: u32,
-) -> usize
-    requires { AtomRoom out.old at image.now starts.now count tag content }
-    ensures { Placed out.old at (atom_text (spelling image.now starts.now count) tag content) out.new result }
+pub fn put_atom(out: &mut [u8], at: usize, words: Words, tag: u32, content: u32) -> usize
+    requires { AtomRoom out.old at words.image.now words.starts.now words.count tag content }
+    ensures { Placed out.old at (atom_text (spelling words.entry.image.now words.entry.starts.now words.entry.count) tag content) out.new result }
 {
     if tag == SYMBOL {
-        return spelling::put_symbol(out, at, image, starts, count, content);
+        return spelling::put_symbol(out, at, words, content);
     }
     put_number(out, at, tag, content)
 }

@@ -3,7 +3,7 @@ ghost use Rattle.std.specs.Prelude.{◌≡◌, ◌≤◌, length, drop};
 ghost use Rattle.model.specs.Reading.{num};
 ghost use Rattle.text_printer.specs.Fronts.{value_of, after_number, after_numbers, after_set, Inside, After, FrontIs};
 
-use numbers::{Cursor, Number};
+use numbers::Cursor;
 
 // What an object has before its parts, and the place past that.
 #[derive(Clone, Copy)]
@@ -20,8 +20,8 @@ fn value_at(image: &[u8], at: usize) -> u32
 {
     let c = Cursor { at };
     match c.number(&image[at..]) {
-        Number::Read(n, _) => n,
-        Number::Fault(_) => 0,
+        Ok((n, _)) => n,
+        Err(_) => 0,
     }
 }
 
@@ -30,14 +30,12 @@ fn skip_number(image: &[u8], at: usize) -> usize
     requires { at ≤ length image.now }
     ensures { After image.now result (after_number (drop at image.now)) }
 {
-    let mut i = at;
-    while i < image.len() {
+    for i in at..image.len() {
         if image[i] < 128 {
             return i + 1;
         }
-        i += 1;
     }
-    i
+    image.len()
 }
 
 // The place past so many numbers.
@@ -46,10 +44,8 @@ fn skip_numbers(image: &[u8], at: usize, count: u32) -> usize
     ensures { After image.now result (after_numbers count (drop at image.now)) }
 {
     let mut here = at;
-    let mut left = count;
-    while 0 < left {
+    for _ in 0..count {
         here = skip_number(image, here);
-        left -= 1;
     }
     here
 }

@@ -5,8 +5,9 @@ ghost use Rattle.text_printer.specs.Walking.{most_open};
 ghost use Rattle.text_printer.specs.Printing.{Ready};
 ghost use Rattle.text_printer.specs.Job.{GoodRoom, Writes, Prints};
 
+use crate::spelling::Words;
 use crate::{measuring, spelling, writing};
-use image::{Judged, Judgement};
+use image::Judgement;
 use numbers::number_len;
 use refusals::Refusal;
 use scopes::Name;
@@ -19,24 +20,17 @@ const MOST_OPEN: usize = numbers::Cursor::MOST_NESTING as usize + 1;
 const MOST_WORDS: usize = (Name::MOST - Name::CORE) as usize;
 
 // Code 20, or the text.
-fn write_text(
-    image: &[u8],
-    starts: &[usize],
-    count: usize,
-    left: &mut [u32],
-    root: usize,
-    out: &mut [u8],
-) -> Written
-    requires { Ready image.now starts.now count root × (length left.old ≡ most_open) }
-    ensures { Writes image.now out.old out.new result }
+fn write_text(words: Words, left: &mut [u32], root: usize, out: &mut [u8]) -> Written
+    requires { Ready words.image.now words.starts.now words.count root × (length left.old ≡ most_open) }
+    ensures { Writes words.entry.image.now out.old out.new result }
 {
     let room = text_endings::room_in(out.len());
-    let len = measuring::text_len(image, starts, count, left, root, room);
+    let len = measuring::text_len(words, left, root, room);
     if room < len {
-        return Written::Refused(TextRefusal::Base(Refusal::TooLong));
+        return Err(TextRefusal::Base(Refusal::TooLong));
     }
-    writing::put_all(out, image, starts, count, left, root);
-    Written::Made(len as u32)
+    writing::put_all(out, words, left, root);
+    Ok(len as u32)
 }
 
 // An image without fault: its words are found behind its kind and their count.
@@ -50,13 +44,14 @@ fn print_good(
     requires { GoodRoom image.now j starts.old left.old }
     ensures { Writes image.now out.old out.new result }
 {
-    let f = j.front;
-    let h = f.head;
-    let words = h.words;
-    let count = words as usize;
-    let first = 1 + number_len(words);
-    spelling::find_words(image, first, count, starts);
-    write_text(image, starts, count, left, j.root, out)
+    let count = j.front.head.words as usize;
+    spelling::find_words(image, 1 + number_len(j.front.head.words), count, starts);
+    let words = Words {
+        image,
+        starts,
+        count,
+    };
+    write_text(words, left, j.root, out)
 }
 
 // With room for bindings, places of words, and counts.
@@ -70,10 +65,8 @@ fn print_with(
     requires { (store_size ≤ length store.old) × (1020 ≤ length starts.old) × (length left.old ≡ most_open) }
     ensures { Prints image.now out.old out.new result }
 {
-    match image::judge_syntax(image, store) {
-        Judged::Good(j) => print_good(image, j, starts, left, out),
-        Judged::Fault(f) => Written::Refused(TextRefusal::Base(f)),
-    }
+    let j = image::judge_syntax(image, store)?;
+    print_good(image, j, starts, left, out)
 }
 
 // The text of a syntax image.

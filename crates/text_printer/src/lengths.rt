@@ -11,7 +11,7 @@ pub fn decimal_len(n: u32) -> usize
     let mut v = n;
     let mut len = 1;
     while 9 < v {
-        v = v / 10;
+        v /= 10;
         len += 1;
     }
     len
@@ -21,11 +21,9 @@ pub fn rung_len(n: u32) -> usize
     ensures is { result ≡ length (rung_text n) }
     ensures few { result ≤ 10 }
 {
-    if n == 1 {
-        return 2;
+    match n {
+        1 => 2,
+        0..=5 => 3,
+        _ => decimal_len(n),
     }
-    if n < 6 {
-        return 3;
-    }
-    decimal_len(n)
 }

@@ -8,67 +8,48 @@ use text::put_text;
 
 const CORE: u32 = Name::CORE;
 
-// How long the word of a symbol is.
-pub fn symbol_len(image: &[u8], starts: &[usize], count: usize, x: u32) -> usize
-    requires { Spellable image.now starts.now count x }
-    ensures is { result ≡ length (get_or (spelling image.now starts.now count) x []) }
-    ensures few { result ≤ 32 }
-{
-    if x == 0 {
-        return 6;
-    }
-    if x == 1 {
-        return 10;
-    }
-    if x == 2 {
-        return 5;
-    }
-    if x == 3 {
-        return 6;
-    }
-    let i = (x - CORE) as usize;
-    let start = starts[i];
-    image[start] as usize
-}
-
-// A word of the image's own.
-fn put_own(out: &mut [u8], at: usize, image: &[u8], starts: &[usize], count: usize, x: u32) -> usize
-    requires { RoomFor out.old at image.now starts.now count x × (4 ≤ x) }
-    ensures { Placed out.old at (get_or (spelling image.now starts.now count) x []) out.new result }
-{
-    let i = (x - CORE) as usize;
-    let start = starts[i];
-    let n = image[start] as usize;
-    let from = start + 1;
-    let to = from + n;
-    put_text(out, at, &image[from..to])
+// An image, and where in it each of its words begins.
+#[derive(Clone, Copy)]
+pub struct Words<'a> {
+    pub image: &'a [u8],
+    pub starts: &'a [usize],
+    pub count: usize,
 }
 
 // The word of a symbol.
-pub fn put_symbol(
-    out: &mut [u8],
-    at: usize,
-    image: &[u8],
-    starts: &[usize],
-    count: usize,
-    x: u32,
-) -> usize
-    requires { RoomFor out.old at image.now starts.now count x }
-    ensures { Placed out.old at (get_or (spelling image.now starts.now count) x []) out.new result }
+fn word<'a>(words: Words<'a>, x: u32) -> &'a [u8]
+    requires { Spellable words.image.now words.starts.now words.count x }
+    ensures is { result.now ≡ get_or (spelling words.entry.image.now words.entry.starts.now words.entry.count) x [] }
+    ensures few { length result.now ≤ 32 }
 {
-    if x == 0 {
-        return put_text(out, at, b"lambda");
+    match x {
+        0 => b"lambda",
+        1 => b"let-syntax",
+        2 => b"quote",
+        3 => b"syntax",
+        _ => {
+            let start = words.starts[(x - CORE) as usize];
+            let from = start + 1;
+            let to = from + words.image[start] as usize;
+            &words.image[from..to]
+        }
     }
-    if x == 1 {
-        return put_text(out, at, b"let-syntax");
-    }
-    if x == 2 {
-        return put_text(out, at, b"quote");
-    }
-    if x == 3 {
-        return put_text(out, at, b"syntax");
-    }
-    put_own(out, at, image, starts, count, x)
+}
+
+// How long the word of a symbol is.
+pub fn symbol_len(words: Words, x: u32) -> usize
+    requires { Spellable words.image.now words.starts.now words.count x }
+    ensures is { result ≡ length (get_or (spelling words.entry.image.now words.entry.starts.now words.entry.count) x []) }
+    ensures few { result ≤ 32 }
+{
+    word(words, x).len()
+}
+
+pub fn put_symbol(out: &mut [u8], at: usize, words: Words, x: u32) -> usize
+    requires { RoomFor out.old at words.image.now words.starts.now words.count x }
+    ensures { Placed out.old at (get_or (spelling words.entry.image.now words.entry.starts.now words.entry.count) x []) out.new result }
+{
+    put_text(out, at, word(words, x))
 }
 
 // Where each word begins, from the place where the first does.
@@ -77,10 +58,8 @@ pub fn find_words(image: &[u8], first: usize, count: usize, starts: &mut [usize]
     ensures { FindsWords image.now first count starts.old starts.new }
 {
     let mut at = first;
-    let mut i = 0;
-    while i < count {
+    for i in 0..count {
         starts[i] = at;
-        at = at + 1 + image[at] as usize;
-        i += 1;
+        at += 1 + image[at] as usize;
     }
 }

@@ -10,41 +10,39 @@ pub struct Walk {
     pub depth: usize,
 }
 
-// What comes next, and where the walk stands after it. An atom is its tag and its content.
+// What comes next. An atom is its tag and its content.
 #[derive(Clone, Copy)]
 pub enum Step {
-    End,
-    Open(Walk),
-    Close(Walk),
-    Atom(u32, u32, Walk),
+    Open,
+    Close,
+    Atom(u32, u32),
 }
 
 const LIST: u32 = 5;
 
-// One step of a walk; `left` has for each open list how many of its parts are to come.
-pub fn take_step(image: &[u8], left: &mut [u32], w: Walk) -> Step
+// One step of a walk, and where the walk stands after it; `left` has for each open list how many of its parts are to come.
+pub fn take_step(image: &[u8], left: &mut [u32], w: Walk) -> Option<(Step, Walk)>
     requires { Walkable image.now left.old w }
     ensures { Steps image.now left.old w left.new result }
 {
-    let at = w.at;
-    let depth = w.depth;
+    let Walk { at, depth } = w;
     let top = depth - 1;
     let more = left[top];
     if more == 0 {
         if top == 0 {
-            return Step::End;
+            return None;
         }
-        return Step::Close(Walk { at, depth: top });
+        return Some((Step::Close, Walk { at, depth: top }));
     }
     left[top] = more - 1;
     let x = fronts::read_front(image, at);
-    let past = x.past;
     if x.tag == LIST {
         left[depth] = x.content;
-        return Step::Open(Walk {
-            at: past,
+        let inside = Walk {
+            at: x.past,
             depth: depth + 1,
-        });
+        };
+        return Some((Step::Open, inside));
     }
-    Step::Atom(x.tag, x.content, Walk { at: past, depth })
+    Some((Step::Atom(x.tag, x.content), Walk { at: x.past, depth }))
 }

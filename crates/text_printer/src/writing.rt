@@ -6,6 +6,7 @@ ghost use Rattle.text_printer.specs.Atoms.{atom_text};
 ghost use Rattle.text_printer.specs.Spelling.{spelling};
 ghost use Rattle.text_printer.specs.Printing.{print_of, SpacedRoom, TextRoom};
 
+use crate::spelling::Words;
 use crate::walking::{Step, Walk};
 use crate::{atoms, walking};
 
@@ -32,56 +33,38 @@ fn put_paren(out: &mut [u8], at: usize, due: bool, paren: u8) -> usize
 }
 
 // An atom.
-fn put_spaced(
-    out: &mut [u8],
-    at: usize,
-    due: bool,
-    image: &[u8],
-    starts: &[usize],
-    count: usize,
-    tag: u32,
-    content: u32,
-) -> usize
-    requires { SpacedRoom out.old at due image.now starts.now count tag content }
-    ensures { Placed out.old at (space_if due (atom_text (spelling image.now starts.now count) tag content)) out.new result }
+fn put_spaced(out: &mut [u8], at: usize, due: bool, words: Words, tag: u32, content: u32) -> usize
+    requires { SpacedRoom out.old at due words.image.now words.starts.now words.count tag content }
+    ensures { Placed out.old at (space_if due (atom_text (spelling words.entry.image.now words.entry.starts.now words.entry.count) tag content)) out.new result }
 {
     let behind = put_space(out, at, due);
-    atoms::put_atom(out, behind, image, starts, count, tag, content)
+    atoms::put_atom(out, behind, words, tag, content)
 }
 
-pub fn put_all(
-    out: &mut [u8],
-    image: &[u8],
-    starts: &[usize],
-    count: usize,
-    left: &mut [u32],
-    root: usize,
-) -> usize
-    requires { TextRoom out.old image.now starts.now count left.old root }
-    ensures { Placed out.old 0 (print_of image.now) out.new result }
+pub fn put_all(out: &mut [u8], words: Words, left: &mut [u32], root: usize) -> usize
+    requires { TextRoom out.old words.image.now words.starts.now words.count left.old root }
+    ensures { Placed out.old 0 (print_of words.entry.image.now) out.new result }
 {
     left[0] = 1;
     let mut w = Walk { at: root, depth: 1 };
     let mut due = false;
     let mut to = 0;
-    loop {
-        match walking::take_step(image, left, w) {
-            Step::End => return to,
-            Step::Open(next) => {
+    while let Some((step, next)) = walking::take_step(words.image, left, w) {
+        match step {
+            Step::Open => {
                 to = put_paren(out, to, due, b'(');
                 due = false;
-                w = next;
             }
-            Step::Close(next) => {
+            Step::Close => {
                 to = put_paren(out, to, false, b')');
                 due = true;
-                w = next;
             }
-            Step::Atom(tag, content, next) => {
-                to = put_spaced(out, to, due, image, starts, count, tag, content);
+            Step::Atom(tag, content) => {
+                to = put_spaced(out, to, due, words, tag, content);
                 due = true;
-                w = next;
             }
         }
+        w = next;
     }
+    to
 }

@@ -1,5 +1,5 @@
-use Rattle.text_printer.proofs.AtomLaws.{decimal_laws}
 use Rattle.std.proofs.Common.{rules}
+use Rattle.text_printer.proofs.AtomLaws.{decimal_laws}
 use Rattle.text_printer.proofs.lengths.decimal_len.Goals as goal
 
 pub loop-v-init : goal.loop-v-init
@@ -7,9 +7,6 @@ loop-v-init c = search (decimal_laws, rules)
 
 pub overflow_add-len : goal.overflow_add-len
 overflow_add-len c = search (decimal_laws, rules)
-
-pub loop-v-smaller : goal.loop-v-smaller
-loop-v-smaller c = search (decimal_laws, rules)
 
 pub loop-v-preserved : goal.loop-v-preserved
 loop-v-preserved c = search (decimal_laws, rules)
