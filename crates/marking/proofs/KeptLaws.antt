@@ -1,13 +1,11 @@
 -- The marked bindings counted and joined, the last first, by the steps that the code takes.
-use Prim.Native.Nat.{ℕ, suc, ◌+◌, ◌-◌, ◌*◌, ◌≤◌, ◌<◌}
+use Prim.Native.Nat.{ℕ, suc, ◌+◌, ◌-◌, ◌≤◌, ◌<◌}
 use mathlib.Core.Path.{◌≡◌, refl, sym, ap, ◌∙◌}
 use mathlib.Core.Bool.{Bool, true, false, not}
 use mathlib.Core.List.{List, [], ◌∷◌}
 use native.Mathlib.Omega.{arith}
 use lib.Bits.{bit_or}
 use lib.ListN.{length, get_or}
-use mir.Syntax.{w64}
-use mir.Val.{Fits}
 use borrow.Author.Tests.{eq-eqb, ne_eqb}
 use Rattle.model.specs.Choice.{when◌then◌else◌}
 use Rattle.model.specs.Scopes.{Scopes}
@@ -91,14 +89,8 @@ module _ {store marks : List ℕ} {used : Scopes} {count : ℕ} {scopes : Scopes
     one_back : suc (i - 1) ≡ i
     one_back = omega arith
 
-    pub gathering_place : i - 1 < length marks
+    gathering_place : i - 1 < length marks
     gathering_place = let a = g.inside in omega arith
-
-    pub gathering_held : length marks * 6 ≤ length store → (i - 1) * 6 + 6 ≤ length store
-    gathering_held k = let a = g.inside in omega arith
-
-    pub gathering_fits : Fits w64 (length marks) → Fits w64 (count + 1)
-    gathering_fits f = let a = g.few in omega arith
 
     behind-is : kept_behind store marks (suc (i - 1)) ≡ kept_behind store marks i
     behind-is = ap (kept_behind store marks) one_back
@@ -129,4 +121,4 @@ module _ {store marks : List ℕ} {used : Scopes} {count : ℕ} {scopes : Scopes
               ∙ ap (λ (l : List Bind). bit_or (scopes_bound l) used) (sym k);
         }
 
-pub ruleset kept_laws = (gathering_start, gathering_end, gathering_place, gathering_held, gathering_fits, gathering_absent, gathering_there)
+pub ruleset kept_laws = (gathering_start, gathering_end, gathering_absent, gathering_there)

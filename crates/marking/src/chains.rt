@@ -9,13 +9,9 @@ pub fn chain(store: &[u64], lasts: &mut [usize], befores: &mut [usize])
     requires { Unchained store.now lasts.old befores.old }
     ensures { Chains store.now lasts.old befores.old lasts.new befores.new }
 {
-    let mut i = 0;
-    while i < befores.len() {
-        let b = bindings::get(store, i);
-        let symbol = b.symbol;
-        let x = symbol.0 as usize;
+    for i in 0..befores.len() {
+        let x = bindings::get(store, i).symbol.0 as usize;
         befores[i] = lasts[x];
-        i += 1;
-        lasts[x] = i;
+        lasts[x] = i + 1;
     }
 }

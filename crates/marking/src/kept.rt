@@ -20,13 +20,9 @@ pub fn gather(store: &[u64], marks: &[u8], used: ScopeSet) -> Kept
 {
     let mut count = 0;
     let mut scopes = used;
-    let mut i = marks.len();
-    while 0 < i {
-        i -= 1;
+    for i in (0..marks.len()).rev() {
         if marks[i] != 0 {
-            let b = bindings::get(store, i);
-            let set = b.set;
-            scopes = set.union(scopes);
+            scopes = bindings::get(store, i).set.union(scopes);
             count += 1;
         }
     }

@@ -10,19 +10,11 @@ use store::bindings;
 use table::Sets;
 
 // At some phase.
+#[tactic(auto, unfolding(shrinking::specs::Shrunk::contains))]
 fn contained(set: ScopeSet, sets: Sets) -> bool
     ensures { result ≡ contains (scopes_of set) (sets_of sets) }
 {
-    let at0 = sets.at0;
-    let at1 = sets.at1;
-    let at2 = sets.at2;
-    if set.within(at0) {
-        return true;
-    }
-    if set.within(at1) {
-        return true;
-    }
-    set.within(at2)
+    set.within(sets.at0) || set.within(sets.at1) || set.within(sets.at2)
 }
 
 // Marks the bindings of the identifier with symbol x.
@@ -34,8 +26,7 @@ pub fn mark(store: &[u64], lasts: &[usize], befores: &[usize], marks: &mut [u8],
     while 0 < place {
         let i = place - 1;
         place = befores[i];
-        let b = bindings::get(store, i);
-        if contained(b.set, sets) {
+        if contained(bindings::get(store, i).set, sets) {
             marks[i] = 1;
         }
     }

@@ -12,16 +12,15 @@ use table::Sets;
 const SYMBOL: u32 = 0;
 
 // The scopes of all three phases.
+#[tactic(auto, unfolding(shrinking::specs::Shrunk::joined))]
 fn all_scopes(sets: Sets) -> ScopeSet
     ensures { scopes_of result ≡ joined (sets_of sets) }
 {
-    let at0 = sets.at0;
-    let at1 = sets.at1;
-    let later = at1.union(sets.at2);
-    at0.union(later)
+    sets.at0.union(sets.at1.union(sets.at2))
 }
 
-// Marks the bindings that the root uses, and gives its scopes. The root begins at `root` and ends the image.
+// Marks the bindings that the root uses, and gives its scopes. The root begins at `root` and ends the image. A while, here and in
+// ranking::roots: a piece's length is known when it is read.
 pub fn mark_root(
     image: &[u8],
     root: usize,
@@ -38,11 +37,10 @@ pub fn mark_root(
     let mut used = ScopeSet::empty();
     while at < image.len() {
         let x = builder::read_front(image, at, scopes);
-        let sets = x.sets;
         at = x.past;
-        used = used.union(all_scopes(sets));
+        used = used.union(all_scopes(x.sets));
         if x.tag == SYMBOL {
-            marks::mark(store, lasts, befores, marks, x.number, sets);
+            marks::mark(store, lasts, befores, marks, x.number, x.sets);
         }
     }
     used

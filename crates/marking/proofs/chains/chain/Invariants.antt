@@ -1,10 +1,5 @@
-use Prim.Native.Nat.{◌-◌}
-use lib.ListN.{length}
 use Rattle.marking.proofs.ChainLaws.{Chaining}
 use Rattle.marking.proofs.chains.chain.Given as goal
 
 abbrev pub invariant-loop-i : goal.invariant-loop-i
 invariant-loop-i l = Chaining l.store l.initial.lasts l.initial.befores l.lasts l.befores l.i
-
-abbrev pub decreases-loop-i : goal.decreases-loop-i
-decreases-loop-i l = length l.initial.befores - l.i

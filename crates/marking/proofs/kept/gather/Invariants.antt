@@ -4,6 +4,3 @@ use Rattle.marking.proofs.kept.gather.Given as goal
 
 abbrev pub invariant-loop-i : goal.invariant-loop-i
 invariant-loop-i l = Gathering l.store l.marks (scopes_of l.initial.scopes) l.count (scopes_of l.scopes) l.i
-
-abbrev pub decreases-loop-i : goal.decreases-loop-i
-decreases-loop-i l = l.i

@@ -2,20 +2,8 @@ use Rattle.marking.proofs.RootLaws.{root_laws}
 use Rattle.std.proofs.Common.{rules}
 use Rattle.marking.proofs.roots.mark_root.Goals as goal
 
-pub empty-used-requires : goal.empty-used-requires
-empty-used-requires c = search (root_laws, rules)
-
-pub loop-at-init : goal.loop-at-init
-loop-at-init c = search (root_laws, rules)
-
 pub read_front-x-requires : goal.read_front-x-requires
 read_front-x-requires c = search (root_laws, rules)
-
-pub all_scopes-requires : goal.all_scopes-requires
-all_scopes-requires c = search (root_laws, rules)
-
-pub union-used-requires : goal.union-used-requires
-union-used-requires c = search (root_laws, rules)
 
 pub mark-requires : goal.mark-requires
 mark-requires c = search (root_laws, rules)
