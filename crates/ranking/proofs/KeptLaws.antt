@@ -1,5 +1,5 @@
 -- The marked bindings written one after another, by the steps that the code takes.
-use Prim.Native.Nat.{ℕ, suc, ◌+◌, ◌-◌, ◌*◌, ◌≤◌, ◌<◌}
+use Prim.Native.Nat.{ℕ, suc, ◌+◌, ◌-◌, ◌≤◌, ◌<◌}
 use mathlib.Core.Path.{◌≡◌, refl, sym, ap, ◌∙◌, subst}
 use mathlib.Core.List.{List, [], ◌∷◌, ◌++◌}
 use native.Mathlib.Omega.{arith}
@@ -40,9 +40,6 @@ keeping_start {out} {at} {ranks} {store} {marks} r = record {
 }
 
 module _ {out₀ : List ℕ} {at : ℕ} {ranks store marks out : List ℕ} {here i : ℕ} (k : Keeping out₀ at ranks store marks out here i) where
-  pub keeping-same : length out ≡ length out₀
-  keeping-same = k.placing.same
-
   pub keeping-end : length marks ≤ i → Placed out₀ at (binds_by ranks (kept_of marks store)) out here
   keeping-end h =
       let n = k.inside in
@@ -50,12 +47,6 @@ module _ {out₀ : List ℕ} {at : ℕ} {ranks store marks out : List ℕ} {here
       ended (subst (Placing out₀ at (binds_by ranks (kept_of marks store)) out here) (ap (binds_by ranks) (kept-none store marks i z) ∙ by-none ranks) k.placing)
 
   module _ (h : i < length marks) where
-    pub keeping-held : i * 6 + 6 ≤ length store
-    keeping-held = let a = k.room.held in omega arith
-
-    pub keeping_less : length marks - (i + 1) < length marks - i
-    keeping_less = omega arith
-
     pub keeping_absent : get_or marks i 0 ≡ 0 → Keeping out₀ at ranks store marks out here (i + 1)
     keeping_absent e = record {
       room = k.room;
@@ -88,4 +79,4 @@ module _ {out₀ : List ℕ} {at : ℕ} {ranks store marks out : List ℕ} {here
         placing = placing_more {xs = bind_by ranks binding} (subst (Placing out₀ at (binds_by ranks (kept_of marks store)) out here) next k.placing) w;
       }
 
-pub ruleset kept_laws = (keeping_start, keeping-same, keeping-end, keeping-held, keeping_less, keeping_absent, keeping-room, keeping-there)
+pub ruleset kept_laws = (keeping_start, keeping-end, keeping_absent, keeping-room, keeping-there)

@@ -7,15 +7,13 @@ use native.Mathlib.Omega.{arith}
 use lib.Dec.{eqb}
 use lib.ListN.{length, get_or, set, length-set}
 use lib.Seq.{get_or-set_same, get_or-set_other}
-use mir.Syntax.{w32}
-use mir.Val.{Fits}
 use borrow.Author.Tests.{le-leb, lt-leb, eqb-true, eqb-false}
-use Rattle.model.specs.Scopes.{Scope, Scopes, has, members}
+use Rattle.model.specs.Scopes.{Scopes, has, members}
 use Rattle.shrinking.specs.Shrunk.{rank_in, rank}
 use Rattle.scopes.specs.declared.Scope as code
 use Rattle.scopes.specs.Sets.{Declared}
 use Rattle.sets.proofs.Writing.{above, above_all, above_none, above_there, above_absent}
-use Rattle.ranking.specs.Ranks.{RankBefore, RankIs, Ranked}
+use Rattle.ranking.specs.Ranks.{Ranked}
 
 -- ---- a scope's rank, and the scopes above it, are all that remain
 
@@ -82,109 +80,78 @@ module _ (u : Scopes) (k : ℕ) (h : k < 256) {b : Bool} (e : b ≡ has (k + 1) 
   rank_absent : b ≡ false → rank u (k + 1) ≡ rank u k
   rank_absent t = let a = rank-all u k (omega arith) in let c = rank-all u (k + 1) (omega arith) in let s = ap length (above_absent k u h e t) in omega arith
 
--- ---- the next rank
-
-module _ {u : Scopes} {k n : ℕ} (r : RankBefore u k n) where
-  back : k - 1 + 1 ≡ k
-  back = let a = r.from_one in omega arith
-
-  low : k - 1 < 256
-  low = let a = r.from_one in let b = r.most in omega arith
-
-  pub rank-declared : {j : code.Scope} → j.0 ≡ k → Declared j
-  rank-declared e = let a = r.from_one in let b = r.most in record { from_one = omega arith; most = omega arith }
-
-  pub rank-fits : Fits w32 (n + 1)
-  rank-fits = let a = r.few in let b = r.most in omega arith
-
-  module _ {b : Bool} (e : b ≡ has k u) where
-    here : b ≡ has (k - 1 + 1) u
-    here = e ∙ ap (λ (j : ℕ). has j u) (sym back)
-
-    pub rank-counted : b ≡ true → RankIs u k (n + 1)
-    rank-counted t =
-        let a = rank-there u (k - 1) low here t in
-        let c = ap (rank u) back in
-        let d = r.is in
-        record { few = let f = r.few in omega arith; is = omega arith }
-
-    pub rank_passed : b ≡ false → RankIs u k n
-    rank_passed t =
-        let a = rank_absent u (k - 1) low here t in
-        let c = ap (rank u) back in
-        let d = r.is in
-        record { few = let f = r.few in omega arith; is = omega arith }
-
-pub ruleset rank_laws = (rank-declared, rank-fits, rank-counted, rank_passed)
-
 -- ---- all of them
 
--- those up to k are there
+-- those below k are there, and n is that of the scope before k
 pub record Filling (u : Scopes) (ranks₀ ranks : List ℕ) (n k : ℕ) : Type 0 where
   pub same : length ranks ≡ length ranks₀
   pub long : 256 < length ranks
-  pub most : k ≤ 256
-  pub few : n ≤ k
-  pub is : n ≡ rank u k
-  pub are : (j : ℕ) → j ≤ k → get_or ranks j 0 ≡ rank u j
+  pub from_one : 1 ≤ k
+  pub most : k ≤ 257
+  pub few : n < k
+  pub is : n ≡ rank u (k - 1)
+  pub are : (j : ℕ) → j < k → get_or ranks j 0 ≡ rank u j
 
-pub filling_start : (u : Scopes) (ranks : List ℕ) → 256 < length ranks → Filling u (set ranks 0 0) (set ranks 0 0) 0 0
+pub filling_start : (u : Scopes) (ranks : List ℕ) → 256 < length ranks → Filling u (set ranks 0 0) (set ranks 0 0) 0 1
 filling_start u ranks h = record {
   same = refl;
   long = let l = length-set ranks 0 0 in omega arith;
+  from_one = omega arith;
   most = omega arith;
   few = omega arith;
   is = sym (rank-zero u);
   are = λ j l. ap (λ (i : ℕ). get_or (set ranks 0 0) i 0) (let z : j ≡ 0 = omega arith in z) ∙ get_or-set_same ranks 0 0 0 (omega arith) ∙ sym (ap (rank u) (let z : j ≡ 0 = omega arith in z) ∙ rank-zero u);
 }
 
-pub filling_first : (ranks : List ℕ) → 256 < length ranks → 0 < length ranks
-filling_first ranks h = omega arith
-
-pub filling_long : (ranks : List ℕ) (v : ℕ) (l : List ℕ) → length l ≡ length (set ranks 0 v) → length l ≡ length ranks
-filling_long ranks v l e = e ∙ length-set ranks 0 v
-
 module _ {u : Scopes} {ranks₀ ranks : List ℕ} {n k : ℕ} (f : Filling u ranks₀ ranks n k) where
-  pub filling_same : length ranks ≡ length ranks₀
-  filling_same = f.same
+  pub filling_end : 256 < k → Ranked u ranks
+  filling_end h = record { long = f.long; are = λ j l. f.are j (omega arith) }
 
-  pub filling_end : 256 ≤ k → Ranked u ranks
-  filling_end h = record { long = f.long; are = λ j l. f.are j (let m = f.most in omega arith) }
+  module _ (h : k ≤ 256) where
+    pub filling_declared : {j : code.Scope} → j.0 ≡ k → Declared j
+    filling_declared e = let a = f.from_one in record { from_one = omega arith; most = omega arith }
 
-  module _ (h : k < 256) where
-    pub filling_before : RankBefore u (k + 1) n
-    filling_before = record {
+    back : k - 1 + 1 ≡ k
+    back = let a = f.from_one in omega arith
+
+    -- the scope k has the number r
+    onward : (r : ℕ) → r ≡ rank u k → r ≤ k → Filling u ranks₀ (set ranks k r) r (k + 1)
+    onward r e m = record {
+      same = length-set ranks k r ∙ f.same;
+      long = let l = f.long in let s = length-set ranks k r in omega arith;
       from_one = omega arith;
       most = omega arith;
-      few = let a = f.few in omega arith;
-      is = f.is ∙ ap (rank u) (let z : k ≡ k + 1 - 1 = omega arith in z);
-    }
-
-    pub filling_place : k + 1 < length ranks
-    filling_place = let l = f.long in omega arith
-
-    pub filling_on : {r : ℕ} → RankIs u (k + 1) r → Filling u ranks₀ (set ranks (k + 1) r) r (k + 1)
-    filling_on {r} q = record {
-      same = length-set ranks (k + 1) r ∙ f.same;
-      long = let l = f.long in let s = length-set ranks (k + 1) r in omega arith;
-      most = omega arith;
-      few = q.few;
-      is = q.is;
-      are = λ j l. go j l (eqb j (k + 1)) refl;
+      few = omega arith;
+      is = e ∙ ap (rank u) (let z : k ≡ k + 1 - 1 = omega arith in z);
+      are = λ j l. go j l (eqb j k) refl;
     }
       where
-        go : (j : ℕ) → j ≤ k + 1 → (t : Bool) → eqb j (k + 1) ≡ t → get_or (set ranks (k + 1) r) j 0 ≡ rank u j
-        go j l true e =
-            let z = eqb-true j (k + 1) e in
-            ap (λ (i : ℕ). get_or (set ranks (k + 1) r) i 0) z ∙ get_or-set_same ranks (k + 1) r 0 filling_place ∙ q.is ∙ ap (rank u) (sym z)
-        go j l false e =
-            let z = eqb-false j (k + 1) e in
-            get_or-set_other ranks (k + 1) j r 0 z ∙ f.are j (omega arith)
+        go : (j : ℕ) → j < k + 1 → (t : Bool) → eqb j k ≡ t → get_or (set ranks k r) j 0 ≡ rank u j
+        go j l true q =
+            let z = eqb-true j k q in
+            ap (λ (i : ℕ). get_or (set ranks k r) i 0) z ∙ get_or-set_same ranks k r 0 (let a = f.long in omega arith) ∙ e ∙ ap (rank u) (sym z)
+        go j l false q =
+            let z = eqb-false j k q in
+            get_or-set_other ranks k j r 0 z ∙ f.are j (omega arith)
 
-    pub filling_fits : Fits w32 (k + 1)
-    filling_fits = omega arith
+    module _ {b : Bool} (e : b ≡ has k u) where
+      here : b ≡ has (k - 1 + 1) u
+      here = e ∙ ap (λ (j : ℕ). has j u) (sym back)
 
-    pub filling_less : 256 - (k + 1) < 256 - k
-    filling_less = omega arith
+      pub filling_there : b ≡ true → Filling u ranks₀ (set ranks k (n + 1)) (n + 1) (k + 1)
+      filling_there t =
+          let a = rank-there u (k - 1) (let o = f.from_one in omega arith) here t in
+          let c = ap (rank u) back in
+          let d = f.is in
+          let g = f.few in
+          onward (n + 1) (omega arith) (omega arith)
 
-pub ruleset fill_laws = (filling_start, filling_first, filling_long, filling_same, filling_end, filling_before, filling_place, filling_on, filling_fits, filling_less)
+      pub filling_absent : b ≡ false → Filling u ranks₀ (set ranks k n) n (k + 1)
+      filling_absent t =
+          let a = rank_absent u (k - 1) (let o = f.from_one in omega arith) here t in
+          let c = ap (rank u) back in
+          let d = f.is in
+          let g = f.few in
+          onward n (omega arith) (omega arith)
+
+pub ruleset fill_laws = (filling_start, filling_end, filling_declared, filling_there, filling_absent)

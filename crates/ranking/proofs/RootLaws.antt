@@ -1,5 +1,5 @@
 -- The root written piece by piece, by the steps that the code takes.
-use Prim.Native.Nat.{ℕ, ◌+◌, ◌-◌, ◌≤◌, ◌<◌}
+use Prim.Native.Nat.{ℕ, ◌-◌, ◌≤◌, ◌<◌}
 use mathlib.Core.Path.{◌≡◌, refl, sym, ap, ◌∙◌, subst}
 use mathlib.Core.List.{List, [], ◌∷◌, ◌++◌}
 use native.Mathlib.Omega.{arith}
@@ -33,9 +33,6 @@ pub rooting_start : {out : List ℕ} {at : ℕ} {ranks image : List ℕ} {scopes
 rooting_start {image = image} r = record { room = r.room; rest = root_pieces image; ahead = r.ahead; placing = begun }
 
 module _ {out₀ : List ℕ} {at : ℕ} {ranks image : List ℕ} {scopes : ℕ} {out : List ℕ} {here from : ℕ} (r : Rooting out₀ at ranks image scopes out here from) where
-  pub rooting_same : length out ≡ length out₀
-  rooting_same = r.placing.same
-
   pub rooting_end : length image ≤ from → Placed out₀ at (pieces_by ranks (root_pieces image)) out here
   rooting_end h = ended (subst (Placing out₀ at (pieces_by ranks (root_pieces image)) out here) (ap (pieces_by ranks) (ahead-end r.ahead h) ∙ by-none ranks) r.placing)
 
@@ -76,4 +73,4 @@ module _ {out₀ : List ℕ} {at : ℕ} {ranks image : List ℕ} {scopes : ℕ} 
         placing = placing_more {xs = piece_by ranks read} (subst (Placing out₀ at (pieces_by ranks (root_pieces image)) out here) bytes r.placing) w;
       }
 
-pub ruleset root_laws = (rooting_start, rooting_same, rooting_end, rooting_here, rooting_less, rooting_room, rooting_on)
+pub ruleset root_laws = (rooting_start, rooting_end, rooting_here, rooting_less, rooting_room, rooting_on)

@@ -12,12 +12,9 @@ fn put_binding(out: &mut [u8], at: usize, b: Binding, ranks: &[u32]) -> usize
     requires { RoomFor out.old at ranks.now (bind_by ranks.now (bind_of b)) }
     ensures { Placed out.old at (bind_by ranks.now (bind_of b)) out.new result }
 {
-    let symbol = b.symbol;
-    let target = b.target;
-    let set = b.set;
-    let second = numbers::put_number(out, at, symbol.0);
-    let third = numbers::put_number(out, second, target.0);
-    numbered::put_set(out, third, set, ranks)
+    let second = numbers::put_number(out, at, b.symbol.0);
+    let third = numbers::put_number(out, second, b.target.0);
+    numbered::put_set(out, third, b.set, ranks)
 }
 
 // There are as many bindings as marks.
@@ -26,12 +23,9 @@ pub fn put_kept(out: &mut [u8], at: usize, store: &[u64], marks: &[u8], ranks: &
     ensures { Placed out.old at (binds_by ranks.now (kept_of marks.now store.now)) out.new result }
 {
     let mut here = at;
-    let mut i = 0;
-    while i < marks.len() {
-        let k = i;
-        i += 1;
-        if marks[k] != 0 {
-            here = put_binding(out, here, bindings::get(store, k), ranks);
+    for (i, &mark) in marks.iter().enumerate() {
+        if mark != 0 {
+            here = put_binding(out, here, bindings::get(store, i), ranks);
         }
     }
     here

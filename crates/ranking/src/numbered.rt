@@ -7,7 +7,8 @@ ghost use Rattle.ranking.specs.Numbered.{members_by, set_by, sets_by, MembersRoo
 use scopes::{Scope, ScopeSet};
 use table::Sets;
 
-// The members, of which there are `count`; the place past them.
+// The members, of which there are `count`; the place past them. A while: two things move, and it ends at the last member, not at the last scope.
+// sets::put_members writes the numbers as they are: one function of both, lent a closure for the number, would ask of it what the list says here.
 fn put_members(out: &mut [u8], at: usize, set: ScopeSet, count: u32, ranks: &[u32]) -> usize
     requires { MembersRoom out.old at ranks.now (scopes_of set) count }
     ensures { Placed out.old at (members_by ranks.now (scopes_of set)) out.new result }

@@ -5,26 +5,14 @@ use Rattle.ranking.proofs.numbered.put_members.Goals as goal
 pub loop-left-init : goal.loop-left-init
 loop-left-init c = search (member_laws, rules)
 
-pub overflow_add-k : goal.overflow_add-k
-overflow_add-k c = search (member_laws, rules)
-
 pub has-requires : goal.has-requires
 has-requires c = search (member_laws, rules)
-
-pub overflow_cast-k : goal.overflow_cast-k
-overflow_cast-k c = search (member_laws, rules)
-
-pub offset_bounds-ranks-k : goal.offset_bounds-ranks-k
-offset_bounds-ranks-k c = search (member_laws, rules)
 
 pub bounds-ranks-k : goal.bounds-ranks-k
 bounds-ranks-k c = search (member_laws, rules)
 
 pub put_number-here-requires : goal.put_number-here-requires
 put_number-here-requires c = search (member_laws, rules)
-
-pub overflow_sub-left : goal.overflow_sub-left
-overflow_sub-left c = search (member_laws, rules)
 
 pub loop-left-smaller-then-has : goal.loop-left-smaller-then-has
 loop-left-smaller-then-has c = search (member_laws, rules)

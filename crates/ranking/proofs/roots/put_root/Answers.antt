@@ -2,9 +2,6 @@ use Rattle.ranking.proofs.RootLaws.{root_laws}
 use Rattle.std.proofs.Common.{rules}
 use Rattle.ranking.proofs.roots.put_root.Goals as goal
 
-pub loop-from-init : goal.loop-from-init
-loop-from-init c = search (root_laws, rules)
-
 pub read_front-x-requires : goal.read_front-x-requires
 read_front-x-requires c = search (root_laws, rules)
 
