@@ -1,5 +1,5 @@
 -- The job, by the steps that the code takes.
-use Prim.Native.Nat.{ℕ, zero, suc, ◌+◌, ◌-◌, ◌≤◌, ◌<◌, min}
+use Prim.Native.Nat.{ℕ, zero, suc, ◌+◌, ◌≤◌, ◌<◌, min}
 use mathlib.Core.Path.{◌≡◌, refl, sym, ap, ◌∙◌, subst}
 use mathlib.Core.Logic.{inl}
 use mathlib.Core.List.{List, [], ◌++◌}
@@ -19,18 +19,15 @@ use Rattle.refusals.specs.declared.Refusal.{Refusal}
 use Rattle.refusals.specs.declared.Refusal.TheVariants as refusal
 use Rattle.scopes.specs.Sets.{scopes_of}
 use Rattle.image.specs.declared.Judgement.{Judgement}
-use Rattle.image.specs.declared.Judged.{Judged}
-use Rattle.image.specs.declared.Judged.TheVariants as judged
-use Rattle.image.specs.Judging.{syntax_kind, judged_as, Good, Judges}
+use Rattle.std.specs.Prelude.{Result, Ok, Err}
+use Rattle.image.specs.Judging.{syntax_kind, judged_as, Judges}
 use Rattle.finish.specs.declared.Ending.{Ending}
 use Rattle.finish.specs.declared.Ending.TheVariants.{Refused, Written}
 use Rattle.finish.specs.Ends.{EndsAs}
 use Rattle.finish.proofs.Ends.{ends-refused, ends_too_long, ends-written}
-use Rattle.text.specs.Placing.{Placed}
-use Rattle.text.proofs.Placing.{placed-length}
 use Rattle.marking.specs.declared.kept.Kept.{Kept}
 use Rattle.ranking.specs.Ranks.{Ranked}
-use Rattle.shrinker.specs.Using.{Held, Unused, Uses}
+use Rattle.shrinker.specs.Using.{Uses}
 use Rattle.shrinker.specs.Job.{Begun, Roomy, Writable, Makes, Shrinks}
 use Rattle.shrinker.specs.Job as job
 
@@ -43,24 +40,15 @@ module _ (bytes out : List ℕ) (short : length bytes ≤ 65536) where
   pub finish_long : length out < length bytes → job.Fits bytes out out (Refused refusal.TooLong 0)
   finish_long h = ends_too_long bytes out 0 (inl h)
 
-  pub finish_room : length bytes ≤ length out → 0 + length bytes ≤ length out
-  finish_room h = omega arith
+  pub finish_written : {v : List ℕ} → length bytes ≤ length out → v ≡ bytes → job.Fits bytes out (v ++ drop (length bytes) out) (Written (length bytes) 0)
+  finish_written h e = ends-written bytes out 0 refl h short (ap (λ (z : List ℕ). z ++ drop (length bytes) out) e)
 
-  pub finish_written : {out' : List ℕ} {r : ℕ} → length bytes ≤ length out → Placed out 0 bytes out' r → job.Fits bytes out out' (Written (length bytes) 0)
-  finish_written h w = ends-written bytes out 0 refl h short (w.is ∙ start_is bytes out h)
-
-pub ruleset finish_laws = (finish_long, finish_room, finish_written, placed-length)
+pub ruleset finish_laws = (finish_long, finish_written)
 
 -- ---- with places for chains and marks
 
 module _ {image store : List ℕ} {j : Judgement} {lasts befores marks scratch : List ℕ} (y : Begun image store j lasts befores marks scratch) where
-  pub with_unused : Unused image store j lasts befores marks
-  with_unused = y.unused
-
   module _ {marks' : List ℕ} {k : Kept} (u : Uses image store marks marks' k) where
-    pub with_same : length marks' ≡ length marks
-    with_same = u.long
-
     pub with_writable : {ranks : List ℕ} → Ranked (scopes_of k.scopes) ranks → Writable image store j marks' k ranks scratch
     with_writable {ranks} r = record {
       held = y.unused.held;
@@ -71,13 +59,7 @@ module _ {image store : List ℕ} {j : Judgement} {lasts befores marks scratch :
       room = y.room;
     }
 
-pub made-same : {image scratch scratch' : List ℕ} {r : ℕ} → Makes image scratch scratch' r → length scratch' ≡ length scratch
-made-same v = placed-length v.placed
-
-pub ranks_room : 256 < length (replicate {A = ℕ} 257 0)
-ranks_room = let e : length (replicate {A = ℕ} 257 0) ≡ 257 = length-replicate {A = ℕ} 257 0 in omega arith
-
-pub ruleset with_laws = (with_unused, with_same, with_writable, made-same, ranks_room)
+pub ruleset with_laws = (with_writable)
 
 -- ---- the places
 
@@ -99,9 +81,6 @@ module _ {image store : List ℕ} {j : Judgement} {scratch : List ℕ} (y : Room
   taken-long : length (take j.bindings (replicate {A = ℕ} 512 0)) ≡ j.bindings
   taken-long = let e = length-replicate {A = ℕ} 512 0 in let f = make_count in length-take j.bindings (replicate {A = ℕ} 512 0) ∙ (let z : min j.bindings (length (replicate {A = ℕ} 512 0)) ≡ j.bindings = omega arith in z)
 
-  pub make_taken : j.bindings ≡ length (take j.bindings (replicate {A = ℕ} 512 0))
-  make_taken = sym taken-long
-
   pub make_begun : Begun image store j (replicate 1024 0) (take j.bindings (replicate 512 0)) (take j.bindings (replicate 512 0)) scratch
   make_begun = record {
     unused = record {
@@ -115,25 +94,13 @@ module _ {image store : List ℕ} {j : Judgement} {scratch : List ℕ} (y : Room
     room = y.room;
   }
 
-pub ruleset make_laws = (make_count, make_taken, make_begun, made-same)
+pub ruleset make_laws = (make_begun)
 
 -- ---- of a judged image
-
-pub scratch_room : 65536 ≤ length (replicate {A = ℕ} 65536 0)
-scratch_room = let e : length (replicate {A = ℕ} 65536 0) ≡ 65536 = length-replicate {A = ℕ} 65536 0 in omega arith
 
 module _ {image scratch scratch' : List ℕ} {r : ℕ} (room : 65536 ≤ length scratch) (v : Makes image scratch scratch' r) where
   fits : length (smaller image) ≤ length scratch
   fits = let a = v.short in let b = v.placed.ends in omega arith
-
-  pub good-within : r ≤ length scratch'
-  good-within = let a = v.short in let b = placed-length v.placed in omega arith
-
-  pub good-short : length (take r scratch') ≤ 65536
-  good-short = let a = v.short in let b = length-take r scratch' in omega arith
-
-  pub good-taken : r ≡ length (take r scratch')
-  good-taken = let a = good-within in let b = length-take r scratch' in omega arith
 
   taken : take r scratch' ≡ smaller image
   taken = ap (take r) (v.placed.is ∙ start_is (smaller image) scratch fits) ∙ take_at (smaller image) (drop (length (smaller image)) scratch) r (let e = v.placed.ends in omega arith)
@@ -141,7 +108,7 @@ module _ {image scratch scratch' : List ℕ} {r : ℕ} (room : 65536 ≤ length 
   pub good-made : {out out' : List ℕ} {e : Ending} → job.Fits (take r scratch') out out' e → job.Fits (smaller image) out out' e
   good-made {out} {out'} {e} f = subst (λ (b : List ℕ). EndsAs (fitted (length out) b 0) out out' e) taken f
 
-pub ruleset good_laws = (scratch_room, good-within, good-short, good-taken, good-made)
+pub ruleset good_laws = (good-made)
 
 -- ---- judged
 
@@ -164,22 +131,14 @@ unfolding shrink_ending
 ending_fault image f room e =
     ap (λ z. with_image z (λ x. fitted room (bytes_of (shrunk x)) 0)) e ∙ with_fault (refusal_of f) (λ x. fitted room (bytes_of (shrunk x)) 0)
 
-module _ {image store : List ℕ} {r : Judged} (h : Judges syntax_kind image store r) where
-  pub job_fault : {out : List ℕ} {f : Refusal} → r ≡ judged.Fault f → Shrinks image out out (Refused f 0)
+module _ {image store : List ℕ} {r : Result Judgement Refusal} (h : Judges syntax_kind image store r) where
+  pub job_fault : {out : List ℕ} {f : Refusal} → r ≡ Err f → Shrinks image out out (Refused f 0)
   job_fault {out} {f} e = ends-refused out (ending_fault image f (length out) (h.is ∙ ap (judged_as syntax_kind image store) e))
 
-  module _ {j : Judgement} (e : r ≡ judged.Good j) where
-    pub job_held : 3072 ≤ length store → Held image store j
-    job_held l = record { good = h.good j e; long = l }
-
+  module _ {j : Judgement} (e : r ≡ Ok j) where
     pub job_shrunk : {out out' : List ℕ} {q : Ending} → job.Fits (smaller image) out out' q → Shrinks image out out' q
     job_shrunk {out} {out'} {q} w =
         let g = h.good j e in
         subst (λ (z : m.Ending). EndsAs z out out' q) (sym (ending-got image g.image (length out) g.reads)) w
 
-pub ruleset judged_laws = (job_fault, job_held, job_shrunk)
-
-pub store-room : 3072 ≤ length (replicate {A = ℕ} 3072 0)
-store-room = let e : length (replicate {A = ℕ} 3072 0) ≡ 3072 = length-replicate {A = ℕ} 3072 0 in omega arith
-
-pub ruleset job_laws = (store-room)
+pub ruleset judged_laws = (job_fault, job_shrunk)

@@ -8,12 +8,11 @@ ghost use Rattle.shrinker.specs.Job.{Begun, Roomy, Makes, Shrinks, Fits};
 
 use crate::{using, writing};
 use finish::Ending;
-use image::{Judged, Judgement};
+use image::Judgement;
 use ranking::ranks;
 use refusals::Refusal;
 use scopes::{Name, Scope};
 use store::resolving::Resolving;
-use text::put_text;
 
 const MOST_IMAGE: usize = numbers::Cursor::MOST_IMAGE;
 
@@ -27,12 +26,11 @@ fn finish_with(out: &mut [u8], bytes: &[u8]) -> Ending
     requires { length bytes.now ≤ most_image }
     ensures { Fits bytes.now out.old out.new result }
 {
-    let len = bytes.len();
-    if out.len() < len {
+    if out.len() < bytes.len() {
         return Ending::Refused(Refusal::TooLong, 0);
     }
-    put_text(out, 0, bytes);
-    Ending::Written(len, 0)
+    out[..bytes.len()].copy_from_slice(bytes);
+    Ending::Written(bytes.len(), 0)
 }
 
 // With places for chains and marks.
@@ -89,8 +87,8 @@ fn shrink_with(image: &[u8], store: &mut [u64], out: &mut [u8]) -> Ending
     ensures { Shrinks image.now out.old out.new result }
 {
     match image::judge_syntax(image, store) {
-        Judged::Good(j) => shrink_good(image, j, store, out),
-        Judged::Fault(f) => Ending::Refused(f, 0),
+        Ok(j) => shrink_good(image, j, store, out),
+        Err(f) => Ending::Refused(f, 0),
     }
 }
 

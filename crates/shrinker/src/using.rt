@@ -18,9 +18,8 @@ pub fn use_of(
     requires { Unused image.now store.now j lasts.old befores.old marks.old }
     ensures { Uses image.now store.now marks.old marks.new result }
 {
-    let f = j.front;
-    let h = f.head;
     chains::chain(store, lasts, befores);
-    let used = mark_root(image, j.root, h.scopes, store, lasts, befores, marks);
+    let scopes = j.front.head.scopes;
+    let used = mark_root(image, j.root, scopes, store, lasts, befores, marks);
     kept::gather(store, marks, used)
 }

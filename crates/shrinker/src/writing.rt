@@ -22,19 +22,17 @@ pub fn put_smaller(
     requires { Writable image.now store.now j marks.now k ranks.now scratch.old }
     ensures { Makes image.now scratch.old scratch.new result }
 {
-    let f = j.front;
-    let h = f.head;
-    let remaining = k.scopes;
+    let head = j.front.head;
     let count = k.count as u32;
     let t = State {
         top: 0,
         left: 0,
-        names: h.names,
-        scopes: remaining.count(),
+        names: head.names,
+        scopes: k.scopes.count(),
         bindings: count,
     };
-    let behind = heading::put_head(scratch, image, f, Head::SYNTAX, t);
+    let behind = heading::put_head(scratch, image, j.front, Head::SYNTAX, t);
     let first = numbers::put_number(scratch, behind, count);
     let root = put_kept(scratch, first, store, marks, ranks);
-    put_root(scratch, root, image, j.root, h.scopes, ranks)
+    put_root(scratch, root, image, j.root, head.scopes, ranks)
 }
