@@ -1,5 +1,5 @@
 -- Along a tree's bytes as many things as its size are read, and they are its things.
-use Prim.Native.Nat.{ℕ, zero, suc, ◌+◌, ◌-◌, ◌≤◌}
+use Prim.Native.Nat.{ℕ, suc, ◌+◌}
 use mathlib.Core.Path.{◌≡◌, refl, sym, ap, ◌∙◌}
 use mathlib.Core.List.{List, [], ◌∷◌, ◌++◌, append_assoc, append-nil}
 use native.Mathlib.Omega.{arith}
@@ -10,7 +10,7 @@ use Rattle.requests.specs.Uses as u
 use Rattle.requests.specs.Uses.{things, things_all}
 use Rattle.requests.proofs.Uses.{tsizes}
 use Rattle.head.specs.declared.Counts.{Counts}
-use Rattle.places.specs.Reading.{read_thing, thing_of, along}
+use Rattle.places.specs.Reading.{thing_of, along}
 use Rattle.places.specs.Standing.{At}
 use Rattle.places.proofs.Standing.{front, parts, things_parted, size_parted, AllAt, thing-read, parts_at, first-at, others-at}
 

@@ -12,10 +12,8 @@ use Rattle.model.specs.Choice.{when◌then◌else◌}
 use Rattle.requests.specs.Uses as u
 use Rattle.requests.specs.Uses.{variable, other, is_use, uses, first_use}
 use Rattle.requests.proofs.Uses.{uses_append, first-left, first_right, first-none}
-use Rattle.head.specs.Fronts.{most_names}
-use Rattle.numbers.specs.Limits.{most_image}
 use Rattle.places.specs.Reading.{thing_of}
-use Rattle.places.specs.Counting.{Room, Holds, Few, Kept, Notes, Clear, Tallied}
+use Rattle.places.specs.Counting.{Room, Holds, Kept, Notes}
 use Rattle.places.specs.declared.Thing.{Thing}
 
 -- ---- one thing behind a list
@@ -77,9 +75,9 @@ module _ (names place : ℕ) (t : Thing) (words : List ℕ) where
     unfolding is_use
     another n h = ne_eqb t.content n (λ q. h (sym q))
 
-    pub note_again : (get_or words i 0 ≡ 0 → ⊥) → Notes names place t words (set words i (get_or words i 0 + 1))
+    again : (get_or words i 0 ≡ 0 → ⊥) → Notes names place t words (set words i (get_or words i 0 + 1))
     unfolding thing_of
-    note_again some = record {
+    again some = record {
       kept = record {
         long = length-set words i (get_or words i 0 + 1);
         before = λ j h. get_or-set_other words i j (get_or words i 0 + 1) 0 (λ q. omega arith);
@@ -114,9 +112,9 @@ module _ (names place : ℕ) (t : Thing) (words : List ℕ) where
                 sym (first-left n l (variable t.content ∷ []) (go (uses n l) refl (λ z. some (rw p (o.counts n k ∙ z)))))
             by_name false q = sym (more-not n l (variable t.content) (another n (eqb-false n t.content q))).1
 
-    pub note_first : get_or words i 0 ≡ 0 → Notes names place t words (set (set words i 1) (i + 1) place)
+    first-use : get_or words i 0 ≡ 0 → Notes names place t words (set (set words i 1) (i + 1) place)
     unfolding thing_of
-    note_first none = record {
+    first-use none = record {
       kept = record {
         long = length-set (set words i 1) (i + 1) place ∙ length-set words i 1;
         before = λ j h. get_or-set_other (set words i 1) (i + 1) j place 0 (λ q. omega arith) ∙ get_or-set_other words i j 1 0 (λ q. omega arith);
@@ -153,17 +151,16 @@ module _ (names place : ℕ) (t : Thing) (words : List ℕ) where
                 get_or-set_other (set words i 1) (i + 1) (3 + 2 * n) place 0 (λ z. j (omega arith)) ∙ get_or-set_other words i (3 + 2 * n) 1 0 (λ z. omega arith)
                 ∙ o.firsts n k ∙ sym (more-not n l (variable t.content) (another n j)).1
 
-    -- no number that is noted grows too large, and every word is in its place
-    pub few-more : {x most : ℕ} → x ≡ get_or words i 0 → Few names words most → most ≤ most_image → x + 1 < 4294967296
-    few-more e few h = let f = few t.content inside in let g : get_or words i 0 ≤ most_image = rw at (omega arith) in omega arith
+    -- the code counts the use, and then asks whether it is the first
+    counted : get_or (set words i (get_or words i 0 + 1)) i 0 ≡ get_or words i 0 + 1
+    counted = get_or-set_same words i (get_or words i 0 + 1) 0 (omega (arith, room.long))
 
-    pub entry_inside : i < length words
-    entry_inside = omega (arith, room.long)
+    pub note_again : (get_or (set words i (get_or words i 0 + 1)) i 0 ≡ 1 → ⊥) → Notes names place t words (set words i (get_or words i 0 + 1))
+    note_again n = again (λ z. n (counted ∙ ap (λ (x : ℕ). x + 1) z))
 
-    pub first-inside : (x : ℕ) → i + 1 < length (set words i x)
-    first-inside x = omega (arith, room.long, length-set words i x)
+    pub note_first : get_or (set words i (get_or words i 0 + 1)) i 0 ≡ 1 → Notes names place t words (set (set words i (get_or words i 0 + 1)) (i + 1) place)
+    note_first e =
+        let z : get_or words i 0 ≡ 0 = omega (arith, counted) in
+        rw z (first-use z)
 
-pub name-few : {names : ℕ} {words : List ℕ} (t : Thing) → Room names words → t.content < names → t.content ≤ most_names
-name-few t room h = omega (arith, room.few)
-
-pub ruleset noting_laws = (note_other, note_beyond, note_again, note_first, few-more, entry_inside, first-inside, name-few)
+pub ruleset noting_laws = (note_other, note_beyond, note_again, note_first)

@@ -1,5 +1,5 @@
 -- Passing over a tree: what is still to come is always some trees, and nothing is left at the end.
-use Prim.Native.Nat.{ℕ, zero, suc, ◌+◌, ◌-◌, ◌≤◌, ◌<◌}
+use Prim.Native.Nat.{ℕ, ◌+◌, ◌-◌, ◌≤◌, ◌<◌}
 use mathlib.Core.Path.{◌≡◌, refl, sym, ap, ◌∙◌}
 use mathlib.Core.List.{List, [], ◌++◌, append_assoc, append-nil}
 use native.Mathlib.Omega.{arith}
@@ -19,18 +19,15 @@ use Rattle.requests.proofs.Uses.{tsizes}
 use Rattle.refusals.specs.declared.Refusal.{Refusal}
 use Rattle.refusals.specs.Refusing.{refusal_of}
 use Rattle.numbers.specs.declared.Cursor.{Cursor}
-use Rattle.numbers.specs.Limits.{most_image}
+use Rattle.numbers.specs.Answers.{read_at}
+use Rattle.std.specs.Prelude.{Result, Ok, Err}
 use Rattle.numbers.proofs.Tails.{Shrinks, shrinks_got, shrinks_fault}
-use Rattle.numbers.proofs.Answering.{Took, took, refused}
+use Rattle.numbers.proofs.Answering.{Took, took, refused, read_shape}
 use Rattle.head.specs.declared.Counts.{Counts}
-use Rattle.places.specs.Reading.{thing_at, read_thing, parts_of}
-use Rattle.places.specs.Standing as standing
+use Rattle.places.specs.Reading.{read_thing, parts_of}
 use Rattle.places.specs.Standing.{At, Tree, Passed, Passes}
 use Rattle.places.specs.declared.Thing.{Thing}
-use Rattle.places.specs.declared.ThingRead.{ThingRead}
-use Rattle.places.specs.declared.ThingRead.TheVariants.{Read, Fault}
-use Rattle.places.specs.declared.Span.{Span}
-use Rattle.places.proofs.Things.{thing_shape, thing_tail, thing_shrinks}
+use Rattle.places.proofs.Things.{thing_tail, thing_shrinks}
 use Rattle.places.proofs.Standing.{front, front_bytes, parts, bytes_parted, front-some, parts-count, size_parted, AllAt, thing-read, parts_at, first-at, others-at}
 
 -- ---- the trees of a, and behind them those of b
@@ -168,12 +165,6 @@ thing_moves k here v x past T = by_read (read_thing k v) (thing_shrinks k v) T.i
 -- ---- one law for each way on and out
 
 module _ {k : Counts} {at : ℕ} {s : List ℕ} {here pending size : ℕ} (w : Midway k at s here pending size) where
-  pub passing-moved : at ≤ here
-  passing-moved = w.moved
-
-  pub passing-within : here ≤ at + length s
-  passing-within = w.within
-
   pub passing-ends : {end : Cursor} → end.at ≡ here → pending ≤ 0 → Passes k s at (record { size = size; end = end })
   unfolding tcount tsizes tsizes_by trees_bytes
   passing-ends {end} e h t rest a = by-trees (w.coming t rest a).trees (w.coming t rest a).count (w.coming t rest a).sum (w.coming t rest a).bytes
@@ -191,24 +182,21 @@ module _ {k : Counts} {at : ℕ} {s : List ℕ} {here pending size : ℕ} (w : M
     ends : here + length v ≡ at + length s
     ends = let l = ap length i ∙ length-drop (here - at) s in omega (arith, w.moved, w.within)
 
-    pub passing-fits : {n : ℕ} → at + length s ≤ n → here + length v ≤ n
-    passing-fits h = let e = ends in omega arith
-
-    module _ (some : 0 < pending) {r : ThingRead} (h : r ≡ thing_at (here + length v) (read_thing k v)) where
+    module _ (some : 0 < pending) {r : Result (Thing × Cursor) Refusal} (h : r ≡ read_at (here + length v) (read_thing k v)) where
       -- no tree's thing is refused
-      pub passing-stops : {f : Refusal} {end : Cursor} → r ≡ Fault f → end.at ≡ here → Passes k s at (record { size = size; end = end })
+      pub passing-sure : {f : Refusal} → r ≡ Err f → Tree k s → ⊥
       unfolding tcount
-      passing-stops {f} {end} e q t rest a = absurd (by-trees (w.coming t rest a).trees (w.coming t rest a).count (w.coming t rest a).are)
+      passing-sure {f} e T = let c = w.coming T.tree T.rest T.at in by-trees c.trees c.count c.are
         where
-          by-trees : (l : Trees) → pending ≡ tcount l → AllAt k (drop (here - at) s) l rest → ⊥
+          by-trees : (l : Trees) → pending ≡ tcount l → AllAt k (drop (here - at) s) l T.rest → ⊥
           by-trees tnil c o = omega arith
           by-trees (tcons g l) c o =
-              fault≢got (refusal_of f) (front g) (trees_bytes (parts g) ++ (trees_bytes l ++ rest))
-              (sym (refused thing_shape (here + length v) (read_thing k v) h e) ∙ ap (read_thing k) i ∙ thing-read (first-at o))
+              fault≢got (refusal_of f) (front g) (trees_bytes (parts g) ++ (trees_bytes l ++ T.rest))
+              (sym (refused read_shape (here + length v) (read_thing k v) h e) ∙ ap (read_thing k) i ∙ thing-read (first-at o))
 
-      module _ {x : Thing} {past : Cursor} (e : r ≡ Read x past) where
+      module _ {x : Thing} {past : Cursor} (e : r ≡ Ok (x, past)) where
         took_it : Took here v (read_thing k v) x past.at
-        took_it = took thing_shape h e (thing_tail k v)
+        took_it = took read_shape h e (thing_tail k v)
 
         comes : (t : m.Tree) (rest : List ℕ) → At k s t rest → Coming k at s t rest past.at (pending - 1 + parts_of x) (size + 1)
         comes t rest a = let c = w.coming t rest a in next_of size i w.moved some took_it c.trees c.are c.count c.sum c.bytes
@@ -224,4 +212,4 @@ module _ {k : Counts} {at : ℕ} {s : List ℕ} {here pending size : ℕ} (w : M
         pub passing_less : at + length s - past.at < at + length s - here
         passing_less = let y = ends in omega (arith, took_it.within, w.moved, thing_moves k here v x past.at took_it)
 
-pub ruleset passing_laws = (passing-start, passing-moved, passing-within, passing-ends, passing-size, passing-fits, passing-stops, passing-more, passing_pending, passing_less)
+pub ruleset passing_laws = (passing-start, passing-ends, passing-size, passing-sure, passing-more, passing_pending, passing_less)

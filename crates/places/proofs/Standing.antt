@@ -1,18 +1,17 @@
 -- Trees at the front of some bytes: the first thing of them is read, and the parts behind it are trees again. So as many things as a tree's
 -- size are read along its bytes, and they are its things.
-use Prim.Native.Nat.{ℕ, zero, suc, ◌+◌, ◌-◌, ◌≤◌, ◌<◌, max}
-use mathlib.Core.Path.{◌≡◌, refl, sym, ap, ap₂, ◌∙◌}
+use Prim.Native.Nat.{ℕ, suc, ◌≤◌, ◌<◌}
+use mathlib.Core.Path.{◌≡◌, refl, sym, ap, ◌∙◌}
 use mathlib.Core.List.{List, ◌∷◌, ◌++◌, append_assoc, append-nil}
 use native.Mathlib.Omega.{arith}
-use native.Mathlib.Nat.{le-max_left, le-max_right, max-le}
-use lib.Dec.{eqb}
+use native.Mathlib.Nat.{max-le}
 use lib.ListN.{length, length-append}
 use borrow.Author.Tests.{ne_eqb}
 use Rattle.model.specs.Limits.{most_nesting}
-use Rattle.model.specs.Objects.{Atom, symbol, number, point, prim, rung, Stx, tag_of, content_of, nesting, size}
+use Rattle.model.specs.Objects.{Atom, Stx, tag_of, content_of, nesting, size}
 use Rattle.model.specs.Trees.{var, app, fun, datum, lst, stx, Trees, tnil, tcons, tcount, tsize, tsize_by, tsizes_by, tnesting, tnestings}
 use Rattle.model.specs.Trees as m
-use Rattle.model.specs.Reading.{got, num, read_stx, symbols}
+use Rattle.model.specs.Reading.{got, symbols}
 use Rattle.model.specs.Writing.{num_bytes, stx_bytes, tree_bytes, trees_bytes}
 use Rattle.codec_laws.specs.WellFormed.{AtomFits, StxFits, TreeFits, TreesFit, ValuesFit}
 use Rattle.codec_laws.proofs.NumberTrip.{num_back}
@@ -27,7 +26,7 @@ use Rattle.head.specs.declared.Counts.{Counts}
 use Rattle.roots.specs.MeasuredObjects.{measure_stx}
 use Rattle.roots.proofs.ObjectsKept.{stx-is}
 use Rattle.bits.proofs.Walked.{content-small}
-use Rattle.places.specs.Reading.{thing, read_content, read_held, read_atom, read_object, read_behind, read_thing, parts_of, thing_of, onward, along}
+use Rattle.places.specs.Reading.{thing, read_content, read_held, read_atom, read_object, read_behind, read_thing, parts_of, thing_of}
 use Rattle.places.specs.Standing.{Declared, At}
 use Rattle.places.specs.declared.Thing.{Thing}
 

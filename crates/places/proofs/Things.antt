@@ -1,9 +1,7 @@
 -- A thing read, by the tests that the code makes.
 use Prim.Native.Nat.{ℕ, ◌+◌, ◌-◌}
 use mathlib.Core.Path.{◌≡◌, refl}
-use mathlib.Core.Bool.{false}
 use mathlib.Core.List.{List}
-use native.Mathlib.Omega.{arith}
 use lib.Dec.{eqb}
 use lib.ListN.{length, drop}
 use borrow.Author.Tests.{eq-eqb, ne_eqb}
@@ -12,27 +10,15 @@ use Rattle.model.specs.Limits.{most_nesting}
 use Rattle.model.specs.Reading.{num}
 use Rattle.refusals.specs.declared.Refusal.{Refusal}
 use Rattle.numbers.specs.declared.Cursor.{Cursor}
-use Rattle.numbers.specs.declared.Number.{Number}
-use Rattle.numbers.specs.declared.Number.TheVariants as number
-use Rattle.numbers.specs.Answers.{number_at}
+use Rattle.numbers.specs.Answers.{beside, read_at}
+use Rattle.std.specs.Prelude.{Result, Ok, Err}
 use Rattle.numbers.proofs.Tails.{Tail, tail_give, tail_next, tail_if, num_tail, Shrinks, shrinks_next, num_shrinks}
-use Rattle.numbers.proofs.Answering.{Shape, number_shape, goes, gives, stops}
+use Rattle.numbers.proofs.Answering.{read_shape, goes, gives, stops}
 use Rattle.head.specs.declared.Counts.{Counts}
 use Rattle.roots.specs.MeasuredObjects.{measure_stx}
 use Rattle.roots.proofs.ObjectSizes.{object_tail}
-use Rattle.places.specs.Reading.{thing_at, thing, read_content, read_held, read_atom, read_object, read_behind, read_thing, parts_of}
-use Rattle.places.specs.Counting.{is_use_of}
+use Rattle.places.specs.Reading.{thing, read_content, read_held, read_atom, read_object, read_behind, read_thing}
 use Rattle.places.specs.declared.Thing.{Thing}
-use Rattle.places.specs.declared.ThingRead.{ThingRead}
-use Rattle.places.specs.declared.ThingRead.TheVariants.{Read, Fault}
-
-pub thing_shape : Shape Read Fault
-thing_shape = record {
-  value = λ v w c d e. (cc);
-  place = λ v w c d e. (cc);
-  fault = λ f h e. (cc);
-  apart = λ v c f e. (let z : ◌≡◌ {A = ℕ} 0 1 = cc in omega arith);
-}
 
 -- ---- what is left is a tail
 
@@ -68,81 +54,50 @@ thing_shrinks k s = shrinks_next _ (num_shrinks s) (behind_tail k)
 
 -- ---- one law for each way out
 
-module _ (at : ℕ) (s : List ℕ) {r : Number} (h : r ≡ number_at (at + length s) (num s)) where
-  pub content-stops : (tag : ℕ) {f : Refusal} → r ≡ number.Fault f → Fault f ≡ thing_at (at + length s) (read_content tag s)
+module _ (at : ℕ) (s : List ℕ) {r : Result (ℕ × Cursor) Refusal} (h : r ≡ read_at (at + length s) (num s)) where
+  pub content-stops : (tag : ℕ) {f : Refusal} → r ≡ Err f → Err f ≡ read_at (at + length s) (read_content tag s)
   unfolding read_content
-  content-stops tag e = stops number_shape Read Fault (at + length s) (num s) _ h e
+  content-stops tag e = stops read_shape beside (at + length s) (num s) _ h e
 
-  pub content-read : (tag : ℕ) {x : ℕ} {past : Cursor} → r ≡ number.Read x past → Read (record { tag = tag; content = x }) past ≡ thing_at (at + length s) (read_content tag s)
+  pub content-read : (tag : ℕ) {x : ℕ} {past : Cursor} → r ≡ Ok (x, past) → Ok (record { tag = tag; content = x }, past) ≡ read_at (at + length s) (read_content tag s)
   unfolding read_content
-  content-read tag e = gives number_shape Read Fault at (num s) _ h e (num_tail s) (λ u. refl)
+  content-read tag e = gives read_shape beside at (num s) _ h e (num_tail s) (λ u. refl)
 
-  pub atom-stops : {f : Refusal} → r ≡ number.Fault f → Fault f ≡ thing_at (at + length s) (read_atom s)
+  pub atom-stops : {f : Refusal} → r ≡ Err f → Err f ≡ read_at (at + length s) (read_atom s)
   unfolding read_atom
-  atom-stops e = stops number_shape Read Fault (at + length s) (num s) _ h e
+  atom-stops e = stops read_shape beside (at + length s) (num s) _ h e
 
-  module _ {k : ℕ} {past : Cursor} {u : List ℕ} {x : Number} (e : r ≡ number.Read k past) (i : u ≡ drop (past.at - at) s) (a : x ≡ number_at (past.at + length u) (num u)) where
-    pub held-stops : {f : Refusal} → x ≡ number.Fault f → Fault f ≡ thing_at (at + length s) (read_atom s)
+  module _ {k : ℕ} {past : Cursor} {u : List ℕ} {x : Result (ℕ × Cursor) Refusal} (e : r ≡ Ok (k, past)) (i : u ≡ drop (past.at - at) s) (a : x ≡ read_at (past.at + length u) (num u)) where
+    pub held-stops : {f : Refusal} → x ≡ Err f → Err f ≡ read_at (at + length s) (read_atom s)
     unfolding read_atom read_held
-    held-stops q = goes number_shape Read Fault at (num s) _ h e (num_tail s) i (stops number_shape Read Fault (past.at + length u) (num u) _ a q)
+    held-stops q = goes read_shape beside at (num s) _ h e (num_tail s) i (stops read_shape beside (past.at + length u) (num u) _ a q)
 
-    pub held-read : {v : ℕ} {end : Cursor} → x ≡ number.Read v end → Read (record { tag = 3; content = 0 }) end ≡ thing_at (at + length s) (read_atom s)
+    pub held-read : {v : ℕ} {end : Cursor} → x ≡ Ok (v, end) → Ok (record { tag = 3; content = 0 }, end) ≡ read_at (at + length s) (read_atom s)
     unfolding read_atom read_held
-    held-read q = goes number_shape Read Fault at (num s) _ h e (num_tail s) i (gives number_shape Read Fault past.at (num u) _ a q (num_tail u) (λ z. refl))
+    held-read q = goes read_shape beside at (num s) _ h e (num_tail s) i (gives read_shape beside past.at (num u) _ a q (num_tail u) (λ z. refl))
 
-  pub thing-stops : (k : Counts) {f : Refusal} → r ≡ number.Fault f → Fault f ≡ thing_at (at + length s) (read_thing k s)
+  pub thing-stops : (k : Counts) {f : Refusal} → r ≡ Err f → Err f ≡ read_at (at + length s) (read_thing k s)
   unfolding read_thing
-  thing-stops k e = stops number_shape Read Fault (at + length s) (num s) _ h e
+  thing-stops k e = stops read_shape beside (at + length s) (num s) _ h e
 
-  module _ (k : Counts) {t : ℕ} {past : Cursor} {u : List ℕ} {x : ThingRead} (e : r ≡ number.Read t past) (i : u ≡ drop (past.at - at) s) where
-    pub thing-atom : t ≡ 3 → x ≡ thing_at (past.at + length u) (read_atom u) → x ≡ thing_at (at + length s) (read_thing k s)
+  module _ (k : Counts) {t : ℕ} {past : Cursor} {u : List ℕ} {x : Result (Thing × Cursor) Refusal} (e : r ≡ Ok (t, past)) (i : u ≡ drop (past.at - at) s) where
+    pub thing-atom : t ≡ 3 → x ≡ read_at (past.at + length u) (read_atom u) → x ≡ read_at (at + length s) (read_thing k s)
     unfolding read_thing read_behind
-    thing-atom q a = goes number_shape Read Fault at (num s) _ h e (num_tail s) i (rw (eq-eqb t 3 q) a)
+    thing-atom q a = goes read_shape beside at (num s) _ h e (num_tail s) i (rw (eq-eqb t 3 q) a)
 
-    pub thing-object : (t ≡ 3 → ⊥) → t ≡ 5 → x ≡ thing_at (past.at + length u) (read_object k u) → x ≡ thing_at (at + length s) (read_thing k s)
+    pub thing-object : (t ≡ 3 → ⊥) → t ≡ 5 → x ≡ read_at (past.at + length u) (read_object k u) → x ≡ read_at (at + length s) (read_thing k s)
     unfolding read_thing read_behind
-    thing-object n q a = goes number_shape Read Fault at (num s) _ h e (num_tail s) i (rw (ne_eqb t 3 n, eq-eqb t 5 q) a)
+    thing-object n q a = goes read_shape beside at (num s) _ h e (num_tail s) i (rw (ne_eqb t 3 n, eq-eqb t 5 q) a)
 
-    pub thing-other : (t ≡ 3 → ⊥) → (t ≡ 5 → ⊥) → x ≡ thing_at (past.at + length u) (read_content t u) → x ≡ thing_at (at + length s) (read_thing k s)
+    pub thing-other : (t ≡ 3 → ⊥) → (t ≡ 5 → ⊥) → x ≡ read_at (past.at + length u) (read_content t u) → x ≡ read_at (at + length s) (read_thing k s)
     unfolding read_thing read_behind
-    thing-other n q a = goes number_shape Read Fault at (num s) _ h e (num_tail s) i (rw (ne_eqb t 3 n, ne_eqb t 5 q) a)
+    thing-other n q a = goes read_shape beside at (num s) _ h e (num_tail s) i (rw (ne_eqb t 3 n, ne_eqb t 5 q) a)
 
-module _ (at : ℕ) (s : List ℕ) (k : Counts) {r : Number} (h : r ≡ number_at (at + length s) (measure_stx k.symbols k.scopes 64 s)) where
-  pub object-stops : {f : Refusal} → r ≡ number.Fault f → Fault f ≡ thing_at (at + length s) (read_object k s)
+module _ (at : ℕ) (s : List ℕ) (k : Counts) {r : Result (ℕ × Cursor) Refusal} (h : r ≡ read_at (at + length s) (measure_stx k.symbols k.scopes 64 s)) where
+  pub object-stops : {f : Refusal} → r ≡ Err f → Err f ≡ read_at (at + length s) (read_object k s)
   unfolding read_object most_nesting
-  object-stops e = stops number_shape Read Fault (at + length s) (measure_stx k.symbols k.scopes 64 s) _ h e
+  object-stops e = stops read_shape beside (at + length s) (measure_stx k.symbols k.scopes 64 s) _ h e
 
-  pub object-read : {n : ℕ} {past : Cursor} → r ≡ number.Read n past → Read (record { tag = 5; content = 0 }) past ≡ thing_at (at + length s) (read_object k s)
+  pub object-read : {n : ℕ} {past : Cursor} → r ≡ Ok (n, past) → Ok (record { tag = 5; content = 0 }, past) ≡ read_at (at + length s) (read_object k s)
   unfolding read_object most_nesting
-  object-read e = gives number_shape Read Fault at (measure_stx k.symbols k.scopes 64 s) _ h e (object_tail k.symbols k.scopes 64 s) (λ u. refl)
-
--- ---- a thing's parts, and whether it is a use
-
-module _ (t : Thing) where
-  pub parts_application : t.tag ≡ 1 → t.content ≡ parts_of t
-  unfolding parts_of
-  parts_application e = rw (eq-eqb t.tag 1 e) refl
-
-  module _ (a : t.tag ≡ 1 → ⊥) where
-    pub parts_function : t.tag ≡ 2 → 1 ≡ parts_of t
-    unfolding parts_of
-    parts_function e = rw (ne_eqb t.tag 1 a, eq-eqb t.tag 2 e) refl
-
-    module _ (b : t.tag ≡ 2 → ⊥) where
-      pub parts-list : t.tag ≡ 4 → t.content ≡ parts_of t
-      unfolding parts_of
-      parts-list e = rw (ne_eqb t.tag 1 a, ne_eqb t.tag 2 b, eq-eqb t.tag 4 e) refl
-
-      pub parts_none : (t.tag ≡ 4 → ⊥) → 0 ≡ parts_of t
-      unfolding parts_of
-      parts_none e = rw (ne_eqb t.tag 1 a, ne_eqb t.tag 2 b, ne_eqb t.tag 4 e) refl
-
-  pub use_not : (n : ℕ) → (t.tag ≡ 0 → ⊥) → false ≡ is_use_of n t
-  unfolding is_use_of
-  use_not n h = rw (ne_eqb t.tag 0 h) refl
-
-  pub use_if : (n : ℕ) → t.tag ≡ 0 → eqb t.content n ≡ is_use_of n t
-  unfolding is_use_of
-  use_if n h = rw (eq-eqb t.tag 0 h) refl
-
-pub ruleset thing_laws = (content-stops, content-read, atom-stops, held-stops, held-read, thing-stops, thing-atom, thing-object, thing-other, object-stops, object-read, parts_application, parts_function, parts-list, parts_none, use_not, use_if)
+  object-read e = gives read_shape beside at (measure_stx k.symbols k.scopes 64 s) _ h e (object_tail k.symbols k.scopes 64 s) (λ u. refl)

@@ -1,28 +1,29 @@
 -- The loops along so many things: one law for each way on and out.
-use Prim.Native.Nat.{ℕ, zero, suc, ◌+◌, ◌-◌, ◌*◌, ◌≤◌, ◌<◌}
+use Prim.Native.Nat.{ℕ, zero, suc, ◌+◌, ◌-◌, ◌≤◌, ◌<◌}
 use mathlib.Core.Path.{◌≡◌, refl, sym, ap, ◌∙◌}
 use mathlib.Core.Bool.{Bool, true, false, ◌&&◌}
 use mathlib.Core.List.{List, [], ◌∷◌, ◌++◌, append_assoc, append-nil}
 use native.Mathlib.Omega.{arith}
 use lib.Dec.{eqb}
 use lib.ListN.{length, drop, length-drop, length-append}
-use lib.Seq.{drop-drop, append_snoc}
-use borrow.Author.Tests.{eq-eqb, ne_eqb}
+use lib.Seq.{drop-drop}
+use borrow.Author.Tests.{eq-eqb, ne_eqb, eqb-false}
 use Rattle.model.specs.Choice.{when◌then◌else◌}
+use Rattle.model.specs.Reading as m
 use Rattle.requests.specs.Uses as u
 use Rattle.requests.specs.Uses.{variable, other, is_use, uses, first_use}
-use Rattle.requests.proofs.Uses.{uses-few, uses_append, first_right}
+use Rattle.requests.proofs.Uses.{uses-few, uses_append, first_right, first-within}
 use Rattle.refusals.specs.declared.Refusal.{Refusal}
 use Rattle.numbers.specs.declared.Cursor.{Cursor}
+use Rattle.numbers.specs.Answers.{read_at}
+use Rattle.std.specs.Prelude.{Result, Ok, Err, Some, None}
 use Rattle.numbers.specs.Limits.{most_image}
-use Rattle.numbers.proofs.Answering.{Took, took, refused}
+use Rattle.numbers.proofs.Answering.{Took, took, refused, read_shape}
 use Rattle.head.specs.declared.Counts.{Counts}
-use Rattle.places.specs.Reading.{thing_at, read_thing, thing_of, onward, along}
+use Rattle.places.specs.Reading.{read_thing, thing_of, onward, along}
 use Rattle.places.specs.Counting.{is_use_of, Room, Holds, Few, Kept, Notes, Clear, Tallied, found}
 use Rattle.places.specs.declared.Thing.{Thing}
-use Rattle.places.specs.declared.ThingRead.{ThingRead}
-use Rattle.places.specs.declared.ThingRead.TheVariants.{Read, Fault}
-use Rattle.places.proofs.Things.{thing_shape, thing_tail}
+use Rattle.places.proofs.Things.{thing_tail}
 use Rattle.places.proofs.Noting.{kept-all}
 
 along-none : (k : Counts) (left : ℕ) (s : List ℕ) → left ≡ 0 → along k left s ≡ []
@@ -59,19 +60,16 @@ module _ {k : Counts} {at : ℕ} {s : List ℕ} {count here place : ℕ} (w : Mi
     ends : here + length v ≡ at + length s
     ends = let l = ap length i ∙ length-drop (here - at) s in omega (arith, w.moved, w.within)
 
-    midway_fits : {n : ℕ} → at + length s ≤ n → here + length v ≤ n
-    midway_fits h = let e = ends in omega arith
-
-    module _ (some : place < count) {r : ThingRead} (h : r ≡ thing_at (here + length v) (read_thing k v)) where
+    module _ (some : place < count) {r : Result (Thing × Cursor) Refusal} (h : r ≡ read_at (here + length v) (read_thing k v)) where
       goes_on : along k (count - place) (drop (here - at) s) ≡ onward (read_thing k v) (λ t rest. thing_of t ∷ along k (count - place - 1) rest)
       goes_on = ap (along k (count - place)) (sym i) ∙ along-more k (count - place) v (omega arith)
 
-      midway_stops : {f : Refusal} → r ≡ Fault f → along k count s ≡ w.met
-      midway_stops e = w.is ∙ rw (goes_on, refused thing_shape (here + length v) (read_thing k v) h e) (append-nil w.met)
+      midway_stops : {f : Refusal} → r ≡ Err f → along k count s ≡ w.met
+      midway_stops e = w.is ∙ rw (goes_on, refused read_shape (here + length v) (read_thing k v) h e) (append-nil w.met)
 
-      module _ {t : Thing} {past : Cursor} (e : r ≡ Read t past) where
+      module _ {t : Thing} {past : Cursor} (e : r ≡ Ok (t, past)) where
         took_it : Took here v (read_thing k v) t past.at
-        took_it = took thing_shape h e (thing_tail k v)
+        took_it = took read_shape h e (thing_tail k v)
 
         -- what was met, this thing, and the others
         onward-is : along k count s ≡ w.met ++ thing_of t ∷ along k (count - (place + 1)) (drop (past.at - at) s)
@@ -118,28 +116,16 @@ module _ {k : Counts} {at : ℕ} {s : List ℕ} {count : ℕ} {words₀ : List �
   pub noting_reached : count ≤ most_image → place ≤ most_image
   noting_reached h = omega (arith, w.way.reached)
 
-  pub noting_moved : at ≤ here
-  noting_moved = w.way.moved
-
-  pub noting_within : here ≤ at + length s
-  noting_within = w.way.within
-
-  pub noting_long : length words ≡ length words₀
-  noting_long = w.kept.long
-
   module _ {v : List ℕ} (i : v ≡ drop (here - at) s) where
-    pub noting_fits : {n : ℕ} → at + length s ≤ n → here + length v ≤ n
-    noting_fits h = midway_fits w.way i h
-
-    module _ (some : place < count) {r : ThingRead} (h : r ≡ thing_at (here + length v) (read_thing k v)) where
-      pub noting_stops : {f : Refusal} → r ≡ Fault f → Tallied k.names (along k count s) words₀ words
+    module _ (some : place < count) {r : Result (Thing × Cursor) Refusal} (h : r ≡ read_at (here + length v) (read_thing k v)) where
+      pub noting_stops : {f : Refusal} → r ≡ Err f → Tallied k.names (along k count s) words₀ words
       noting_stops e = record { kept = w.kept; holds = rw (midway_stops w.way i some h e) w.holds }
 
-      pub noting_more : {t : Thing} {past : Cursor} {words' : List ℕ} → r ≡ Read t past → Notes k.names place t words words' → Noting k at s count words₀ past.at (place + 1) words'
+      pub noting_more : {t : Thing} {past : Cursor} {words' : List ℕ} → r ≡ Ok (t, past) → Notes k.names place t words words' → Noting k at s count words₀ past.at (place + 1) words'
       unfolding midway_more
       noting_more e n = record { way = midway_more w.way i some h e; kept = kept_on w.kept n.kept; holds = n.holds w.way.met w.way.long w.holds }
 
-pub ruleset tally_laws = (noting_start, noting_ends, noting_room, noting_few, noting_reached, noting_moved, noting_within, noting_long, noting_fits, noting_stops, noting_more)
+pub ruleset tally_laws = (noting_start, noting_ends, noting_room, noting_few, noting_reached, noting_stops, noting_more)
 
 -- ---- looked for
 
@@ -168,29 +154,20 @@ unfolding uses
 no_use n x h = rw h refl
 
 module _ {k : Counts} {at : ℕ} {s : List ℕ} {count name here place : ℕ} (w : Looking k at s count name here place) where
-  nowhere : along k count s ≡ w.way.met → count ≡ found name count (along k count s)
+  nowhere : along k count s ≡ w.way.met → None ≡ found name (along k count s)
   unfolding found
   nowhere e = rw (e, eq-eqb (uses name w.way.met) 0 w.none) refl
 
-  pub looking_ends : count ≤ place → count ≡ found name count (along k count s)
+  pub looking_ends : count ≤ place → None ≡ found name (along k count s)
   looking_ends h = nowhere (midway_ends w.way h)
 
-  pub looking_moved : at ≤ here
-  looking_moved = w.way.moved
-
-  pub looking_within : here ≤ at + length s
-  looking_within = w.way.within
-
   module _ {v : List ℕ} (i : v ≡ drop (here - at) s) where
-    pub looking_fits : {n : ℕ} → at + length s ≤ n → here + length v ≤ n
-    looking_fits h = midway_fits w.way i h
-
-    module _ (some : place < count) {r : ThingRead} (h : r ≡ thing_at (here + length v) (read_thing k v)) where
-      pub looking_stops : {f : Refusal} → r ≡ Fault f → count ≡ found name count (along k count s)
+    module _ (some : place < count) {r : Result (Thing × Cursor) Refusal} (h : r ≡ read_at (here + length v) (read_thing k v)) where
+      pub looking_stops : {f : Refusal} → r ≡ Err f → None ≡ found name (along k count s)
       looking_stops e = nowhere (midway_stops w.way i some h e)
 
-      module _ {t : Thing} {past : Cursor} (e : r ≡ Read t past) where
-        pub looking_found : {b : Bool} → b ≡ is_use_of name t → b ≡ true → place ≡ found name count (along k count s)
+      module _ {t : Thing} {past : Cursor} (e : r ≡ Ok (t, past)) where
+        pub looking_found : {b : Bool} → b ≡ is_use_of name t → b ≡ true → Some place ≡ found name (along k count s)
         unfolding found
         looking_found p q =
             let x = one_use name (thing_of t) (along k (count - (place + 1)) (drop (past.at - at) s)) (use_is name t true (sym p ∙ q)) in
@@ -199,7 +176,7 @@ module _ {k : Counts} {at : ℕ} {s : List ℕ} {count name here place : ℕ} (w
             let y = x.0 in
             let z = x.1 in
             rw (onward-is w.way i some h e, ne_eqb (uses name (w.way.met ++ thing_of t ∷ along k (count - (place + 1)) (drop (past.at - at) s))) 0 (λ j. omega arith))
-            (omega (arith, w.way.long))
+            (ap (λ (j : ℕ). Some j) (let j : place ≡ first_use name (w.way.met ++ thing_of t ∷ along k (count - (place + 1)) (drop (past.at - at) s)) = omega (arith, w.way.long) in j))
 
         pub looking_more : {b : Bool} → b ≡ is_use_of name t → b ≡ false → Looking k at s count name past.at (place + 1)
         unfolding midway_more
@@ -208,4 +185,36 @@ module _ {k : Counts} {at : ℕ} {s : List ℕ} {count name here place : ℕ} (w
           none = omega (arith, uses_append name w.way.met (thing_of t ∷ []), no_use name (thing_of t) (use_is name t false (sym p ∙ q)), w.none);
         }
 
-pub ruleset find_laws = (looking_start, looking_ends, looking_moved, looking_within, looking_fits, looking_stops, looking_found, looking_more)
+-- ---- what is found lies among the things read
+
+along-few : (k : Counts) (n : ℕ) (s : List ℕ) → length (along k n s) ≤ n
+unfolding along
+along-few k zero s = omega arith
+along-few k (suc n) s = by-read (read_thing k s) (λ rest. along-few k n rest)
+  where
+    by-read : (g : m.Read Thing) → ((rest : List ℕ) → length (along k n rest) ≤ n) → length (onward g (λ t rest. thing_of t ∷ along k n rest)) ≤ suc n
+    by-read (m.got t rest) h = let l = h rest in omega arith
+    by-read (m.fault r) h = omega arith
+
+some-same : {v w : ℕ} → Some v ≡ Some w → v ≡ w
+some-same e = cc
+
+some-none : (v : ℕ) → Some v ≡ None → ⊥
+some-none v e = let z : ◌≡◌ {A = ℕ} 0 1 = cc in omega arith
+
+pub found-before : (k : Counts) (n count v : ℕ) (s : List ℕ) → Some v ≡ found n (along k count s) → v < count
+unfolding found
+found-before k n count v s e = by-uses (eqb (uses n (along k count s)) 0) refl e
+  where
+    positive : (m : ℕ) → (m ≡ 0 → ⊥) → 0 < m
+    positive zero h = absurd (h refl)
+    positive (suc m) h = omega arith
+
+    by-uses : (b : Bool) → eqb (uses n (along k count s)) 0 ≡ b → Some v ≡ (when b then None else Some (first_use n (along k count s))) → v < count
+    by-uses true q o = absurd (some-none v o)
+    by-uses false q o =
+        let i = some-same o in
+        let p = positive (uses n (along k count s)) (eqb-false (uses n (along k count s)) 0 q) in
+        omega (arith, along-few k count s, first-within n (along k count s) p)
+
+pub ruleset find_laws = (looking_start, looking_ends, looking_stops, looking_found, looking_more)

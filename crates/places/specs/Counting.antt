@@ -1,5 +1,5 @@
 -- What the words of a summary hold of some things, and where a name is found among them.
-use Rattle.std.specs.Prelude.{ℕ, ◌+◌, ◌*◌, ◌≤◌, ◌<◌, ◌≡◌, Bool, ◌&&◌, List, [], ◌∷◌, ◌++◌, eqb, length, get_or}
+use Rattle.std.specs.Prelude.{ℕ, ◌+◌, ◌*◌, ◌≤◌, ◌<◌, ◌≡◌, Bool, ◌&&◌, List, [], ◌∷◌, ◌++◌, eqb, length, get_or, Option, Some, None}
 use Rattle.model.specs.Choice.{when◌then◌else◌}
 use Rattle.requests.specs.Uses as u
 use Rattle.requests.specs.Uses.{uses, first_use}
@@ -44,7 +44,7 @@ pub record Tallied (names : ℕ) (l : List u.Thing) (words words' : List ℕ) : 
   pub kept : Kept names words words'
   pub holds : Holds names l words'
 
--- the place of the first use of n among `count` things, or `count`
-unfoldable pub found : ℕ → ℕ → List u.Thing → ℕ
+-- the place of the first use of n
+unfoldable pub found : ℕ → List u.Thing → Option ℕ
 unfolding uses first_use
-found n count l = when eqb (uses n l) 0 then count else first_use n l
+found n l = when eqb (uses n l) 0 then None else Some (first_use n l)

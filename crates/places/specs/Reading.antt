@@ -5,15 +5,9 @@ use Rattle.model.specs.Limits.{most_nesting}
 use Rattle.model.specs.Reading as m
 use Rattle.model.specs.Reading.{got, fault, Reader, ◌>>=◌, ◌>>◌, give, num}
 use Rattle.requests.specs.Uses as u
-use Rattle.numbers.specs.Answers.{answer_at}
 use Rattle.head.specs.declared.Counts.{Counts}
 use Rattle.roots.specs.MeasuredObjects.{measure_stx}
 use Rattle.places.specs.declared.Thing.{Thing}
-use Rattle.places.specs.declared.ThingRead.{ThingRead}
-use Rattle.places.specs.declared.ThingRead.TheVariants.{Read, Fault}
-
-abbrev pub thing_at : ℕ → m.Read Thing → ThingRead
-thing_at end g = answer_at Read Fault end g
 
 abbrev pub thing : ℕ → ℕ → Thing
 thing tag x = record { tag = tag; content = x }

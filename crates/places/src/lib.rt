@@ -7,25 +7,20 @@ pub mod counting;
 ghost use Rattle.std.specs.Prelude.{◌≡◌, ◌+◌, ◌≤◌, length};
 ghost use Rattle.numbers.specs.Limits.{most_image};
 ghost use Rattle.scopes.specs.Sets.{set_scopes};
-ghost use Rattle.places.specs.Reading.{thing_at, read_content, read_atom, read_object, read_thing, parts_of};
+ghost use Rattle.numbers.specs.Answers.{read_at};
+ghost use Rattle.places.specs.Reading.{read_content, read_atom, read_object, read_thing, parts_of};
 ghost use Rattle.places.specs.Standing.{Tree, Passes};
 
 use head::Counts;
-use numbers::{Cursor, Number};
-use refusals::Refusal;
+use numbers::{Cursor, Read};
 use roots::objects;
 
-// `content` is a variable's or function's name, or how many parts an application or list value has; of others 0.
+// `content` is a variable's or function's name, or how many parts an application or list value has; of others 0. `tag` stays a number: `read_thing`
+// of specs/Reading takes any.
 #[derive(Clone, Copy)]
 pub struct Thing {
     pub tag: u32,
     pub content: u32,
-}
-
-#[derive(Clone, Copy)]
-pub enum ThingRead {
-    Read(Thing, Cursor),
-    Fault(Refusal),
 }
 
 // How many things a tree is, and the place past its bytes.
@@ -50,85 +45,69 @@ impl Thing {
     const SYNTAX: u32 = 5;
 
     // How many parts follow.
+    #[tactic(auto, unfolding(crate::specs::Reading::parts_of))]
     fn parts(self) -> u32
         ensures { result ≡ parts_of self }
     {
-        if self.tag == Thing::APPLICATION {
-            return self.content;
+        match self.tag {
+            Thing::FUNCTION => 1,
+            Thing::APPLICATION | Thing::LIST => self.content,
+            _ => 0,
         }
-        if self.tag == Thing::FUNCTION {
-            return 1;
-        }
-        if self.tag == Thing::LIST {
-            return self.content;
-        }
-        0
     }
 }
 
-fn read_content(c: Cursor, s: &[u8], tag: u32) -> ThingRead
+fn read_content(c: Cursor, s: &[u8], tag: u32) -> Read<Thing>
     requires { c.at + length s.now ≤ most_image }
-    ensures { result ≡ thing_at (c.at + length s.now) (read_content tag s.now) }
+    ensures { result ≡ read_at (c.at + length s.now) (read_content tag s.now) }
 {
-    match c.number(s) {
-        Number::Read(content, past) => ThingRead::Read(Thing { tag, content }, past),
-        Number::Fault(f) => ThingRead::Fault(f),
-    }
+    let (content, past) = c.number(s)?;
+    Ok((Thing { tag, content }, past))
 }
 
 // An atom's kind, and what it holds.
-fn read_atom(c: Cursor, s: &[u8]) -> ThingRead
+fn read_atom(c: Cursor, s: &[u8]) -> Read<Thing>
     requires { c.at + length s.now ≤ most_image }
-    ensures { result ≡ thing_at (c.at + length s.now) (read_atom s.now) }
+    ensures { result ≡ read_at (c.at + length s.now) (read_atom s.now) }
 {
-    match c.number(s) {
-        Number::Read(_, past) => match past.number(c.after(s, past)) {
-            Number::Read(_, end) => ThingRead::Read(
-                Thing {
-                    tag: Thing::ATOM,
-                    content: 0,
-                },
-                end,
-            ),
-            Number::Fault(f) => ThingRead::Fault(f),
-        },
-        Number::Fault(f) => ThingRead::Fault(f),
-    }
+    let (_, past) = c.number(s)?;
+    let (_, end) = past.number(c.after(s, past))?;
+    let t = Thing {
+        tag: Thing::ATOM,
+        content: 0,
+    };
+    Ok((t, end))
 }
 
-fn read_object(c: Cursor, s: &[u8], counts: Counts) -> ThingRead
+fn read_object(c: Cursor, s: &[u8], counts: Counts) -> Read<Thing>
     requires { (c.at + length s.now ≤ most_image) × (counts.scopes ≤ set_scopes) }
-    ensures { result ≡ thing_at (c.at + length s.now) (read_object counts s.now) }
+    ensures { result ≡ read_at (c.at + length s.now) (read_object counts s.now) }
 {
-    match objects::measure_object(c, s, counts.symbols, counts.scopes, Cursor::MOST_NESTING) {
-        Number::Read(_, past) => ThingRead::Read(
-            Thing {
-                tag: Thing::SYNTAX,
-                content: 0,
-            },
-            past,
-        ),
-        Number::Fault(f) => ThingRead::Fault(f),
-    }
+    let (_, past) = objects::measure_object(
+        c,
+        s,
+        counts.symbols,
+        counts.scopes,
+        Cursor::MOST_NESTING,
+    )?;
+    let t = Thing {
+        tag: Thing::SYNTAX,
+        content: 0,
+    };
+    Ok((t, past))
 }
 
 // The thing at a cursor, where `s` is the image from there on.
-pub fn read_thing(c: Cursor, s: &[u8], counts: Counts) -> ThingRead
+pub fn read_thing(c: Cursor, s: &[u8], counts: Counts) -> Read<Thing>
     requires { (c.at + length s.now ≤ most_image) × (counts.scopes ≤ set_scopes) }
-    ensures { result ≡ thing_at (c.at + length s.now) (read_thing counts s.now) }
+    ensures { result ≡ read_at (c.at + length s.now) (read_thing counts s.now) }
 {
-    match c.number(s) {
-        Number::Read(tag, past) => {
-            let rest = c.after(s, past);
-            if tag == Thing::ATOM {
-                return read_atom(past, rest);
-            }
-            if tag == Thing::SYNTAX {
-                return read_object(past, rest, counts);
-            }
-            read_content(past, rest, tag)
-        }
-        Number::Fault(f) => ThingRead::Fault(f),
+    let (tag, past) = c.number(s)?;
+    let rest = c.after(s, past);
+    match tag {
+        Thing::ATOM => read_atom(past, rest),
+        Thing::SYNTAX => read_object(past, rest, counts),
+        _ => read_content(past, rest, tag),
     }
 }
 
@@ -142,14 +121,12 @@ pub fn pass_over(c: Cursor, s: &[u8], counts: Counts) -> Span
     let mut pending: u32 = 1;
     let mut size: u32 = 0;
     while 0 < pending {
-        match read_thing(here, c.after(s, here), counts) {
-            ThingRead::Read(t, past) => {
-                size += 1;
-                pending = pending - 1 + t.parts();
-                here = past;
-            }
-            ThingRead::Fault(_) => return Span { size, end: here },
-        }
+        let Ok((t, past)) = read_thing(here, c.after(s, here), counts) else {
+            unreachable!()
+        };
+        size += 1;
+        pending = pending - 1 + t.parts();
+        here = past;
     }
     Span { size, end: here }
 }

@@ -5,20 +5,11 @@ use Rattle.places.proofs.pass_over.Goals as goal
 pub loop-pending-init : goal.loop-pending-init
 loop-pending-init c = search (passing_laws, rules)
 
-pub after-requires : goal.after-requires
-after-requires c = search (passing_laws, rules)
-
-pub read_thing-requires : goal.read_thing-requires
-read_thing-requires c = search (passing_laws, rules)
+pub unreachable-requires : goal.unreachable-requires
+unreachable-requires c = search (passing_laws, rules)
 
 pub overflow_add-size : goal.overflow_add-size
 overflow_add-size c = search (passing_laws, rules)
-
-pub overflow_sub-pending : goal.overflow_sub-pending
-overflow_sub-pending c = search (passing_laws, rules)
-
-pub parts-requires : goal.parts-requires
-parts-requires c = search (passing_laws, rules)
 
 pub overflow_add-pending : goal.overflow_add-pending
 overflow_add-pending c = search (passing_laws, rules)
@@ -28,9 +19,6 @@ loop-pending-smaller c = search (passing_laws, rules)
 
 pub loop-pending-preserved : goal.loop-pending-preserved
 loop-pending-preserved c = search (passing_laws, rules)
-
-pub returns-in-Fault : goal.returns-in-Fault
-returns-in-Fault c = search (passing_laws, rules)
 
 pub returns : goal.returns
 returns c = search (passing_laws, rules)

@@ -1,13 +1,9 @@
-use Rattle.numbers.proofs.Answering.{answering}
-use Rattle.places.proofs.Things.{thing_laws}
-use Rattle.std.proofs.Common.{rules}
+use Rattle.refusals.proofs.Handing.{handed_on}
+use Rattle.places.proofs.Things.{content-stops, content-read}
 use Rattle.places.proofs.read_content.Goals as goal
 
-pub number-requires : goal.number-requires
-number-requires c = search (thing_laws, answering, rules)
+pub returns-in_err-content : goal.returns-in_err-content
+returns-in_err-content c = handed_on c.from_residual.ensures.1 (content-stops _ _ c.number.ensures _ c.in_err-content.was)
 
-pub returns-in-Read : goal.returns-in-Read
-returns-in-Read c = search (thing_laws, answering, rules)
-
-pub returns-in-Fault : goal.returns-in-Fault
-returns-in-Fault c = search (thing_laws, answering, rules)
+pub returns : goal.returns
+returns c = content-read _ _ c.number.ensures _ c.in_ok-content.was

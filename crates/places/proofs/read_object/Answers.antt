@@ -1,13 +1,9 @@
-use Rattle.numbers.proofs.Answering.{answering}
-use Rattle.places.proofs.Things.{thing_laws}
-use Rattle.std.proofs.Common.{rules}
+use Rattle.refusals.proofs.Handing.{handed_on}
+use Rattle.places.proofs.Things.{object-stops, object-read}
 use Rattle.places.proofs.read_object.Goals as goal
 
-pub measure_object-requires : goal.measure_object-requires
-measure_object-requires c = search (thing_laws, answering, rules)
+pub returns-in_err-past : goal.returns-in_err-past
+returns-in_err-past c = handed_on c.from_residual.ensures.1 (object-stops _ _ _ c.measure_object.ensures c.in_err-past.was)
 
-pub returns-in-Read : goal.returns-in-Read
-returns-in-Read c = search (thing_laws, answering, rules)
-
-pub returns-in-Fault : goal.returns-in-Fault
-returns-in-Fault c = search (thing_laws, answering, rules)
+pub returns : goal.returns
+returns c = object-read _ _ _ c.measure_object.ensures c.in_ok-past.was

@@ -1,9 +1,5 @@
 use Rattle.places.proofs.Walking.{Noting}
-use Prim.Native.Nat.{◌-◌}
 use Rattle.places.proofs.counting.tally.Given as goal
 
 abbrev pub invariant-loop-place : goal.invariant-loop-place
 invariant-loop-place l = Noting l.counts l.c.at l.s l.count l.initial.words l.here.at l.place l.words
-
-abbrev pub decreases-loop-place : goal.decreases-loop-place
-decreases-loop-place l = l.count - l.place
