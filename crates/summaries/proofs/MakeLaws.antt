@@ -2,14 +2,16 @@
 use Prim.Native.Nat.{ℕ, zero, suc, ◌+◌, ◌-◌, ◌*◌, ◌≤◌, ◌<◌}
 use mathlib.Core.Path.{◌≡◌, refl, sym, ap, ◌∙◌}
 use mathlib.Core.Bool.{Bool, true, false}
-use mathlib.Core.List.{List, [], ◌∷◌, ◌++◌}
+use mathlib.Core.List.{List, ◌++◌}
 use native.Mathlib.Omega.{arith}
-use lib.Dec.{eqb, leb, ltb}
-use lib.ListN.{length, drop, get_or, set, length-set, length-drop, length-append, get_or-append}
-use lib.Seq.{get_or-set_same, get_or-set_other, get_or-append-add, get_or-drop, ext_get_or}
-use borrow.Author.Tests.{le-leb, lt-leb, eqb-true, eqb-false, ltb-true, ltb-false}
-use Rattle.model.specs.Choice.{when◌then◌else◌}
-use Rattle.model.specs.Refusals.{code_of}
+use lib.Dec.{leb, ltb}
+use lib.ListN.{length, take, drop, get_or, set, replicate, length-set, length-drop, length-append, length-replicate, get_or-append, get_or-replicate}
+use borrow.Rule.Slice.PartMut.{put_mid}
+use Rattle.std.proofs.Common.{rules}
+use Rattle.std.proofs.lemmas.List.{places}
+use lib.Seq.{length-take-le, get_or-set_same, get_or-set_other, get_or-append-add, get_or-drop, ext_get_or}
+use borrow.Author.Tests.{le-leb, lt-leb, ltb-true, ltb-false}
+use Rattle.std.specs.Prelude.{Result, Ok, Err}
 use Rattle.model.specs.Trees.{tsize}
 use Rattle.model.specs.Reading.{read_tree_image, read_image}
 use Rattle.requests.specs.Uses as u
@@ -17,86 +19,49 @@ use Rattle.requests.specs.Uses.{things, uses, first_use, Entry, entry_of, entry_
 use Rattle.requests.proofs.Uses.{summary-length, summary-count, summary-first}
 use Rattle.refusals.specs.declared.Refusal as declared
 use Rattle.refusals.specs.declared.Refusal.TheVariants as base
-use Rattle.refusals.specs.Refusing.{refusal_of}
 use Rattle.numbers.specs.Limits.{most_image}
-use Rattle.numbers.specs.declared.Cursor.{Cursor}
-use Rattle.head.specs.Fronts.{most_names}
 use Rattle.scopes.specs.Sets.{set_scopes}
 use Rattle.places.specs.Reading.{along}
-use Rattle.places.specs.Counting.{Room, Holds, Kept, Clear, Tallied}
+use Rattle.places.specs.Counting.{Room, Clear, Tallied}
 use Rattle.places.proofs.Along.{along-tree}
 use Rattle.summaries.specs.declared.opening.Opened.{Opened}
-use Rattle.summaries.specs.declared.opening.Opening.{Opening}
-use Rattle.summaries.specs.declared.opening.Opening.TheVariants as opening
-use Rattle.summaries.specs.declared.Making.{Making}
-use Rattle.summaries.specs.declared.Making.TheVariants as making
 use Rattle.summaries.specs.declared.refusal.UsesRefusal.{UsesRefusal}
-use Rattle.summaries.specs.declared.refusal.UsesRefusal.TheVariants.{Base, OtherTree, NoName}
-use Rattle.summaries.specs.Refusing.{uses_refusal_of}
+use Rattle.summaries.specs.declared.refusal.UsesRefusal.TheVariants.{Base}
 use Rattle.summaries.specs.Opening.{OpenedAt, Opens}
-use Rattle.summaries.specs.Making.{Clears, Ends, Makes}
+use Rattle.summaries.specs.Making.{Clears, Makes}
 
--- ---- codes
+-- ---- the entries cleared
 
-pub base-code : {k : ℕ} {q : UsesRefusal} {f : declared.Refusal} → q ≡ Base f → k ≡ code_of (refusal_of f) → k ≡ uses_code (uses_refusal_of q)
-base-code e h = rw e h
+module _ (k : ℕ) (xs ys : List ℕ) (i : ℕ) (h : 2 + k ≤ length xs) (n : length ys ≡ k) where
+  mid-before : i < 2 → get_or (put_mid 2 k xs ys) i 0 ≡ get_or xs i 0
+  mid-before l = search (rules, places)
 
-pub ruleset code_laws = (base-code)
+  mid-inside : 2 ≤ i → i < 2 + k → get_or (put_mid 2 k xs ys) i 0 ≡ get_or ys (i - 2) 0
+  mid-inside l m = search (rules, places)
 
--- ---- cleared up to a place
+  mid-behind : 2 + k ≤ i → get_or (put_mid 2 k xs ys) i 0 ≡ get_or xs i 0
+  mid-behind l = search (rules, places)
 
-pub record Cleared (names : ℕ) (words₀ : List ℕ) (i : ℕ) (words : List ℕ) : Type 0 where
-  pub from : 2 ≤ i
-  pub to : i ≤ 2 + 2 * names
-  pub kept : Kept names words₀ words
-  pub clear : (j : ℕ) → 2 ≤ j → j < i → get_or words j 0 ≡ 0
-
-pub clear-start : {names : ℕ} {words : List ℕ} → Cleared names words 2 words
-clear-start = record {
-  from = omega arith;
-  to = omega arith;
-  kept = record { long = refl; before = λ i h. refl; behind = λ i h. refl };
-  clear = λ j g l. absurd (omega arith);
-}
-
-module _ {names : ℕ} {words₀ : List ℕ} {i : ℕ} {words : List ℕ} (w : Cleared names words₀ i words) {end : ℕ} (at : end ≡ 2 + 2 * names) where
-  pub clear-inside : Room names words₀ → i < end → i < length words
-  clear-inside r h = omega (arith, w.kept.long, r.long)
-
-  pub clear-more : Room names words₀ → i < end → Cleared names words₀ (i + 1) (set words i 0)
-  clear-more r h = record {
-    from = omega (arith, w.from);
-    to = omega arith;
-    kept = record {
-      long = length-set words i 0 ∙ w.kept.long;
-      before = λ j l. get_or-set_other words i j 0 0 (λ q. omega (arith, w.from)) ∙ w.kept.before j l;
-      behind = λ j l. get_or-set_other words i j 0 0 (λ q. omega arith) ∙ w.kept.behind j l;
-    };
-    clear = λ j g l. at_place j g l;
-  }
-    where
-      different : (j : ℕ) → (j ≡ i → ⊥) → j < i + 1 → j < i
-      different j e l = by_order (ltb j i) refl
-        where
-          by_order : (b : Bool) → ltb j i ≡ b → j < i
-          by_order true q = ltb-true j i q
-          by_order false q = absurd (e (let z = ltb-false j i q in omega arith))
-
-      at_place : (j : ℕ) → 2 ≤ j → j < i + 1 → get_or (set words i 0) j 0 ≡ 0
-      at_place j g l = by_test (eqb j i) refl
-        where
-          by_test : (b : Bool) → eqb j i ≡ b → get_or (set words i 0) j 0 ≡ 0
-          by_test true q = let e = eqb-true j i q in rw e (get_or-set_same words i 0 0 (omega (arith, w.kept.long, r.long)))
-          by_test false q = let e = eqb-false j i q in get_or-set_other words i j 0 0 e ∙ w.clear j g (different j e l)
-
-  pub clear-ends : end ≤ i → Clears names words₀ words
-  unfolding uses first_use
-  clear-ends h = record {
-    kept = w.kept;
-    clear = record { counts = λ n l. w.clear (2 + 2 * n) (omega arith) (omega arith); firsts = λ n l. w.clear (3 + 2 * n) (omega arith) (omega arith) };
-  }
-
-pub ruleset clear_laws = (clear-start, clear-inside, clear-more, clear-ends)
+pub filled : {names end : ℕ} {words v : List ℕ} → Room names words → end ≡ 2 + 2 * names → v ≡ replicate (length (take (end - 2) (drop 2 words))) 0 → Clears names words (put_mid 2 (end - 2) words v)
+unfolding uses first_use
+filled {names} {end} {words} {v} r e f =
+    let l : length (take (end - 2) (drop 2 words)) ≡ end - 2 = length-take-le (end - 2) (drop 2 words) (omega (arith, r.long, length-drop 2 words)) in
+    let n : length v ≡ end - 2 = ap length f ∙ length-replicate (length (take (end - 2) (drop 2 words))) 0 ∙ l in
+    let h : 2 + (end - 2) ≤ length words = omega (arith, r.long) in
+    record {
+      kept = record {
+        long = omega (arith, length-append (take 2 words) (v ++ drop (end - 2) (drop 2 words)), length-append v (drop (end - 2) (drop 2 words)), length-take-le 2 words (omega arith), length-drop (end - 2) (drop 2 words), length-drop 2 words);
+        before = λ i b. mid-before (end - 2) words v i h n b;
+        behind = λ i b. mid-behind (end - 2) words v i h n (omega arith);
+      };
+      clear = record {
+        counts = λ j b. mid-inside (end - 2) words v (2 + 2 * j) h n (omega arith) (omega arith) ∙ zeros (2 + 2 * j - 2) (omega arith);
+        firsts = λ j b. mid-inside (end - 2) words v (3 + 2 * j) h n (omega arith) (omega arith) ∙ zeros (3 + 2 * j - 2) (omega arith);
+      };
+    }
+  where
+    zeros : (i : ℕ) → i < length (take (end - 2) (drop 2 words)) → get_or v i 0 ≡ 0
+    zeros i b = rw f (get_or-replicate (length (take (end - 2) (drop 2 words))) i 0 0 b)
 
 -- ---- what words are a summary, and behind it what was there before
 
@@ -189,13 +154,13 @@ unfolding summary_of
 same-summary g = rw (← g.names-are, ← g.size_is) refl
 
 module _ {image words : List ℕ} {o : Opened} (g : OpenedAt image o) {i : ℕ} (at : i ≡ 2 + 2 * o.counts.names) where
-  pub make_short : length words < i → Makes image words words (making.Refused (Base base.TooLong))
+  pub make_short : length words < i → Makes image words words (Err (Base base.TooLong))
   unfolding summary_in summary_answer summary_after
   make_short h =
       let z : leb (2 + 2 * g.read.head.names) (length words) ≡ false = rw (← g.names-are) (lt-leb (2 + 2 * o.counts.names) (length words) (omega arith)) in
       record { few = λ n q. absurd (apart n q); answer = rw (g.reads, z) refl; left = rw (g.reads, z) refl }
     where
-      apart : (n : ℕ) → making.Refused (Base base.TooLong) ≡ making.Made n → ⊥
+      apart : (n : ℕ) → ◌≡◌ {A = Result ℕ UsesRefusal} (Err (Base base.TooLong)) (Ok n) → ⊥
       apart n q = let z : ◌≡◌ {A = ℕ} 0 1 = cc in omega arith
 
   module _ (long : i ≤ length words) where
@@ -257,7 +222,7 @@ module _ {image words : List ℕ} {o : Opened} (g : OpenedAt image o) {i : ℕ} 
         pub made-long : length words' ≡ length words
         made-long = t.kept.long ∙ headed-long
 
-        pub make_made : Makes image words words' (making.Made o.counts.names)
+        pub make_made : Makes image words words' (Ok o.counts.names)
         unfolding ending summary_answer summary_after
         make_made =
             let l = summary-length o.size o.counts.names (entry_of (things g.read.root)) in
@@ -267,20 +232,20 @@ module _ {image words : List ℕ} {o : Opened} (g : OpenedAt image o) {i : ℕ} 
               left = rw ending-is (written_is made);
             }
           where
-            same : (n : ℕ) → making.Made o.counts.names ≡ making.Made n → o.counts.names ≡ n
+            same : (n : ℕ) → ◌≡◌ {A = Result ℕ UsesRefusal} (Ok o.counts.names) (Ok n) → o.counts.names ≡ n
             same n q = cc
 
 pub ruleset make_from_laws = (make_short, make_few, tally_image, tally_scopes, tally_size, make_room, size_fits, names-fits, headed-room, headed-clear, made-long, make_made)
 
-module _ (image words : List ℕ) {q : Opening} (h : Opens image q) where
-  pub make_refused : {f : declared.Refusal} → q ≡ opening.Fault f → Makes image words words (making.Refused (Base f))
+module _ (image words : List ℕ) {q : Result Opened declared.Refusal} (h : Opens image q) where
+  pub make_refused : {f : declared.Refusal} → q ≡ Err f → Makes image words words (Err (Base f))
   unfolding summary_in summary_answer summary_after
   make_refused {f} e = record { few = λ n z. absurd (apart n z); answer = rw (h.refused f e) refl; left = rw (h.refused f e) refl }
     where
-      apart : (n : ℕ) → making.Refused (Base f) ≡ making.Made n → ⊥
+      apart : (n : ℕ) → ◌≡◌ {A = Result ℕ UsesRefusal} (Err (Base f)) (Ok n) → ⊥
       apart n z = let y : ◌≡◌ {A = ℕ} 0 1 = cc in omega arith
 
-  pub make_opened : {o : Opened} → q ≡ opening.Tree o → OpenedAt image o
+  pub make_opened : {o : Opened} → q ≡ Ok o → OpenedAt image o
   make_opened {o} e = h.tree o e
 
 pub ruleset make_laws = (make_refused, make_opened)

@@ -7,6 +7,7 @@ use lib.ListN.{length, drop, get_or, length-drop}
 use lib.Seq.{drop_at}
 use mir.Syntax.{w8}
 use mir.Val.{Fits}
+use Rattle.std.specs.Prelude.{Result, Ok, Err}
 use Rattle.model.specs.Trees as m
 use Rattle.model.specs.Reading.{got, fault, Image, read_head, read_tree_image, read_image}
 use Rattle.model.specs.Writing.{head_bytes, tree_bytes, tree_image_bytes}
@@ -14,18 +15,16 @@ use Rattle.refusals.specs.Refusing.{refusal_of}
 use Rattle.refusals.specs.declared.Refusal.{Refusal}
 use Rattle.refusals.specs.declared.Refusal.TheVariants as refusal
 use Rattle.numbers.specs.declared.Cursor.{Cursor}
+use Rattle.numbers.specs.Answers.{read_at}
+use Rattle.numbers.proofs.Answering.{err_same, ok_same, ok-err}
 use Rattle.numbers.specs.Limits.{most_image}
 use Rattle.codec_laws.specs.WellFormed.{TreeFits, TreeImageFits}
 use Rattle.codec_laws.proofs.ImageLaws.{tree_read_keeps_limits, tree_read_then_written}
 use Rattle.head.specs.Heads.{head_at, declares}
 use Rattle.head.specs.declared.Head.{Head}
-use Rattle.head.specs.declared.HeadRead.{HeadRead}
-use Rattle.head.specs.declared.HeadRead.TheVariants as hd
 use Rattle.head.specs.declared.Counts.{Counts}
 use Rattle.roots.specs.declared.Extent.{Extent}
-use Rattle.roots.specs.declared.TreeRead.{TreeRead}
-use Rattle.roots.specs.declared.TreeRead.TheVariants as tree
-use Rattle.roots.specs.Measuring.{tree_at, whole_tree}
+use Rattle.roots.specs.Measuring.{whole_tree}
 use Rattle.roots.proofs.Kept.{counts_of}
 use Rattle.image.proofs.Heads.{bytes_of, image-short, image-long, HeadHere, name-count, scope-count, symbol-count, names-from, names-to, scopes-to, behind-head}
 use Rattle.image.proofs.TreeImages.{image_of, head-refused, H, root-refused, root, all_read}
@@ -33,43 +32,26 @@ use Rattle.places.specs.Standing.{Declared, At, Tree, Passed, Passes}
 use Rattle.places.specs.declared.Span.{Span}
 use Rattle.places.proofs.Passing.{size_le}
 use Rattle.summaries.specs.declared.opening.Opened.{Opened}
-use Rattle.summaries.specs.declared.opening.Opening.{Opening}
-use Rattle.summaries.specs.declared.opening.Opening.TheVariants as opening
 use Rattle.summaries.specs.Opening.{OpenedAt, Opens}
 
-fault_opens : (s : List ℕ) (f : Refusal) → read_image read_tree_image s ≡ fault (refusal_of f) → Opens s (opening.Fault f)
-fault_opens s f e = record {
-  tree = λ o q. absurd (apart o f q);
-  refused = λ g q. e ∙ ap (λ (x : Refusal). fault (refusal_of x)) (same f g q);
-}
-  where
-    apart : (o : Opened) (f : Refusal) → opening.Fault f ≡ opening.Tree o → ⊥
-    apart o f q = let z : ◌≡◌ {A = ℕ} 0 1 = cc in omega arith
+fault_opens : (s : List ℕ) (f : Refusal) → read_image read_tree_image s ≡ fault (refusal_of f) → Opens s (Err f)
+fault_opens s f e = record { tree = λ o q. absurd (ok-err (sym q)); refused = λ g q. e ∙ ap (λ (x : Refusal). fault (refusal_of x)) (err_same q) }
 
-    same : (f g : Refusal) → opening.Fault f ≡ opening.Fault g → f ≡ g
-    same f g q = cc
+tree_opens : (s : List ℕ) (o : Opened) → OpenedAt s o → Opens s (Ok o)
+tree_opens s o a = record { tree = λ p q. rw (← ok_same q) a; refused = λ f q. absurd (ok-err q) }
 
-tree_opens : (s : List ℕ) (o : Opened) → OpenedAt s o → Opens s (opening.Tree o)
-tree_opens s o a = record { tree = λ p q. rw (← same o p q) a; refused = λ f q. absurd (apart o f q) }
-  where
-    apart : (o : Opened) (f : Refusal) → opening.Tree o ≡ opening.Fault f → ⊥
-    apart o f q = let z : ◌≡◌ {A = ℕ} 0 1 = cc in omega arith
-
-    same : (o p : Opened) → opening.Tree o ≡ opening.Tree p → o ≡ p
-    same o p q = cc
-
-pub open_long : (s : List ℕ) → 65536 < length s → Opens s (opening.Fault refusal.OverLimit)
+pub open_long : (s : List ℕ) → 65536 < length s → Opens s (Err refusal.OverLimit)
 open_long s h = fault_opens s refusal.OverLimit (image-long read_tree_image s h)
 
-module _ (s : List ℕ) (known : (i : ℕ) → Fits w8 (get_or s i 0)) (short : length s ≤ 65536) {q : HeadRead} (a : q ≡ head_at (length s) (read_head 2 s)) where
-  pub open_head : {f : Refusal} → q ≡ hd.Fault f → Opens s (opening.Fault f)
+module _ (s : List ℕ) (known : (i : ℕ) → Fits w8 (get_or s i 0)) (short : length s ≤ 65536) {q : Result (Head × Cursor) Refusal} (a : q ≡ head_at (length s) (read_head 2 s)) where
+  pub open_head : {f : Refusal} → q ≡ Err f → Opens s (Err f)
   open_head {f} e = fault_opens s f (image-short read_tree_image s short ∙ head-refused s known short a e)
 
-  module _ {h : Head} {c : Cursor} (e : q ≡ hd.Read h c) {u : List ℕ} (i : u ≡ drop (c.at - 0) s) {n : Counts} (ne : n ≡ declares h) {x : TreeRead} (w : x ≡ tree_at (c.at + length u) (whole_tree n 64 0 u)) where
-    pub open_root : {f : Refusal} → x ≡ tree.Fault f → Opens s (opening.Fault f)
+  module _ {h : Head} {c : Cursor} (e : q ≡ Ok (h, c)) {u : List ℕ} (i : u ≡ drop (c.at - 0) s) {n : Counts} (ne : n ≡ declares h) {x : Result (Extent × Cursor) Refusal} (w : x ≡ read_at (c.at + length u) (whole_tree n 64 0 u)) where
+    pub open_root : {f : Refusal} → x ≡ Err f → Opens s (Err f)
     open_root {f} d = fault_opens s f (image-short read_tree_image s short ∙ root-refused s known short a e i ne w d)
 
-    module _ {y : Extent} {past : Cursor} (d : x ≡ tree.Read y past) where
+    module _ {y : Extent} {past : Cursor} (d : x ≡ Ok (y, past)) where
       abbrev K : HeadHere 2 s h c.at
       K = H s known short a e
 
@@ -120,7 +102,7 @@ module _ (s : List ℕ) (known : (i : ℕ) → Fits w8 (get_or s i 0)) (short : 
       pub root-tree : Tree n u
       root-tree = subst (λ (v : List ℕ). Tree n v) (sym (behind-head s c.at i)) (record { tree = read.root; rest = []; at = root-at })
 
-      pub open_tree : {sp : Span} → Passes n u c.at sp → Opens s (opening.Tree (record { root = c.at; counts = n; size = sp.size }))
+      pub open_tree : {sp : Span} → Passes n u c.at sp → Opens s (Ok (record { root = c.at; counts = n; size = sp.size }))
       open_tree {sp} p =
           tree_opens s (record { root = c.at; counts = n; size = sp.size }) (record {
             read = read;

@@ -2,48 +2,23 @@
 use Prim.Native.Nat.{ℕ, ◌+◌, ◌*◌, ◌≤◌, ◌<◌}
 use mathlib.Core.Path.{◌≡◌, refl, sym, ap, ap₂, ◌∙◌}
 use mathlib.Core.Bool.{Bool, true, false, not, ◌&&◌}
-use mathlib.Core.List.{List, []}
+use mathlib.Core.List.{List}
 use native.Mathlib.Omega.{arith}
-use lib.Dec.{eqb, leb, ltb}
+use lib.Dec.{eqb, leb}
 use lib.ListN.{length, get_or}
-use borrow.Author.Tests.{eq-eqb, ne_eqb, le-leb, lt-leb, leb-true, lt-ltb, le-ltb, not-true, not-false}
+use borrow.Author.Tests.{leb-true, lt-ltb, le-ltb, not-true, not-false}
+use Rattle.std.specs.Prelude.{Result, Ok, Err}
 use Rattle.laws.proofs.Tests.{and_both}
-use Rattle.model.specs.Choice.{when◌then◌else◌}
-use Rattle.model.specs.Trees.{tsize}
 use Rattle.model.specs.Reading.{read_tree_image, read_image}
 use Rattle.requests.specs.Uses as u
 use Rattle.requests.specs.Uses.{uses_in, entry_in, belongs}
 use Rattle.refusals.specs.declared.Refusal.{Refusal}
 use Rattle.summaries.specs.declared.opening.Opened.{Opened}
-use Rattle.summaries.specs.declared.opening.Opening.{Opening}
-use Rattle.summaries.specs.declared.opening.Opening.TheVariants as opening
-use Rattle.summaries.specs.declared.Asking.{Asking}
-use Rattle.summaries.specs.declared.Asking.TheVariants as asking
+use Rattle.places.specs.declared.counting.Entry.{Entry}
+use Rattle.summaries.specs.declared.refusal.UsesRefusal.{UsesRefusal}
 use Rattle.summaries.specs.declared.refusal.UsesRefusal.TheVariants as refusal
 use Rattle.summaries.specs.Opening.{OpenedAt, Opens}
-use Rattle.summaries.specs.Making.{belongs_to, Belongs, told_by, asked_of, AsksFrom, Asks}
-
--- ---- whether it belongs to the tree
-
-module _ (w : List ℕ) (o : Opened) {i : ℕ} (at : i ≡ 2 + 2 * o.counts.names) where
-  pub belongs-short : length w < i → false ≡ belongs_to w o
-  unfolding belongs_to
-  belongs-short h = rw (lt-leb (2 + 2 * o.counts.names) (length w) (omega arith)) refl
-
-  module _ (long : i ≤ length w) where
-    pub belongs-size : (get_or w 0 0 ≡ o.size → ⊥) → false ≡ belongs_to w o
-    unfolding belongs_to
-    belongs-size h = rw (le-leb (2 + 2 * o.counts.names) (length w) (omega arith), ne_eqb (get_or w 0 0) o.size h) refl
-
-    pub belongs-names : get_or w 0 0 ≡ o.size → eqb (get_or w 1 0) o.counts.names ≡ belongs_to w o
-    unfolding belongs_to
-    belongs-names h = rw (le-leb (2 + 2 * o.counts.names) (length w) (omega arith), eq-eqb (get_or w 0 0) o.size h) refl
-
-    pub size-inside : 0 < length w
-    size-inside = omega arith
-
-    pub names-inside : 1 < length w
-    names-inside = omega arith
+use Rattle.summaries.specs.Making.{belongs_to, asked_of, AsksFrom, Asks}
 
 -- ---- the entry
 
@@ -80,7 +55,7 @@ module _ (w : List ℕ) (o : Opened) (n : ℕ) {b : Bool} (is : b ≡ belongs_to
           let f : get_or w (i + 1) 0 ≡ get_or w (3 + 2 * n) 0 = ap (λ (j : ℕ). get_or w j 0) (let e : i + 1 ≡ 3 + 2 * n = omega arith in e) in
           rw (belonging, lt-ltb n o.counts.names inside) (ap₂ (λ (x y : ℕ). u.told (record { count = x; first = y })) c f)
 
-pub ruleset asking_laws = (belongs-short, belongs-size, belongs-names, size-inside, names-inside, asked-other, asked_no_name, count-inside, first-inside, asked-told)
+pub ruleset asking_laws = (asked-other, asked_no_name, count-inside, first-inside, asked-told)
 
 -- ---- of an image
 
@@ -88,16 +63,16 @@ asked_is : {image : List ℕ} {o : Opened} (g : OpenedAt image o) (w : List ℕ)
 unfolding uses_in asked_of belongs belongs_to
 asked_is g w n = rw (g.reads, ← g.names-are, ← g.size_is) refl
 
-module _ (image w : List ℕ) (n : ℕ) {q : Opening} (h : Opens image q) where
-  pub ask_refused : {f : Refusal} → q ≡ opening.Fault f → Asks image w n (asking.Refused (refusal.Base f))
+module _ (image w : List ℕ) (n : ℕ) {q : Result Opened Refusal} (h : Opens image q) where
+  pub ask_refused : {f : Refusal} → q ≡ Err f → Asks image w n (Err (refusal.Base f))
   unfolding uses_in
   ask_refused {f} e = rw (h.refused f e) refl
 
-  module _ {o : Opened} (e : q ≡ opening.Tree o) where
+  module _ {o : Opened} (e : q ≡ Ok o) where
     pub ask_few : o.counts.names ≤ 1024
     ask_few = (h.tree o e).at.declared.names-few
 
-    pub ask_told : (r : Asking) → AsksFrom w o n r → Asks image w n r
+    pub ask_told : (r : Result Entry UsesRefusal) → AsksFrom w o n r → Asks image w n r
     ask_told r a = a ∙ asked_is (h.tree o e) w n
 
 pub ruleset ask_laws = (ask_refused, ask_few, ask_told)

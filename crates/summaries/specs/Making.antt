@@ -1,5 +1,5 @@
 -- What is said of the words lent, and of a question to them.
-use Rattle.std.specs.Prelude.{ℕ, ◌+◌, ◌*◌, ◌≤◌, ◌≡◌, Bool, ◌&&◌, List, eqb, leb, ltb, length, get_or}
+use Rattle.std.specs.Prelude.{ℕ, ◌+◌, ◌*◌, ◌≤◌, ◌≡◌, Bool, ◌&&◌, List, eqb, leb, ltb, length, get_or, Result, Ok, Err}
 use Rattle.model.specs.Choice.{when◌then◌else◌}
 use Rattle.model.specs.Reading.{read_tree_image, read_image}
 use Rattle.model.specs.Jobs.{Answer}
@@ -8,10 +8,8 @@ use Rattle.requests.specs.Uses.{uses_code, refused_answer, SummaryEnding, summar
 use Rattle.places.specs.Counting.{Kept, Clear}
 use Rattle.head.specs.Fronts.{most_names}
 use Rattle.summaries.specs.declared.opening.Opened.{Opened}
-use Rattle.summaries.specs.declared.Making.{Making}
-use Rattle.summaries.specs.declared.Making.TheVariants as making
-use Rattle.summaries.specs.declared.Asking.{Asking}
-use Rattle.summaries.specs.declared.Asking.TheVariants as asking
+use Rattle.summaries.specs.declared.refusal.UsesRefusal.{UsesRefusal}
+use Rattle.places.specs.declared.counting.Entry.{Entry}
 use Rattle.summaries.specs.Refusing.{uses_refusal_of}
 
 pub record Clears (names : ℕ) (words words' : List ℕ) : Type 0 where
@@ -21,17 +19,17 @@ pub record Clears (names : ℕ) (words words' : List ℕ) : Type 0 where
 -- ---- the summary made
 
 -- what comes back
-abbrev pub answer_for : Making → Answer
-answer_for (making.Made names) = record { code = 0; units = 0; name = 0; len = 4 * (2 + 2 * names); first = 0; second = 0 }
-answer_for (making.Refused f) = refused_answer (uses_refusal_of f)
+abbrev pub answer_for : Result ℕ UsesRefusal → Answer
+answer_for (Ok names) = record { code = 0; units = 0; name = 0; len = 4 * (2 + 2 * names); first = 0; second = 0 }
+answer_for (Err f) = refused_answer (uses_refusal_of f)
 
 -- an ending, as the code answers it and leaves the words lent
-pub record Ends (e : SummaryEnding) (words words' : List ℕ) (r : Making) : Type 0 where
-  pub few : (n : ℕ) → r ≡ making.Made n → n ≤ most_names
+pub record Ends (e : SummaryEnding) (words words' : List ℕ) (r : Result ℕ UsesRefusal) : Type 0 where
+  pub few : (n : ℕ) → r ≡ Ok n → n ≤ most_names
   pub answer : answer_for r ≡ summary_answer e
   pub left : words' ≡ summary_after e words
 
-abbrev pub Makes : List ℕ → List ℕ → List ℕ → Making → Type 0
+abbrev pub Makes : List ℕ → List ℕ → List ℕ → Result ℕ UsesRefusal → Type 0
 Makes image words words' r = Ends (summary_in (length words) (read_image read_tree_image image)) words words' r
 
 -- ---- a question
@@ -42,9 +40,9 @@ belongs_to w o = leb (2 + 2 * o.counts.names) (length w) && eqb (get_or w 0 0) o
 abbrev pub Belongs : List ℕ → Opened → Bool → Type 0
 Belongs w o r = r ≡ belongs_to w o
 
-abbrev pub told_by : Asking → UsesEnding
-told_by (asking.Told c f) = u.told (record { count = c; first = f })
-told_by (asking.Refused f) = u.refused (uses_refusal_of f)
+abbrev pub told_by : Result Entry UsesRefusal → UsesEnding
+told_by (Ok e) = u.told (record { count = e.count; first = e.first })
+told_by (Err f) = u.refused (uses_refusal_of f)
 
 unfoldable pub asked_of : List ℕ → Opened → ℕ → UsesEnding
 unfolding belongs_to
@@ -54,8 +52,8 @@ asked_of w o n =
     else u.refused u.no_name
     else u.refused u.other_tree
 
-abbrev pub AsksFrom : List ℕ → Opened → ℕ → Asking → Type 0
+abbrev pub AsksFrom : List ℕ → Opened → ℕ → Result Entry UsesRefusal → Type 0
 AsksFrom w o n r = told_by r ≡ asked_of w o n
 
-abbrev pub Asks : List ℕ → List ℕ → ℕ → Asking → Type 0
+abbrev pub Asks : List ℕ → List ℕ → ℕ → Result Entry UsesRefusal → Type 0
 Asks image w n r = told_by r ≡ uses_in w n (read_image read_tree_image image)

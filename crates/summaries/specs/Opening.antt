@@ -1,5 +1,5 @@
 -- What is known of a tree image that was opened.
-use Rattle.std.specs.Prelude.{ℕ, ◌≤◌, ◌≡◌, List, [], length, drop}
+use Rattle.std.specs.Prelude.{ℕ, ◌≤◌, ◌≡◌, List, [], length, drop, Result, Ok, Err}
 use Rattle.model.specs.Trees.{Tree, tsize}
 use Rattle.model.specs.Reading.{Image, symbols, got, fault, read_tree_image, read_image}
 use Rattle.model.specs.Writing.{head_bytes, tree_image_bytes}
@@ -9,8 +9,6 @@ use Rattle.codec_laws.specs.WellFormed.{Bytes, HeadFits}
 use Rattle.numbers.specs.Limits.{most_image}
 use Rattle.places.specs.Standing.{At}
 use Rattle.summaries.specs.declared.opening.Opened.{Opened}
-use Rattle.summaries.specs.declared.opening.Opening.{Opening}
-use Rattle.summaries.specs.declared.opening.Opening.TheVariants as opening
 
 pub record OpenedAt (image : List ℕ) (o : Opened) : Type 0 where
   pub read : Image Tree
@@ -27,6 +25,6 @@ pub record OpenedAt (image : List ℕ) (o : Opened) : Type 0 where
   pub size_is : o.size ≡ tsize read.root
   pub size-to : o.size ≤ most_image
 
-pub record Opens (image : List ℕ) (r : Opening) : Type 0 where
-  pub tree : (o : Opened) → r ≡ opening.Tree o → OpenedAt image o
-  pub refused : (f : Refusal) → r ≡ opening.Fault f → read_image read_tree_image image ≡ fault (refusal_of f)
+pub record Opens (image : List ℕ) (r : Result Opened Refusal) : Type 0 where
+  pub tree : (o : Opened) → r ≡ Ok o → OpenedAt image o
+  pub refused : (f : Refusal) → r ≡ Err f → read_image read_tree_image image ≡ fault (refusal_of f)

@@ -1,10 +1,9 @@
 // A tree image judged and measured. Code 3 is not asked: an open tree has a summary too.
 ghost use Rattle.summaries.specs.Opening.{Opens};
 
-use head::{Counts, Head, HeadRead};
+use head::{Counts, Head};
 use numbers::Cursor;
 use refusals::Refusal;
-use roots::TreeRead;
 
 // Where the root begins, what the head declares, and how many things the tree is.
 #[derive(Clone, Copy)]
@@ -14,35 +13,21 @@ pub struct Opened {
     pub size: u32,
 }
 
-#[derive(Clone, Copy)]
-pub enum Opening {
-    Tree(Opened),
-    Fault(Refusal),
-}
-
-pub fn open(image: &[u8]) -> Opening
+pub fn open(image: &[u8]) -> Result<Opened, Refusal>
     ensures { Opens image.now result }
 {
     if Cursor::MOST_IMAGE < image.len() {
-        return Opening::Fault(Refusal::OverLimit);
+        return Err(Refusal::OverLimit);
     }
-    match head::read_head(image, Head::TREE) {
-        HeadRead::Read(h, c) => {
-            let front = Cursor { at: 0 };
-            let counts = h.counts();
-            let rest = front.after(image, c);
-            match roots::measure_tree_root(c, rest, counts) {
-                TreeRead::Read(_, _) => {
-                    let span = places::pass_over(c, rest, counts);
-                    Opening::Tree(Opened {
-                        root: c.at,
-                        counts,
-                        size: span.size,
-                    })
-                }
-                TreeRead::Fault(f) => Opening::Fault(f),
-            }
-        }
-        HeadRead::Fault(f) => Opening::Fault(f),
-    }
+    let (h, c) = head::read_head(image, Head::TREE)?;
+    let counts = h.counts();
+    let front = Cursor { at: 0 };
+    let rest = front.after(image, c);
+    roots::measure_tree_root(c, rest, counts)?;
+    let span = places::pass_over(c, rest, counts);
+    Ok(Opened {
+        root: c.at,
+        counts,
+        size: span.size,
+    })
 }

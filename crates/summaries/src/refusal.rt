@@ -2,6 +2,7 @@
 ghost use Rattle.std.specs.Prelude.{◌≡◌};
 ghost use Rattle.requests.specs.Uses.{uses_code};
 ghost use Rattle.summaries.specs.Refusing.{uses_refusal_of};
+ghost use Rattle.summaries.specs.declared.refusal.UsesRefusal.TheVariants.{Base};
 
 use refusals::Refusal;
 
@@ -10,6 +11,14 @@ pub enum UsesRefusal {
     Base(Refusal),
     OtherTree,
     NoName,
+}
+
+impl From<Refusal> for UsesRefusal {
+    ghost from_gives = { λ f u. u ≡ Base f };
+
+    fn from(f: Refusal) -> Self {
+        UsesRefusal::Base(f)
+    }
 }
 
 impl UsesRefusal {

@@ -1,15 +1,9 @@
-use Rattle.summaries.proofs.MakeLaws.{make_laws}
-use Rattle.std.proofs.Common.{rules}
+use Rattle.std.proofs.Common.{◌≡◌, refl}
+use Rattle.std.specs.Prelude.{Err}
+use Rattle.refusals.proofs.Handing.{handed_on}
+use Rattle.summaries.specs.declared.refusal.UsesRefusal.TheVariants.{Base}
+use Rattle.summaries.proofs.MakeLaws.{make_refused}
 use Rattle.summaries.proofs.make.Goals as goal
 
-pub open-requires : goal.open-requires
-open-requires c = search (make_laws, rules)
-
-pub make_from-requires : goal.make_from-requires
-make_from-requires c = search (make_laws, rules)
-
-pub returns-in-Tree : goal.returns-in-Tree
-returns-in-Tree c = search (make_laws, rules)
-
-pub returns-in-Fault : goal.returns-in-Fault
-returns-in-Fault c = search (make_laws, rules)
+pub returns-in_err-open : goal.returns-in_err-open
+returns-in_err-open c = let e : c.from_residual.result ≡ Err (Base c.in_err-open.field-0.0) = handed_on c.from_residual.ensures.1 refl in rw e (make_refused _ _ c.open.ensures c.in_err-open.was)
