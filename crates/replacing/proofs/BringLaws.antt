@@ -3,28 +3,23 @@ use Prim.Native.Nat.{ℕ, zero, suc, ◌+◌, ◌-◌, ◌*◌, ◌≤◌, ◌<�
 use mathlib.Core.Path.{◌≡◌, refl, sym, ap, ◌∙◌, subst}
 use mathlib.Core.List.{List, [], ◌++◌}
 use native.Mathlib.Omega.{arith}
-use lib.ListN.{length, take, drop, get_or, set, replicate, length-set, length-drop, length-append, length-take, length-replicate, get_or-replicate}
+use lib.ListN.{length, take, drop, get_or, set, replicate, length-set, length-drop, length-append, length-replicate, get_or-replicate}
 use lib.Seq.{get_or-set_same, get_or-set_other, length-take-le}
 use Rattle.model.specs.Trees.{tsize}
 use Rattle.model.specs.Writing.{tree_bytes}
-use Rattle.requests.specs.Uses as u
 use Rattle.requests.specs.Uses.{things, uses, first_use, summary_words, entry_in}
 use Rattle.requests.specs.Replacing as q
 use Rattle.requests.specs.Replacing.{spot_in, change_of, count_after, first_after, entry_after, brought_up}
-use Rattle.requests.proofs.Uses.{size-things, uses-few, first-within, first-none, summary-length}
+use Rattle.requests.proofs.Uses.{size-things, first-within, first-none, summary-length}
 use Rattle.numbers.specs.Limits.{most_image}
 use Rattle.scopes.specs.Sets.{set_scopes}
-use Rattle.head.specs.Fronts.{most_names}
-use Rattle.head.specs.declared.Counts.{Counts}
 use Rattle.places.specs.Reading.{along}
-use Rattle.places.specs.Standing.{At}
-use Rattle.places.specs.Counting.{Room, Holds, Kept, Clear, Tallied}
+use Rattle.places.specs.Counting.{Room, Holds, Clear, Tallied}
 use Rattle.places.proofs.Along.{along-tree}
 use Rattle.places.proofs.Passing.{size_le}
 use Rattle.text.specs.Placing.{Placed}
 use Rattle.text.proofs.Placing.{placed_then, placed-length}
 use Rattle.summaries.specs.declared.opening.Opened.{Opened}
-use Rattle.summaries.specs.Opening.{OpenedAt}
 use Rattle.summaries.proofs.MakeLaws.{Written, written_is}
 use Rattle.replacing.specs.declared.updating.Change.{Change}
 use Rattle.replacing.specs.Updating.{Small, Firsts, Means, Tells, Renewed, Renews}

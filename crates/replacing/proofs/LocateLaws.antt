@@ -1,18 +1,17 @@
 -- A place found: the tree that holds it is among the trees from here on, and is entered or passed over.
 use Prim.Native.Nat.{ℕ, zero, suc, ◌+◌, ◌-◌, ◌≤◌, ◌<◌}
-use mathlib.Core.Path.{◌≡◌, refl, sym, ap, ap₂, ◌∙◌, subst}
+use mathlib.Core.Path.{◌≡◌, refl, sym, ap, ◌∙◌, subst}
 use mathlib.Core.Bool.{Bool, true, false}
 use mathlib.Core.List.{List, [], ◌∷◌, ◌++◌, append_assoc, append-nil}
 use native.Mathlib.Omega.{arith}
-use lib.Dec.{eqb, ltb}
+use lib.Dec.{ltb}
 use lib.ListN.{length, drop, length-drop, length-append}
 use lib.Seq.{drop-drop, drop_at}
-use borrow.Author.Tests.{eq-eqb, ne_eqb, lt-ltb, le-ltb}
+use borrow.Author.Tests.{lt-ltb, le-ltb}
 use Rattle.model.specs.Choice.{when◌then◌else◌}
 use Rattle.model.specs.Limits.{most_nesting}
 use Rattle.model.specs.Trees as m
 use Rattle.model.specs.Trees.{var, app, fun, datum, lst, stx, Trees, tnil, tcons, tcount, tsize, tsize_by, tsizes_by, tnesting, tnestings}
-use Rattle.model.specs.Reading.{got}
 use Rattle.model.specs.Writing.{num_bytes, tree_bytes, trees_bytes}
 use Rattle.codec_laws.proofs.NumberTrip.{fault≢got, got-value, got-rest}
 use Rattle.requests.specs.Uses as u
@@ -23,19 +22,17 @@ use Rattle.requests.proofs.Uses.{tsizes, size-things}
 use Rattle.refusals.specs.declared.Refusal.{Refusal}
 use Rattle.refusals.specs.Refusing.{refusal_of}
 use Rattle.numbers.specs.declared.Cursor.{Cursor}
-use Rattle.numbers.specs.Limits.{most_image}
-use Rattle.numbers.proofs.Answering.{Took, took, refused}
+use Rattle.numbers.proofs.Answering.{Took, took, refused, read_shape}
+use Rattle.numbers.specs.Answers.{read_at}
+use Rattle.std.specs.Prelude.{Result, Ok, Err}
 use Rattle.head.specs.declared.Counts.{Counts}
 use Rattle.places.specs.declared.Thing.{Thing}
-use Rattle.places.specs.declared.ThingRead.{ThingRead}
-use Rattle.places.specs.declared.ThingRead.TheVariants.{Read, Fault}
 use Rattle.places.specs.declared.Span.{Span}
-use Rattle.places.specs.Reading.{thing_at, read_thing, thing_of, along}
+use Rattle.places.specs.Reading.{read_thing, thing_of, along}
 use Rattle.places.specs.Standing.{At, Tree, Passes}
-use Rattle.places.proofs.Things.{thing_shape, thing_tail}
-use Rattle.places.proofs.Standing.{front, front_bytes, parts, bytes_parted, front-some, size_parted, AllAt, thing-read, parts_at, first-at, others-at}
+use Rattle.places.proofs.Things.{thing_tail}
+use Rattle.places.proofs.Standing.{front, front_bytes, parts, bytes_parted, size_parted, AllAt, thing-read, parts_at, first-at, others-at}
 use Rattle.places.proofs.Along.{step, tree-along}
-use Rattle.replacing.specs.declared.locating.Spot.{Spot}
 use Rattle.replacing.specs.Locating.{lowest, Inside, Found, Locates}
 
 -- ---- a tree entered: its parts hold the place
@@ -287,12 +284,6 @@ module _ {k : Counts} {at : ℕ} {s : List ℕ} {place : ℕ} {t : m.Tree} {rest
 -- ---- one law for each way on and out
 
 module _ {k : Counts} {at : ℕ} {s : List ℕ} {place here left levels low : ℕ} (w : Midway k at s place here left levels low) where
-  pub locate_moved : at ≤ here
-  locate_moved = w.moved
-
-  pub locate_within : here ≤ at + length s
-  locate_within = w.within
-
   pub locate_ends : {end : Cursor} → end.at ≡ here → left ≤ 0 → Locates k s at place (record { at = end; levels = levels; low = low })
   locate_ends {end} e h t rest a p = by_left left refl (w.way t rest a p)
     where
@@ -303,9 +294,6 @@ module _ {k : Counts} {at : ℕ} {s : List ℕ} {place here left levels low : �
   module _ {v : List ℕ} (i : v ≡ drop (here - at) s) where
     ends : here + length v ≡ at + length s
     ends = let l = ap length i ∙ length-drop (here - at) s in omega (arith, w.moved, w.within)
-
-    pub locate_fits : {n : ℕ} → at + length s ≤ n → here + length v ≤ n
-    locate_fits h = let e = ends in omega arith
 
     -- of the tree that is known to be there
     module _ (I : Inside k s place) where
@@ -349,15 +337,15 @@ module _ {k : Counts} {at : ℕ} {s : List ℕ} {place here left levels low : �
                   let Q = P f (trees_bytes l ++ (known.behind ++ I.here.rest)) (subst (λ (z : List ℕ). At k z f (trees_bytes l ++ (known.behind ++ I.here.rest))) (sym i) (first-at a)) in
                   omega (arith, parts-levels f levels (omega arith) (omega (arith, Q.size_is)))
 
-          module _ {r : ThingRead} (a : r ≡ thing_at (here + length v) (read_thing k v)) where
-            pub enter_stops : {f : Refusal} {end : Cursor} → r ≡ Fault f → Locates k s at place (record { at = end; levels = levels; low = low })
-            enter_stops {f} e t rest b p =
-                absurd (fault≢got (refusal_of f) (front locate_tree.tree) (trees_bytes (parts locate_tree.tree) ++ locate_tree.rest)
-                (sym (refused thing_shape (here + length v) (read_thing k v) a e) ∙ thing-read locate_tree.at))
+          module _ {r : Result (Thing × Cursor) Refusal} (a : r ≡ read_at (here + length v) (read_thing k v)) where
+            pub enter_sure : {f : Refusal} → r ≡ Err f → ⊥
+            enter_sure {f} e =
+                fault≢got (refusal_of f) (front locate_tree.tree) (trees_bytes (parts locate_tree.tree) ++ locate_tree.rest)
+                (sym (refused read_shape (here + length v) (read_thing k v) a e) ∙ thing-read locate_tree.at)
 
-            pub enter_more : {x : Thing} {past : Cursor} {n : ℕ} → r ≡ Read x past → n ≡ lowest x → Midway k at s place past.at (left - 1) (levels - 1) n
+            pub enter_more : {x : Thing} {past : Cursor} {n : ℕ} → r ≡ Ok (x, past) → n ≡ lowest x → Midway k at s place past.at (left - 1) (levels - 1) n
             enter_more {x} {past} {n} e z =
-                let T : Took here v (read_thing k v) x past.at = took thing_shape a e (thing_tail k v) in
+                let T : Took here v (read_thing k v) x past.at = took read_shape a e (thing_tail k v) in
                 let y = ends in
                 record {
                   moved = omega (arith, T.moved, w.moved);
@@ -376,12 +364,4 @@ module _ {k : Counts} {at : ℕ} {s : List ℕ} {place here left levels low : �
                         let g = enter_way i w.moved j P (omega arith) T c in
                         subst (λ (b : ℕ). Way k at s place t rest past.at b (levels - 1) n) (sym d) (subst (λ (b : ℕ). Way k at s place t rest past.at j (levels - 1) b) (sym z) g)
 
-pub low-list : (t : Thing) → t.tag ≡ 4 → 2 ≡ lowest t
-unfolding lowest
-low-list t e = rw (eq-eqb t.tag 4 e) refl
-
-pub low-other : (t : Thing) → (t.tag ≡ 4 → ⊥) → 0 ≡ lowest t
-unfolding lowest
-low-other t e = rw (ne_eqb t.tag 4 e) refl
-
-pub ruleset locate_laws = (locate_start, locate_moved, locate_within, locate_ends, locate_fits, locate_tree, skip_less, skip_more, enter_levels, enter_stops, enter_more, low-list, low-other)
+pub ruleset locate_laws = (locate_start, locate_ends, locate_tree, skip_less, skip_more, enter_levels, enter_sure, enter_more)

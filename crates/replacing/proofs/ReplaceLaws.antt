@@ -1,25 +1,24 @@
 -- The whole replacement: one law for each way on and out.
 use Prim.Native.Nat.{ℕ, zero, suc, ◌+◌, ◌-◌, ◌*◌, ◌≤◌, ◌<◌}
 use mathlib.Core.Path.{◌≡◌, refl, sym, ap, ap₂, ◌∙◌, subst}
-use mathlib.Core.Bool.{Bool, true, false, not, ◌&&◌}
+use mathlib.Core.Bool.{Bool, true, false, ◌&&◌}
 use mathlib.Core.List.{List, [], ◌++◌, append_assoc, append-nil}
 use native.Mathlib.Omega.{arith}
 use lib.Dec.{eqb, leb, ltb}
 use lib.ListN.{length, take, drop, get_or, length-drop, length-append}
-use lib.Seq.{sets, sets-eq, drop-drop, drop_at, take_at}
+use lib.Seq.{sets, sets-eq, drop_at, take_at}
 use mir.Syntax.{w8}
 use mir.Val.{Fits}
-use borrow.Author.Tests.{le-leb, lt-leb, lt-ltb, le-ltb, leb-true, eqb-true, not-true, not-false}
+use borrow.Author.Tests.{le-leb, lt-leb, lt-ltb, le-ltb, leb-true, eqb-true}
 use Rattle.laws.proofs.Tests.{and_both}
 use Rattle.model.specs.Choice.{when◌then◌else◌}
 use Rattle.model.specs.Limits as limit
 use Rattle.model.specs.Refusals.{too_long}
 use Rattle.model.specs.Trees as m
 use Rattle.model.specs.Trees.{var, app, fun, datum, lst, stx, Trees, tnil, tcons, tsize}
-use Rattle.model.specs.Reading as r
-use Rattle.model.specs.Reading.{got, fault, next, Image, at_end, read_tree, read_tree_image, read_image}
+use Rattle.model.specs.Reading.{got, fault, at_end, read_tree, read_tree_image, read_image}
 use Rattle.model.specs.Writing.{head_bytes, tree_bytes, tree_image_bytes}
-use Rattle.codec_laws.specs.WellFormed.{Bytes, TreeFits}
+use Rattle.codec_laws.specs.WellFormed.{TreeFits}
 use Rattle.codec_laws.proofs.TreeTrip.{TreeTook, tree_w}
 use Rattle.requests.specs.Uses as u
 use Rattle.requests.specs.Uses.{things, belongs, refused_answer}
@@ -31,12 +30,12 @@ use Rattle.requests.proofs.Replacing.{parted}
 use Rattle.refusals.specs.Refusing.{refusal_of}
 use Rattle.refusals.specs.declared.Refusal.{Refusal}
 use Rattle.refusals.specs.declared.Refusal.TheVariants as base
+use Rattle.std.specs.Prelude.{Result, Ok, Err}
+use Rattle.numbers.specs.Answers.{read_at}
 use Rattle.numbers.specs.Limits.{most_image}
 use Rattle.numbers.specs.declared.Cursor.{Cursor}
 use Rattle.roots.specs.declared.Extent.{Extent}
-use Rattle.roots.specs.declared.TreeRead.{TreeRead}
-use Rattle.roots.specs.declared.TreeRead.TheVariants as tree
-use Rattle.roots.specs.Measuring.{tree_at, then_end, whole_tree}
+use Rattle.roots.specs.Measuring.{then_end, whole_tree}
 use Rattle.numbers.proofs.Answering.{Kept}
 use Rattle.roots.proofs.Kept.{counts_of, extent_of}
 use Rattle.roots.proofs.Whole.{tree-refused, tree-read}
@@ -47,32 +46,25 @@ use Rattle.places.specs.Reading.{along}
 use Rattle.places.specs.Standing.{At, Tree, Passed, Passes}
 use Rattle.places.specs.declared.Span.{Span}
 use Rattle.places.proofs.Along.{along-tree, tree-along}
-use Rattle.places.proofs.Passing.{size_le}
 use Rattle.text.specs.Placing.{Placed}
 use Rattle.summaries.specs.declared.opening.Opened.{Opened}
-use Rattle.summaries.specs.declared.opening.Opening.{Opening}
-use Rattle.summaries.specs.declared.opening.Opening.TheVariants as opening
 use Rattle.summaries.specs.declared.refusal.UsesRefusal.{UsesRefusal}
 use Rattle.summaries.specs.declared.refusal.UsesRefusal.TheVariants as refusal
 use Rattle.summaries.specs.Refusing.{uses_refusal_of}
 use Rattle.summaries.specs.Opening.{OpenedAt, Opens}
 use Rattle.summaries.specs.Making.{belongs_to}
 use Rattle.replacing.specs.declared.locating.Spot as code
-use Rattle.replacing.specs.declared.updating.Change.{Change}
-use Rattle.replacing.specs.declared.Cut.{Cut}
-use Rattle.replacing.specs.declared.Replacing.{Replacing}
-use Rattle.replacing.specs.declared.Replacing.TheVariants as replacing
 use Rattle.replacing.specs.Locating.{Inside, Found, Locates}
-use Rattle.replacing.specs.Replacing.{Parted, Held, BringsUp, Ends, Replaces, Asked, Ready}
+use Rattle.replacing.specs.Replacing.{Parted, Held, BringsUp, Replaces, Asked, Ready}
 
 -- ---- refusals
 
 module _ (image part words out : List ℕ) (place : ℕ) where
-  refused-ends : (f : UsesRefusal) → replace_in (length out) words place part (read_image read_tree_image image) ≡ q.refused (uses_refusal_of f) → Replaces image place part words words out out (replacing.Refused f)
+  refused-ends : (f : UsesRefusal) → replace_in (length out) words place part (read_image read_tree_image image) ≡ q.refused (uses_refusal_of f) → Replaces image place part words words out out (Err f)
   unfolding replace_answer summary_after_replace output_after_replace
   refused-ends f e = record { short = λ n z. absurd (apart n z); answer = rw e refl; words_left = rw e refl; out-left = rw e refl }
     where
-      apart : (n : ℕ) → replacing.Refused f ≡ replacing.Made n → ⊥
+      apart : (n : ℕ) → ◌≡◌ {A = Result ℕ UsesRefusal} (Err f) (Ok n) → ⊥
       apart n z = let y : ◌≡◌ {A = ℕ} 0 1 = cc in omega arith
 
   module _ {o : Opened} (g : OpenedAt image o) where
@@ -80,7 +72,7 @@ module _ (image part words out : List ℕ) (place : ℕ) where
     unfolding belongs belongs_to
     same-belongs = rw (← g.names-are, ← g.size_is) refl
 
-    other-tree : (belongs_to words o && ltb place o.size) ≡ false → Replaces image place part words words out out (replacing.Refused refusal.OtherTree)
+    other-tree : (belongs_to words o && ltb place o.size) ≡ false → Replaces image place part words words out out (Err refusal.OtherTree)
     unfolding replace_in
     other-tree e =
         let z : (belongs words g.read && ltb place (tsize g.read.root)) ≡ false = ap₂ (λ (x : Bool) (y : ℕ). x && ltb place y) same-belongs (sym g.size_is) ∙ e in
@@ -97,30 +89,30 @@ module _ (image part words out : List ℕ) (place : ℕ) where
         ap₂ (λ (x : Bool) (y : ℕ). x && ltb place y) (same-belongs g ∙ A.belongs) (sym g.size_is) ∙ lt-ltb place o.size A.inside in
         rw (g.reads, z) refl
 
-    part-refused : (f : Refusal) → read_part g.read.head (spot_in place g.read.root) part ≡ fault (refusal_of f) → Replaces image place part words words out out (replacing.Refused (refusal.Base f))
+    part-refused : (f : Refusal) → read_part g.read.head (spot_in place g.read.root) part ≡ fault (refusal_of f) → Replaces image place part words words out out (Err (refusal.Base f))
     unfolding with_part
     part-refused f e = refused-ends (refusal.Base f) (ending-asked ∙ rw e refl)
 
 -- ---- before the tree is asked
 
-module _ (image part words out : List ℕ) (place : ℕ) {w : Opening} (h : Opens image w) where
-  pub open_refused : {f : Refusal} → w ≡ opening.Fault f → Replaces image place part words words out out (replacing.Refused (refusal.Base f))
+module _ (image part words out : List ℕ) (place : ℕ) {w : Result Opened Refusal} (h : Opens image w) where
+  pub open_refused : {f : Refusal} → w ≡ Err f → Replaces image place part words words out out (Err (refusal.Base f))
   unfolding replace_in
   open_refused {f} e = refused-ends image part words out place (refusal.Base f) (rw (h.refused f e) refl)
 
-  module _ {o : Opened} (e : w ≡ opening.Tree o) where
+  module _ {o : Opened} (e : w ≡ Ok o) where
     pub open_few : o.counts.names ≤ 1024
     open_few = (h.tree o e).at.declared.names-few
 
     module _ {b : Bool} (s : b ≡ belongs_to words o) where
-      pub open_other : not b ≡ true → Replaces image place part words words out out (replacing.Refused refusal.OtherTree)
-      open_other z = other-tree image part words out place (h.tree o e) (ap (λ (x : Bool). x && ltb place o.size) (sym s ∙ not-true b z))
+      pub open_other : b ≡ false → Replaces image place part words words out out (Err refusal.OtherTree)
+      open_other z = other-tree image part words out place (h.tree o e) (ap (λ (x : Bool). x && ltb place o.size) (sym s ∙ z))
 
-      pub open_beyond : not b ≡ false → o.size ≤ place → Replaces image place part words words out out (replacing.Refused refusal.OtherTree)
-      open_beyond z l = other-tree image part words out place (h.tree o e) (ap (λ (x : Bool). x && ltb place o.size) (sym s ∙ not-false b z) ∙ le-ltb place o.size l)
+      pub open_beyond : b ≡ true → o.size ≤ place → Replaces image place part words words out out (Err refusal.OtherTree)
+      open_beyond z l = other-tree image part words out place (h.tree o e) (ap (λ (x : Bool). x && ltb place o.size) (sym s ∙ z) ∙ le-ltb place o.size l)
 
-      pub open_asked : not b ≡ false → place < o.size → Asked image o place words
-      open_asked z l = record { opened = h.tree o e; belongs = sym s ∙ not-false b z; inside = l }
+      pub open_asked : b ≡ true → place < o.size → Asked image o place words
+      open_asked z l = record { opened = h.tree o e; belongs = sym s ∙ z; inside = l }
 
 pub ruleset replace_laws = (open_refused, open_few, open_other, open_beyond, open_asked)
 
@@ -180,22 +172,22 @@ module _ (image part words out : List ℕ) (place : ℕ) {o : Opened} (A : Asked
     inside = rw (← G.size_is) A.inside;
   }
 
-  pub in_long : 65536 < length part → Replaces image place part words words out out (replacing.Refused (refusal.Base base.OverLimit))
+  pub in_long : 65536 < length part → Replaces image place part words words out out (Err (refusal.Base base.OverLimit))
   unfolding read_part limit.most_image
   in_long h = part-refused image part words out place A base.OverLimit (rw (lt-leb (length part) 65536 h) refl)
 
   module _ (known : (i : ℕ) → Fits w8 (get_or part i 0)) (fits : length part ≤ 65536) {s : List ℕ} (e : s ≡ drop (o.root - 0) image) {sp : code.Spot} (L : Locates o.counts s o.root place sp)
-      {x : TreeRead} (w : x ≡ tree_at (0 + length part) (whole_tree o.counts sp.levels sp.low part)) where
+      {x : Result (Extent × Cursor) Refusal} (w : x ≡ read_at (0 + length part) (whole_tree o.counts sp.levels sp.low part)) where
     found : Found o.counts (drop o.root image) o.root place G.read.root [] sp
     found = subst (λ (z : List ℕ). Found o.counts z o.root place G.read.root [] sp) (rooted e) (L G.read.root [] (subst (λ (z : List ℕ). At o.counts z G.read.root []) (sym (rooted e)) G.at) (rw (← G.size_is) A.inside))
 
     abbrev S : q.Spot
     S = spot_in place G.read.root
 
-    measured : x ≡ tree_at (0 + length part) (whole_tree (counts_of G.read.head) S.levels S.low part)
+    measured : x ≡ read_at (0 + length part) (whole_tree (counts_of G.read.head) S.levels S.low part)
     measured =
-        w ∙ ap (λ (k : Counts). tree_at (0 + length part) (whole_tree k sp.levels sp.low part)) G.counts-are
-        ∙ ap₂ (λ (j i : ℕ). tree_at (0 + length part) (whole_tree (counts_of G.read.head) j i part)) found.levels-are found.low-is
+        w ∙ ap (λ (k : Counts). read_at (0 + length part) (whole_tree k sp.levels sp.low part)) G.counts-are
+        ∙ ap₂ (λ (j i : ℕ). read_at (0 + length part) (whole_tree (counts_of G.read.head) j i part)) found.levels-are found.low-is
 
     few : G.read.head.names ≤ 1024
     few = omega (arith, G.names-are, in_names)
@@ -204,10 +196,10 @@ module _ (image part words out : List ℕ) (place : ℕ) {o : Opened} (A : Asked
     unfolding read_part then_end limit.most_image
     part-reads = rw (le-leb (length part) 65536 fits) refl
 
-    pub in_fault : {f : Refusal} → x ≡ tree.Fault f → Replaces image place part words words out out (replacing.Refused (refusal.Base f))
+    pub in_fault : {f : Refusal} → x ≡ Err f → Replaces image place part words words out out (Err (refusal.Base f))
     in_fault {f} d = part-refused image part words out place A f (part-reads ∙ tree-refused G.read.head few S.levels S.low 0 part measured d)
 
-    module _ {y : Extent} {past : Cursor} (d : x ≡ tree.Read y past) where
+    module _ {y : Extent} {past : Cursor} (d : x ≡ Ok (y, past)) where
       K : Kept (extent_of []) (then_end (read_tree S.levels G.read.head S.low) part) y (drop (past.at - 0) part)
       K = tree-read G.read.head few S.levels S.low 0 part measured d
 
@@ -407,12 +399,12 @@ module _ {image part words : List ℕ} {place : ℕ} {o : Opened} {sp : code.Spo
       ending-is = ending-asked image part words out place R.asked ∙ rw R.reads refl
 
       module _ {n : ℕ} (l : n ≡ sp.at.at + length part + (length image - old.end.at)) where
-        pub put_over : 65536 < n → Replaces image place part words words out out (replacing.Refused (refusal.Base base.TooLong))
+        pub put_over : 65536 < n → Replaces image place part words words out out (Err (refusal.Base base.TooLong))
         put_over h =
             let z : (leb (length new_bytes) (length out) && leb (length new_bytes) 65536) ≡ false = and_no (leb (length new_bytes) (length out)) (leb (length new_bytes) 65536) (lt-leb (length new_bytes) 65536 (omega (arith, new-long))) in
             refused-ends image part words out place (refusal.Base base.TooLong) (ending-is ∙ rw z refl)
 
-        pub put_short : length out < n → Replaces image place part words words out out (replacing.Refused (refusal.Base base.TooLong))
+        pub put_short : length out < n → Replaces image place part words words out out (Err (refusal.Base base.TooLong))
         put_short h =
             let z : leb (length new_bytes) (length out) ≡ false = lt-leb (length new_bytes) (length out) (omega (arith, new-long)) in
             refused-ends image part words out place (refusal.Base base.TooLong) (ending-is ∙ rw z refl)
@@ -426,7 +418,7 @@ module _ {image part words : List ℕ} {place : ℕ} {o : Opened} {sp : code.Spo
 
           pub put_made : {out' words' : List ℕ} {end : ℕ} → Placed out 0 (take sp.at.at image ++ (part ++ drop old.end.at image)) out' end
               → BringsUp image o sp.at.at old.end.at part (record { place = place; old = old.size; new = new.size }) words words'
-              → Replaces image place part words words' out out' (replacing.Made n)
+              → Replaces image place part words words' out out' (Ok n)
           unfolding replace_answer summary_after_replace output_after_replace put_parted
           put_made {out'} {words'} pl bu = record {
             short = λ j z. (let y = same j z in omega arith);
@@ -435,7 +427,7 @@ module _ {image part words : List ℕ} {place : ℕ} {o : Opened} {sp : code.Spo
             out-left = rw made-is (out-same pl);
           }
             where
-              same : (j : ℕ) → replacing.Made n ≡ replacing.Made j → n ≡ j
+              same : (j : ℕ) → ◌≡◌ {A = Result ℕ UsesRefusal} (Ok n) (Ok j) → n ≡ j
               same j z = cc
 
               words_same : brought_up (change_of place R.new root) o.counts.names words ++ drop (2 + 2 * o.counts.names) words

@@ -1,89 +1,74 @@
 -- An entry brought up to date by the code is the definition's; and so are all of them.
-use Prim.Native.Nat.{ℕ, zero, suc, ◌+◌, ◌-◌, ◌*◌, ◌≤◌, ◌<◌}
+use Prim.Native.Nat.{min, ℕ, ◌+◌, ◌-◌, ◌*◌, ◌≤◌, ◌<◌}
 use mathlib.Core.Path.{◌≡◌, refl, sym, ap, ◌∙◌, subst}
 use mathlib.Core.Bool.{Bool, true, false, not, ◌&&◌}
-use mathlib.Core.List.{List, []}
+use mathlib.Core.List.{List}
 use native.Mathlib.Omega.{arith}
 use lib.Dec.{eqb, ltb, leb}
 use lib.ListN.{length, get_or, set, length-set}
 use lib.Seq.{get_or-set_same, get_or-set_other}
-use mir.Syntax.{w32}
-use mir.Val.{Fits}
-use borrow.Author.Tests.{eq-eqb, ne_eqb, lt-ltb, le-ltb, le-leb, lt-leb, eqb-true, eqb-false, ltb-true, ltb-false}
+use borrow.Author.Tests.{eq-eqb, ne_eqb, lt-ltb, le-ltb, eqb-true, eqb-false, ltb-true, ltb-false, leb-true, leb-false}
+use Rattle.std.specs.Prelude.{Option, Some, None}
 use Rattle.model.specs.Choice.{when◌then◌else◌}
-use Rattle.requests.specs.Uses as u
 use Rattle.requests.specs.Uses.{uses, first_use, entry_in}
 use Rattle.requests.specs.Replacing as q
 use Rattle.requests.specs.Replacing.{largest, capped, count_after, searched, first_after}
-use Rattle.requests.proofs.Uses.{uses-few, first-within}
 use Rattle.numbers.specs.Limits.{most_image}
-use Rattle.head.specs.Fronts.{most_names}
 use Rattle.head.specs.declared.Counts.{Counts}
+use Rattle.places.specs.declared.counting.Entry.{Entry}
 use Rattle.places.specs.Reading.{along}
 use Rattle.places.specs.Counting.{Room, Kept, found}
+use Rattle.places.proofs.Walking.{found-before}
 use Rattle.replacing.specs.declared.updating.Change.{Change}
-use Rattle.replacing.specs.declared.updating.Entry.{Entry}
-use Rattle.replacing.specs.declared.updating.First.{First}
-use Rattle.replacing.specs.declared.updating.First.TheVariants.{Is, Searched}
 use Rattle.replacing.specs.Updating.{stays_before, first_of, Small, Firsts, Means, entry_of, EntryAfter, RenewsEntry, Tells, Renewed, Renews}
 
--- ---- sums that are too large
+-- ---- a sum that is too large
 
-pub capped-over : (a b : ℕ) → Fits w32 a → 4294967295 - a < b → 4294967295 ≡ capped (a + b)
+saturated : (n : ℕ) → min n 4294967295 ≡ capped n
 unfolding capped largest
-capped-over a b h k = rw (lt-leb (a + b) 4294967295 (omega (arith, h.fits))) refl
-
-pub capped_under : (a b : ℕ) → Fits w32 a → b ≤ 4294967295 - a → a + b ≡ capped (a + b)
-unfolding capped largest
-capped_under a b h k = rw (le-leb (a + b) 4294967295 (omega (arith, h.fits))) refl
-
-pub ruleset sum_laws = (capped-over, capped_under)
+saturated n = by-test (leb n 4294967295) refl
+  where
+    by-test : (b : Bool) → leb n 4294967295 ≡ b → min n 4294967295 ≡ (when leb n 4294967295 then n else 4294967295)
+    by-test true e = let l = leb-true n 4294967295 e in rw e (omega arith)
+    by-test false e = let l = leb-false n 4294967295 e in rw e (omega arith)
 
 -- ---- the first place, by the tests that the code makes
 
 module _ (e : Entry) where
-  pub stays_none : (p : ℕ) → e.count ≡ 0 → false ≡ stays_before e p
-  unfolding stays_before
-  stays_none p h = rw (eq-eqb e.count 0 h) refl
-
-  pub stays_if : (p : ℕ) → (e.count ≡ 0 → ⊥) → ltb e.first p ≡ stays_before e p
-  unfolding stays_before
-  stays_if p h = rw (ne_eqb e.count 0 h) refl
-
   module _ (n : ℕ) (come : Entry) (c : Change) where
-    pub first-none : n ≡ 0 → Is 0 ≡ first_of e n come c
+    pub first-none : n ≡ 0 → Some 0 ≡ first_of e n come c
     unfolding first_of
     first-none h = rw (eq-eqb n 0 h) refl
 
     module _ (some : n ≡ 0 → ⊥) {b : Bool} (s : b ≡ stays_before e c.place) where
-      pub first_stays : b ≡ true → Is e.first ≡ first_of e n come c
+      pub first_stays : b ≡ true → Some e.first ≡ first_of e n come c
       unfolding first_of
       first_stays h = rw (ne_eqb n 0 some, sym s ∙ h) refl
 
       module _ (no : b ≡ false) where
-        pub first-new : (come.count ≡ 0 → ⊥) → Is (c.place + come.first) ≡ first_of e n come c
+        pub first-new : (come.count ≡ 0 → ⊥) → Some (c.place + come.first) ≡ first_of e n come c
         unfolding first_of
         first-new h = rw (ne_eqb n 0 some, sym s ∙ no, ne_eqb come.count 0 h) refl
 
         module _ (none : come.count ≡ 0) where
-          pub first-searched : e.first < c.place + c.old → Searched ≡ first_of e n come c
+          pub first-searched : e.first < c.place + c.old → None ≡ first_of e n come c
           unfolding first_of
           first-searched h = rw (ne_eqb n 0 some, sym s ∙ no, eq-eqb come.count 0 none, lt-ltb e.first (c.place + c.old) h) refl
 
-          pub first-moved : {x : ℕ} → c.place + c.old ≤ e.first → x ≡ capped (e.first - c.old + c.new) → Is x ≡ first_of e n come c
+          pub first-moved : {x : ℕ} → c.place + c.old ≤ e.first → x ≡ min (e.first - c.old + c.new) 4294967295 → Some x ≡ first_of e n come c
           unfolding first_of
-          first-moved h k = rw (ne_eqb n 0 some, sym s ∙ no, eq-eqb come.count 0 none, le-ltb e.first (c.place + c.old) h) (ap Is k)
+          first-moved h k = rw (ne_eqb n 0 some, sym s ∙ no, eq-eqb come.count 0 none, le-ltb e.first (c.place + c.old) h) (ap (λ (j : ℕ). Some j) (k ∙ saturated (e.first - c.old + c.new)))
 
-pub ruleset first_laws = (stays_none, stays_if, first-none, first_stays, first-new, first-searched, first-moved)
+pub ruleset first_laws = (first-none, first_stays, first-new, first-searched, first-moved)
 
 -- ---- the definition's first place, where the code's is known
 
-place_of : First → ℕ → ℕ
-place_of (Is x) d = x
-place_of Searched d = d
+place_of : Option ℕ → ℕ → ℕ
+place_of (Some x) d = x
+place_of None d = d
 
 chosen : (a b c d : Bool) (v w x z y : ℕ)
-    → (when a then v else when b then w else when c then x else when d then y else z) ≡ place_of (when a then Is v else when b then Is w else when c then Is x else when d then Searched else Is z) y
+    → (when a then v else when b then w else when c then x else when d then y else z) ≡ place_of (when a then Some v else when b then Some w else when c then Some x else when d then None else Some z) y
 unfolding place_of
 chosen true b c d v w x z y = refl
 chosen false true c d v w x z y = refl
@@ -93,9 +78,9 @@ chosen false false false false v w x z y = refl
 
 module _ (e come : Entry) (gone count n x : ℕ) (c : Change) (s : List ℕ) (k : Counts) where
   module _ (M : q.Change) (W : Means M c count s k) (g : gone ≡ uses n M.old) (h : come.count ≡ uses n M.new) (f : come.first ≡ first_use n M.new) where
-    count_agrees : {d : ℕ} → d ≡ e.count - gone → x ≡ capped (d + come.count) → x ≡ count_after M n e.count
+    count_agrees : {d : ℕ} → d ≡ e.count - gone → x ≡ min (d + come.count) 4294967295 → x ≡ count_after M n e.count
     unfolding count_after
-    count_agrees p r = r ∙ rw (p, g, h) refl
+    count_agrees {d} p r = r ∙ saturated (d + come.count) ∙ rw (p, g, h) refl
 
     first_agrees : x ≡ count_after M n e.count → first_after M n (entry_of e) ≡ place_of (first_of e x come c) (searched M n)
     unfolding first_after first_of stays_before
@@ -103,52 +88,48 @@ module _ (e come : Entry) (gone count n x : ℕ) (c : Change) (s : List ℕ) (k 
         rw (← z, ← W.place_is, ← W.old-is, ← W.new_is, ← h, ← f)
         (chosen (eqb x 0) (not (eqb e.count 0) && ltb e.first c.place) (not (eqb come.count 0)) (ltb e.first (c.place + c.old)) 0 e.first (c.place + come.first) (capped (e.first - c.old + c.new)) (when eqb (uses n M.behind) 0 then 0 else c.place + c.new + first_use n M.behind))
 
-module _ (e come : Entry) (gone count n x d : ℕ) (c : Change) (s : List ℕ) (k : Counts) (p : d ≡ e.count - gone) (r : x ≡ capped (d + come.count)) {y : First} (fi : y ≡ first_of e x come c) where
-  pub renew_is : {v : ℕ} → y ≡ Is v → RenewsEntry e gone come c count s k n (record { count = x; first = v })
+some-same : {v w : ℕ} → Some v ≡ Some w → v ≡ w
+some-same e = cc
+
+some-none : (v : ℕ) → Some v ≡ None → ⊥
+some-none v e = let z : ◌≡◌ {A = ℕ} 0 1 = cc in omega arith
+
+module _ (e come : Entry) (gone count n x d : ℕ) (c : Change) (s : List ℕ) (k : Counts) (p : d ≡ e.count - gone) (r : x ≡ min (d + come.count) 4294967295) {y : Option ℕ} (fi : y ≡ first_of e x come c) where
+  pub renew_is : {v : ℕ} → y ≡ Some v → RenewsEntry e gone come c count s k n (record { count = x; first = v })
   unfolding place_of
   renew_is {v} z M W g h f =
       let a = count_agrees e come gone count n x c s k M W g h f p r in
-      record { count-is = a; first-is = sym (first_agrees e come gone count n x c s k M W g h f a ∙ ap (λ (j : First). place_of j (searched M n)) (sym fi ∙ z)) }
+      record { count-is = a; first-is = sym (first_agrees e come gone count n x c s k M W g h f a ∙ ap (λ (j : Option ℕ). place_of j (searched M n)) (sym fi ∙ z)) }
 
-  module _ (z : y ≡ Searched) {at : ℕ} (w : at ≡ found n count (along k count s)) where
+  module _ (z : y ≡ None) {at : Option ℕ} (w : at ≡ found n (along k count s)) where
     search_is : (M : q.Change) → Means M c count s k → gone ≡ uses n M.old → come.count ≡ uses n M.new → come.first ≡ first_use n M.new → first_after M n (entry_of e) ≡ searched M n
     unfolding place_of
-    search_is M W g h f = first_agrees e come gone count n x c s k M W g h f (count_agrees e come gone count n x c s k M W g h f p r) ∙ ap (λ (j : First). place_of j (searched M n)) (sym fi ∙ z)
+    search_is M W g h f = first_agrees e come gone count n x c s k M W g h f (count_agrees e come gone count n x c s k M W g h f p r) ∙ ap (λ (j : Option ℕ). place_of j (searched M n)) (sym fi ∙ z)
 
-    found-is : (M : q.Change) → Means M c count s k → at ≡ (when eqb (uses n M.behind) 0 then count else first_use n M.behind)
+    found-is : (M : q.Change) → Means M c count s k → at ≡ (when eqb (uses n M.behind) 0 then None else Some (first_use n M.behind))
     unfolding found
     found-is M W = w ∙ rw W.behind-is refl
 
-    pub renew_found : at < count → RenewsEntry e gone come c count s k n (record { count = x; first = c.place + c.new + at })
+    pub renew_found : {v : ℕ} → at ≡ Some v → RenewsEntry e gone come c count s k n (record { count = x; first = c.place + c.new + v })
     unfolding searched
-    renew_found l M W g h f = record { count-is = count_agrees e come gone count n x c s k M W g h f p r; first-is = by-uses (eqb (uses n M.behind) 0) refl (found-is M W) ∙ sym (search_is M W g h f) }
+    renew_found {v} l M W g h f = record { count-is = count_agrees e come gone count n x c s k M W g h f p r; first-is = by-uses (eqb (uses n M.behind) 0) refl (sym l ∙ found-is M W) ∙ sym (search_is M W g h f) }
       where
-        by-uses : (b : Bool) → eqb (uses n M.behind) 0 ≡ b → at ≡ (when eqb (uses n M.behind) 0 then count else first_use n M.behind) → c.place + c.new + at ≡ searched M n
-        by-uses true j o = let i : at ≡ count = o ∙ rw j refl in absurd (omega arith)
-        by-uses false j o = let i : at ≡ first_use n M.behind = o ∙ rw j refl in rw (j, W.place_is, W.new_is, i) refl
+        by-uses : (b : Bool) → eqb (uses n M.behind) 0 ≡ b → Some v ≡ (when eqb (uses n M.behind) 0 then None else Some (first_use n M.behind)) → c.place + c.new + v ≡ searched M n
+        by-uses true j o = absurd (some-none v (o ∙ rw j refl))
+        by-uses false j o = let i : v ≡ first_use n M.behind = some-same (o ∙ rw j refl) in rw (j, W.place_is, W.new_is, i) refl
 
-    pub renew_lost : count ≤ at → RenewsEntry e gone come c count s k n (record { count = x; first = 0 })
+    pub renew_lost : at ≡ None → RenewsEntry e gone come c count s k n (record { count = x; first = 0 })
     unfolding searched
-    renew_lost l M W g h f = record { count-is = count_agrees e come gone count n x c s k M W g h f p r; first-is = by-uses (eqb (uses n M.behind) 0) refl (found-is M W) ∙ sym (search_is M W g h f) }
+    renew_lost l M W g h f = record { count-is = count_agrees e come gone count n x c s k M W g h f p r; first-is = by-uses (eqb (uses n M.behind) 0) refl (sym l ∙ found-is M W) ∙ sym (search_is M W g h f) }
       where
-        some : (m : ℕ) → uses n M.behind ≡ m → (uses n M.behind ≡ 0 → ⊥) → 0 < uses n M.behind
-        some zero j d = absurd (d j)
-        some (suc m) j d = omega arith
-
-        by-uses : (b : Bool) → eqb (uses n M.behind) 0 ≡ b → at ≡ (when eqb (uses n M.behind) 0 then count else first_use n M.behind) → 0 ≡ searched M n
+        by-uses : (b : Bool) → eqb (uses n M.behind) 0 ≡ b → None ≡ (when eqb (uses n M.behind) 0 then None else Some (first_use n M.behind)) → 0 ≡ searched M n
         by-uses true j o = rw j refl
-        by-uses false j o =
-            let i : at ≡ first_use n M.behind = o ∙ rw j refl in
-            let d : uses n M.behind ≡ 0 → ⊥ = eqb-false (uses n M.behind) 0 j in
-            absurd (omega (arith, first-within n M.behind (some (uses n M.behind) refl d), W.behind-count))
+        by-uses false j o = let z : None ≡ Some (first_use n M.behind) = o ∙ rw j refl in absurd (some-none (first_use n M.behind) (sym z))
 
-    pub found-small : Small c → at < count → count ≤ most_image → c.place + c.new + at < 4294967296
-    found-small S l t = omega (arith, S.place-to, S.new-to)
+    pub found-small : {v : ℕ} → at ≡ Some v → Small c → count ≤ most_image → c.place + c.new + v < 4294967296
+    found-small {v} l S t = let b = found-before k n count v s (sym l ∙ w) in omega (arith, S.place-to, S.new-to)
 
-pub place-small : {c : Change} → Small c → c.place + c.new < 4294967296
-place-small S = omega (arith, S.place-to, S.new-to)
-
-pub ruleset entry_laws = (renew_is, renew_found, renew_lost, found-small, place-small)
+pub ruleset entry_laws = (renew_is, renew_found, renew_lost, found-small)
 
 -- ---- the loop over all names
 
@@ -179,25 +160,10 @@ module _ {old new : List ℕ} {c : Change} {count : ℕ} {s : List ℕ} {k : Cou
       let e : n ≡ k.names = omega (arith, w.reached) in
       record { kept = w.kept; renewed = λ M W T. subst (λ (j : ℕ). Renewed M j words₀ words) e (w.renewed M W T) }
 
-  pub renew_long : length words ≡ length words₀
-  renew_long = w.kept.long
-
   module _ (some : n < k.names) where
-    pub renew_name : Room k.names words₀ → n ≤ most_names
-    renew_name r = omega (arith, r.few)
-
     module _ {i : ℕ} (at : i ≡ 2 + 2 * n) where
       pub word-inside : Room k.names words₀ → i < length words
       word-inside r = omega (arith, r.long, w.kept.long)
-
-      pub next-inside : Room k.names words₀ → i + 1 < length words
-      next-inside r = omega (arith, r.long, w.kept.long)
-
-      pub other-inside : {l : List ℕ} → Room k.names l → i < length l
-      other-inside r = omega (arith, r.long)
-
-      pub other_next_inside : {l : List ℕ} → Room k.names l → i + 1 < length l
-      other_next_inside r = omega (arith, r.long)
 
       pub first-few : Firsts k.names new → get_or new (i + 1) 0 ≤ most_image
       first-few h = let e : i + 1 ≡ 3 + 2 * n = omega arith in rw e (h n some)
@@ -271,4 +237,4 @@ module _ {old new : List ℕ} {c : Change} {count : ℕ} {s : List ℕ} {k : Cou
           renewed = λ M W T. record { counts = all-counts M W T; firsts = all_firsts M W T };
         }
 
-pub ruleset renew_laws = (renew_start, renew_ends, renew_long, renew_name, word-inside, next-inside, other-inside, other_next_inside, first-few, write_inside, renew_more)
+pub ruleset renew_laws = (renew_start, renew_ends, first-few, renew_more)

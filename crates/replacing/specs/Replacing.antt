@@ -1,5 +1,5 @@
 -- What the replacement says of the image, the summary and the output.
-use Rattle.std.specs.Prelude.{ℕ, ◌+◌, ◌-◌, ◌*◌, ◌≤◌, ◌<◌, ◌≡◌, true, List, [], ◌++◌, length, drop, get_or}
+use Rattle.std.specs.Prelude.{ℕ, ◌+◌, ◌-◌, ◌*◌, ◌≤◌, ◌<◌, ◌≡◌, true, List, [], ◌++◌, length, drop, get_or, Result, Ok, Err}
 use Rattle.model.specs.Trees as m
 use Rattle.model.specs.Trees.{tsize}
 use Rattle.model.specs.Reading.{got, read_tree_image, read_image}
@@ -13,11 +13,10 @@ use Rattle.places.specs.Counting.{Room, Holds, Clear}
 use Rattle.summaries.specs.declared.opening.Opened.{Opened}
 use Rattle.summaries.specs.Opening.{OpenedAt}
 use Rattle.summaries.specs.Making.{belongs_to}
+use Rattle.summaries.specs.declared.refusal.UsesRefusal.{UsesRefusal}
 use Rattle.summaries.specs.Refusing.{uses_refusal_of}
 use Rattle.replacing.specs.declared.locating.Spot.{Spot}
 use Rattle.replacing.specs.declared.updating.Change.{Change}
-use Rattle.replacing.specs.declared.Replacing.{Replacing}
-use Rattle.replacing.specs.declared.Replacing.TheVariants as replacing
 use Rattle.replacing.specs.Locating.{Found}
 use Rattle.replacing.specs.Updating.{Firsts}
 
@@ -69,18 +68,18 @@ BringsUp image o at end part c words words' =
 -- ---- the whole
 
 -- what comes back
-abbrev pub answer_for : Replacing → Answer
-answer_for (replacing.Made n) = record { code = 0; units = 0; name = 0; len = n; first = 0; second = 0 }
-answer_for (replacing.Refused f) = refused_answer (uses_refusal_of f)
+abbrev pub answer_for : Result ℕ UsesRefusal → Answer
+answer_for (Ok n) = record { code = 0; units = 0; name = 0; len = n; first = 0; second = 0 }
+answer_for (Err f) = refused_answer (uses_refusal_of f)
 
 -- an ending, as the code answers it and leaves summary and output
-pub record Ends (e : ReplaceEnding) (words words' out out' : List ℕ) (r : Replacing) : Type 0 where
-  pub short : (n : ℕ) → r ≡ replacing.Made n → n ≤ most_image
+pub record Ends (e : ReplaceEnding) (words words' out out' : List ℕ) (r : Result ℕ UsesRefusal) : Type 0 where
+  pub short : (n : ℕ) → r ≡ Ok n → n ≤ most_image
   pub answer : answer_for r ≡ replace_answer e
   pub words_left : words' ≡ summary_after_replace e words
   pub out-left : out' ≡ output_after_replace e out
 
-abbrev pub Replaces : List ℕ → ℕ → List ℕ → List ℕ → List ℕ → List ℕ → List ℕ → Replacing → Type 0
+abbrev pub Replaces : List ℕ → ℕ → List ℕ → List ℕ → List ℕ → List ℕ → List ℕ → Result ℕ UsesRefusal → Type 0
 Replaces image place part words words' out out' r = Ends (replace_in (length out) words place part (read_image read_tree_image image)) words words' out out' r
 
 -- the summary belongs to the tree, and the tree has the place

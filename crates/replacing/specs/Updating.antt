@@ -1,5 +1,5 @@
 -- What an entry is brought up to, in the code's words; and that this is the definition's.
-use Rattle.std.specs.Prelude.{ℕ, ◌+◌, ◌-◌, ◌*◌, ◌≤◌, ◌<◌, ◌≡◌, Bool, not, ◌&&◌, List, eqb, ltb, length, get_or}
+use Rattle.std.specs.Prelude.{ℕ, ◌+◌, ◌-◌, ◌*◌, ◌≤◌, ◌<◌, ◌≡◌, Bool, not, ◌&&◌, List, eqb, ltb, length, get_or, Option, Some, None}
 use Rattle.model.specs.Choice.{when◌then◌else◌}
 use Rattle.requests.specs.Uses as u
 use Rattle.requests.specs.Uses.{uses, first_use, entry_in}
@@ -8,23 +8,22 @@ use Rattle.requests.specs.Replacing.{capped, count_after, first_after}
 use Rattle.numbers.specs.Limits.{most_image}
 use Rattle.head.specs.declared.Counts.{Counts}
 use Rattle.places.specs.Reading.{along}
+use Rattle.places.specs.declared.counting.Entry.{Entry}
 use Rattle.places.specs.Counting.{Kept}
 use Rattle.replacing.specs.declared.updating.Change.{Change}
-use Rattle.replacing.specs.declared.updating.Entry.{Entry}
-use Rattle.replacing.specs.declared.updating.First.{First}
-use Rattle.replacing.specs.declared.updating.First.TheVariants.{Is, Searched}
 
 unfoldable pub stays_before : Entry → ℕ → Bool
 stays_before e place = not (eqb e.count 0) && ltb e.first place
 
-unfoldable pub first_of : Entry → ℕ → Entry → Change → First
+-- none where it must be searched for behind the old part
+unfoldable pub first_of : Entry → ℕ → Entry → Change → Option ℕ
 unfolding capped stays_before
 first_of e count come c =
-    when eqb count 0 then Is 0
-    else when stays_before e c.place then Is e.first
-    else when not (eqb come.count 0) then Is (c.place + come.first)
-    else when ltb e.first (c.place + c.old) then Searched
-    else Is (capped (e.first - c.old + c.new))
+    when eqb count 0 then Some 0
+    else when stays_before e c.place then Some e.first
+    else when not (eqb come.count 0) then Some (c.place + come.first)
+    else when ltb e.first (c.place + c.old) then None
+    else Some (capped (e.first - c.old + c.new))
 
 pub record Small (c : Change) : Type 0 where
   pub place-to : c.place ≤ most_image

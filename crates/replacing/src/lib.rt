@@ -13,18 +13,10 @@ use crate::updating::{Behind, Change};
 use numbers::Cursor;
 use places::counting;
 use refusals::Refusal;
-use roots::TreeRead;
 use scopes::Name;
 use summaries::opening;
-use summaries::opening::{Opened, Opening};
+use summaries::opening::Opened;
 use summaries::refusal::UsesRefusal;
-
-// How long the new image is.
-#[derive(Clone, Copy)]
-pub enum Replacing {
-    Made(u32),
-    Refused(UsesRefusal),
-}
 
 // The bytes of the image where the old part lies.
 #[derive(Clone, Copy)]
@@ -116,7 +108,7 @@ fn bring_up(image: &[u8], o: Opened, cut: Cut, part: &[u8], change: Change, word
     bring_with(image, o, cut, part, change, words, &mut gone, &mut come);
 }
 
-// The part put in its place: code 20, or the new image and the summary brought up to date.
+// The part put in its place: code 20, or the new image, whose length comes back, and the summary brought up to date.
 fn put_part(
     image: &[u8],
     o: Opened,
@@ -125,7 +117,7 @@ fn put_part(
     part: &[u8],
     words: &mut [u32],
     out: &mut [u8],
-) -> Replacing
+) -> Result<u32, UsesRefusal>
     requires { Ready image.now o spot place part.now words.old }
     ensures { Replaces image.now place part.now words.old words.new out.old out.new result }
 {
@@ -135,11 +127,8 @@ fn put_part(
     let new = places::pass_over(front, part, o.counts);
     let to = old.end;
     let length = from.at + part.len() + (image.len() - to.at);
-    if Cursor::MOST_IMAGE < length {
-        return Replacing::Refused(UsesRefusal::Base(Refusal::TooLong));
-    }
-    if out.len() < length {
-        return Replacing::Refused(UsesRefusal::Base(Refusal::TooLong));
+    if Cursor::MOST_IMAGE < length || out.len() < length {
+        return Err(UsesRefusal::Base(Refusal::TooLong));
     }
     splice(out, image, from.at, to.at, part);
     let change = Change {
@@ -148,7 +137,7 @@ fn put_part(
         new: new.size,
     };
     bring_up(image, o, Cut { from, to }, part, change, words);
-    Replacing::Made(length as u32)
+    Ok(length as u32)
 }
 
 // The place found, and the part judged as one for that place.
@@ -159,7 +148,7 @@ fn replace_in(
     part: &[u8],
     words: &mut [u32],
     out: &mut [u8],
-) -> Replacing
+) -> Result<u32, UsesRefusal>
     requires { Asked image.now o place words.old }
     ensures { Replaces image.now place part.now words.old words.new out.old out.new result }
 {
@@ -167,12 +156,10 @@ fn replace_in(
     let c = Cursor { at: o.root };
     let spot = locating::locate(c, front.after(image, c), o.counts, place);
     if Cursor::MOST_IMAGE < part.len() {
-        return Replacing::Refused(UsesRefusal::Base(Refusal::OverLimit));
+        return Err(UsesRefusal::Base(Refusal::OverLimit));
     }
-    match roots::measure_whole_tree(front, part, o.counts, spot.levels, spot.low) {
-        TreeRead::Read(_, _) => put_part(image, o, spot, place, part, words, out),
-        TreeRead::Fault(f) => Replacing::Refused(UsesRefusal::Base(f)),
-    }
+    roots::measure_whole_tree(front, part, o.counts, spot.levels, spot.low)?;
+    put_part(image, o, spot, place, part, words, out)
 }
 
 // The part at a place of a tree image replaced by another, which is a tree as it stands in an image; the summary is brought up to date.
@@ -182,19 +169,12 @@ pub fn replace(
     part: &[u8],
     words: &mut [u32],
     out: &mut [u8],
-) -> Replacing
+) -> Result<u32, UsesRefusal>
     ensures { Replaces image.now place part.now words.old words.new out.old out.new result }
 {
-    match opening::open(image) {
-        Opening::Tree(o) => {
-            if !summaries::belongs(words, o) {
-                return Replacing::Refused(UsesRefusal::OtherTree);
-            }
-            if o.size <= place {
-                return Replacing::Refused(UsesRefusal::OtherTree);
-            }
-            replace_in(image, o, place, part, words, out)
-        }
-        Opening::Fault(f) => Replacing::Refused(UsesRefusal::Base(f)),
+    let o = opening::open(image)?;
+    if !summaries::belongs(words, o) || o.size <= place {
+        return Err(UsesRefusal::OtherTree);
     }
+    replace_in(image, o, place, part, words, out)
 }

@@ -7,7 +7,7 @@ ghost use Rattle.replacing.specs.Locating.{lowest, Inside, Locates};
 
 use head::Counts;
 use numbers::Cursor;
-use places::{Thing, ThingRead};
+use places::Thing;
 
 #[derive(Clone, Copy)]
 pub struct Spot {
@@ -19,13 +19,11 @@ pub struct Spot {
 const VALUE: u32 = 2;
 
 // The least tag of a thing's parts.
+#[tactic(auto, unfolding(crate::specs::Locating::lowest))]
 fn low_behind(t: Thing) -> u32
     ensures { result ≡ lowest t }
 {
-    if t.tag == Thing::LIST {
-        return VALUE;
-    }
-    0
+    if t.tag == Thing::LIST { VALUE } else { 0 }
 }
 
 // Trees that end before the place are passed over, and the one that holds it is entered. `left` things stand before the place.
@@ -45,19 +43,13 @@ pub fn locate(c: Cursor, s: &[u8], counts: Counts, place: u32) -> Spot
             left -= span.size;
             here = span.end;
         } else {
-            match places::read_thing(here, rest, counts) {
-                ThingRead::Read(t, past) => {
-                    left -= 1;
-                    levels -= 1;
-                    low = low_behind(t);
-                    here = past;
-                }
-                ThingRead::Fault(_) => return Spot {
-                    at: here,
-                    levels,
-                    low,
-                },
-            }
+            let Ok((t, past)) = places::read_thing(here, rest, counts) else {
+                unreachable!()
+            };
+            left -= 1;
+            levels -= 1;
+            low = low_behind(t);
+            here = past;
         }
     }
     Spot {

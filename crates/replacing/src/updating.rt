@@ -3,12 +3,12 @@ ghost use Rattle.std.specs.Prelude.{◌≡◌, ◌+◌, ◌-◌, ◌≤◌, leng
 ghost use Rattle.numbers.specs.Limits.{most_image};
 ghost use Rattle.scopes.specs.Sets.{set_scopes};
 ghost use Rattle.places.specs.Counting.{Room};
-ghost use Rattle.requests.specs.Replacing.{capped};
 ghost use Rattle.replacing.specs.Updating.{stays_before, first_of, Small, Firsts, RenewsEntry, Renews};
 
 use head::Counts;
 use numbers::Cursor;
 use places::counting;
+use places::counting::Entry;
 
 // Where the part stood, and how many things both parts are.
 #[derive(Clone, Copy)]
@@ -18,13 +18,6 @@ pub struct Change {
     pub new: u32,
 }
 
-// How many uses, and the place of the first.
-#[derive(Clone, Copy)]
-pub struct Entry {
-    pub count: u32,
-    pub first: u32,
-}
-
 // What lies behind the old part: where, and how many things.
 #[derive(Clone, Copy)]
 pub struct Behind {
@@ -32,65 +25,37 @@ pub struct Behind {
     pub count: u32,
 }
 
-// A first place, or that it must be searched for behind the old part.
-#[derive(Clone, Copy)]
-pub enum First {
-    Is(u32),
-    Searched,
-}
-
-const LARGEST: u32 = 4294967295;
-
-// The entries of an invented summary may be too large, or too small.
-fn plus(a: u32, b: u32) -> u32
-    ensures { result ≡ capped (a + b) }
-{
-    if LARGEST - a < b {
-        return LARGEST;
-    }
-    a + b
-}
-
-fn minus(a: u32, b: u32) -> u32
-    ensures { result ≡ a - b }
-{
-    if a < b {
-        return 0;
-    }
-    a - b
-}
-
 // The first place stands before the old part.
+#[tactic(auto, unfolding(crate::specs::Updating::stays_before))]
 fn stays(e: Entry, place: u32) -> bool
     ensures { result ≡ stays_before e place }
 {
-    if e.count == 0 {
-        return false;
-    }
-    e.first < place
+    e.count != 0 && e.first < place
 }
 
-// Of a name with the entry e, that now has `uses`; `come` is its entry among the things of the new part.
-fn first_of(e: Entry, uses: u32, come: Entry, change: Change) -> First
+// Of a name with the entry e, that now has `uses`; `come` is its entry among the things of the new part. None must be searched for behind the
+// old part.
+fn first_of(e: Entry, uses: u32, come: Entry, change: Change) -> Option<u32>
     requires { Small change × (come.first ≤ most_image) }
     ensures { result ≡ first_of e uses come change }
 {
     if uses == 0 {
-        return First::Is(0);
+        return Some(0);
     }
     if stays(e, change.place) {
-        return First::Is(e.first);
+        return Some(e.first);
     }
     if come.count != 0 {
-        return First::Is(change.place + come.first);
+        return Some(change.place + come.first);
     }
     if e.first < change.place + change.old {
-        return First::Searched;
+        return None;
     }
-    First::Is(plus(e.first - change.old, change.new))
+    Some((e.first - change.old).saturating_add(change.new))
 }
 
-// The entry e of a name brought up to date: `gone` uses were in the old part. `s` is the image from behind the old part on.
+// The entry e of a name brought up to date: `gone` uses were in the old part. The entries of an invented summary may be too large, or too small.
+// `s` is the image from behind the old part on.
 fn entry_after(
     e: Entry,
     gone: u32,
@@ -105,19 +70,16 @@ fn entry_after(
     requires small { Small change × (come.first ≤ most_image) }
     ensures { RenewsEntry e gone come change behind.count s.now counts name result }
 {
-    let count = plus(minus(e.count, gone), come.count);
+    let count = e.count.saturating_sub(gone).saturating_add(come.count);
     match first_of(e, count, come, change) {
-        First::Is(first) => Entry { count, first },
-        First::Searched => {
-            let found = counting::find(behind.at, s, counts, behind.count, name);
-            if found < behind.count {
-                return Entry {
-                    count,
-                    first: change.place + change.new + found,
-                };
-            }
-            Entry { count, first: 0 }
-        }
+        Some(first) => Entry { count, first },
+        None => match counting::find(behind.at, s, counts, behind.count, name) {
+            Some(found) => Entry {
+                count,
+                first: change.place + change.new + found,
+            },
+            None => Entry { count, first: 0 },
+        },
     }
 }
 
@@ -136,8 +98,7 @@ pub fn renew(
     requires few { Firsts counts.names new.now }
     ensures { Renews old.now new.now change behind.count s.now counts words.old words.new }
 {
-    let mut n: u32 = 0;
-    while n < counts.names {
+    for n in 0..counts.names {
         let i = counting::entry_at(n);
         let e = Entry {
             count: words[i],
@@ -150,6 +111,5 @@ pub fn renew(
         let after = entry_after(e, old[i], come, change, behind, s, counts, n);
         words[i] = after.count;
         words[i + 1] = after.first;
-        n += 1;
     }
 }

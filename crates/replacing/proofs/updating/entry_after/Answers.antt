@@ -1,27 +1,14 @@
-use Rattle.replacing.proofs.UpdateLaws.{entry_laws}
-use Rattle.std.proofs.Common.{rules}
+use Rattle.replacing.proofs.UpdateLaws.{renew_is, renew_found, renew_lost, found-small}
 use Rattle.replacing.proofs.updating.entry_after.Goals as goal
 
-pub minus-requires : goal.minus-requires
-minus-requires c = search (entry_laws, rules)
+pub overflow_add-result-in-Some-find : goal.overflow_add-result-in-Some-find
+overflow_add-result-in-Some-find c = record { fits = found-small _ _ _ _ _ _ _ _ _ _ c.saturating_sub.ensures c.saturating_add-count.ensures c.first_of.ensures c.in-None.is c.find.ensures c.in-Some-find.is c.requires.small.0 c.requires.image.2 }
 
-pub plus-count-requires : goal.plus-count-requires
-plus-count-requires c = search (entry_laws, rules)
+pub returns-in-Some : goal.returns-in-Some
+returns-in-Some c = renew_is _ _ _ _ _ _ _ _ _ _ c.saturating_sub.ensures c.saturating_add-count.ensures c.first_of.ensures c.in-Some.is
 
-pub first_of-requires : goal.first_of-requires
-first_of-requires c = search (entry_laws, rules)
+pub returns-in-Some-find : goal.returns-in-Some-find
+returns-in-Some-find c = renew_found _ _ _ _ _ _ _ _ _ _ c.saturating_sub.ensures c.saturating_add-count.ensures c.first_of.ensures c.in-None.is c.find.ensures c.in-Some-find.is
 
-pub find-found-requires : goal.find-found-requires
-find-found-requires c = search (entry_laws, rules)
-
-pub overflow_add-result : goal.overflow_add-result
-overflow_add-result c = search (entry_laws, rules)
-
-pub returns-then-found-behind : goal.returns-then-found-behind
-returns-then-found-behind c = search (entry_laws, rules)
-
-pub returns-in-Is : goal.returns-in-Is
-returns-in-Is c = search (entry_laws, rules)
-
-pub returns-else-found-behind : goal.returns-else-found-behind
-returns-else-found-behind c = search (entry_laws, rules)
+pub returns-in-None-find : goal.returns-in-None-find
+returns-in-None-find c = renew_lost _ _ _ _ _ _ _ _ _ _ c.saturating_sub.ensures c.saturating_add-count.ensures c.first_of.ensures c.in-None.is c.find.ensures c.in-None-find.is

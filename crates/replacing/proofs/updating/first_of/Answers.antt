@@ -5,29 +5,14 @@ use Rattle.replacing.proofs.updating.first_of.Goals as goal
 pub returns-then-uses-eq0 : goal.returns-then-uses-eq0
 returns-then-uses-eq0 c = search (first_laws, rules)
 
-pub stays-requires : goal.stays-requires
-stays-requires c = search (first_laws, rules)
-
 pub returns-then-stays : goal.returns-then-stays
 returns-then-stays c = search (first_laws, rules)
-
-pub overflow_add-result : goal.overflow_add-result
-overflow_add-result c = search (first_laws, rules)
 
 pub returns-then-come-ne0 : goal.returns-then-come-ne0
 returns-then-come-ne0 c = search (first_laws, rules)
 
-pub overflow_add-change : goal.overflow_add-change
-overflow_add-change c = search (first_laws, rules)
-
 pub returns-then-e-change : goal.returns-then-e-change
 returns-then-e-change c = search (first_laws, rules)
-
-pub overflow_sub-e : goal.overflow_sub-e
-overflow_sub-e c = search (first_laws, rules)
-
-pub plus-requires : goal.plus-requires
-plus-requires c = search (first_laws, rules)
 
 pub returns : goal.returns
 returns c = search (first_laws, rules)
