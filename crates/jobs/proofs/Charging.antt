@@ -1,4 +1,5 @@
 -- From the image to the work on its root, for every job, by the tests that the code makes.
+use Rattle.std.specs.Prelude.{Result, Ok, Err}
 use Prim.Native.Nat.{ℕ, ◌+◌, ◌-◌, ◌≤◌}
 use mathlib.Core.Path.{◌≡◌, refl, sym, ap, ◌∙◌, subst}
 use mathlib.Core.List.{List, [], ◌∷◌}
@@ -19,14 +20,10 @@ use Rattle.scopes.specs.Sets.{words_from}
 use Rattle.store.specs.Rivalry.{rivals_of}
 use Rattle.steps.specs.declared.State.{State}
 use Rattle.steps.specs.declared.Stop.{Stop}
-use Rattle.steps.specs.declared.Charged.{Charged}
-use Rattle.steps.specs.declared.Charged.TheVariants.{Paid, Refused}
 use Rattle.steps.specs.States.{state_of, paid, charge_of}
 use Rattle.steps.proofs.Laws.{charge_went, charge_failed, charge-ok, charge-no, then_ok, then_no}
 use Rattle.head.specs.declared.Head.{Head}
 use Rattle.image.specs.declared.Judgement.{Judgement}
-use Rattle.image.specs.declared.Judged.{Judged}
-use Rattle.image.specs.declared.Judged.TheVariants as judged
 use Rattle.image.specs.Judging.{Kind, judged_as, Good, Judges, tree_kind, JudgesTree}
 use Rattle.finish.specs.declared.Ending.{Ending}
 use Rattle.finish.specs.declared.Ending.TheVariants as ending
@@ -69,19 +66,19 @@ module _ {A B : Type 0} (J : Job A B) (image : List ℕ) (budget room : ℕ) whe
 
 -- ---- the image
 
-pub image-refused : {A B : Type 0} (J : Job A B) {image : List ℕ} (st : List ℕ) {r : Judged} {f : Refusal} (budget : ℕ) (out : List ℕ) → Judges J.kind image st r → r ≡ judged.Fault f
+pub image-refused : {A B : Type 0} (J : Job A B) {image : List ℕ} (st : List ℕ) {r : Result Judgement Refusal} {f : Refusal} (budget : ℕ) (out : List ℕ) → Judges J.kind image st r → r ≡ Err f
     → EndsAs (job_ending J budget (length out) image) out out (ending.Refused f 0)
 unfolding with_image
 image-refused J {image} st budget out w e = ends-refused out (reading J image budget (length out) (w.is ∙ ap (judged_as J.kind image st) e))
 
 -- ---- the charge for loading
 
-module _ (j : Judgement) (budget : ℕ) {q : Charged} (c : q ≡ charge_of j.size (begun j budget)) where
-  pub unpaid-left : {f : Stop} → q ≡ Refused f → f.left ≤ budget
+module _ (j : Judgement) (budget : ℕ) {q : Result State Stop} (c : q ≡ charge_of j.size (begun j budget)) where
+  pub unpaid-left : {f : Stop} → q ≡ Err f → f.left ≤ budget
   unpaid-left i = let u = ap (λ (k : Stop). k.left) (charge_failed j.size _ c i).is in omega arith
 
-  module _ {A B : Type 0} (J : Job A B) {image : List ℕ} (st : List ℕ) {r : Judged} (w : Judges J.kind image st r) (e : r ≡ judged.Good j) where
-    pub unpaid-ends : {f : Stop} {x : Ending} (out : List ℕ) → q ≡ Refused f → x ≡ ending.Stopped f.refusal f.rivals (budget - f.left) → EndsAs (job_ending J budget (length out) image) out out x
+  module _ {A B : Type 0} (J : Job A B) {image : List ℕ} (st : List ℕ) {r : Result Judgement Refusal} (w : Judges J.kind image st r) (e : r ≡ Ok j) where
+    pub unpaid-ends : {f : Stop} {x : Ending} (out : List ℕ) → q ≡ Err f → x ≡ ending.Stopped f.refusal f.rivals (budget - f.left) → EndsAs (job_ending J budget (length out) image) out out x
     unfolding worked
     unpaid-ends {f} {x} out i y =
         let p = charge_failed j.size _ c i in
@@ -91,24 +88,24 @@ module _ (j : Judgement) (budget : ℕ) {q : Charged} (c : q ≡ charge_of j.siz
         subst (λ (z : Ending). EndsAs (job_ending J budget (length out) image) out out z) (sym y)
         (ends-stopped out (charged J image budget (length out) g ∙ ap (λ (o : m.Out B). worked budget o (J.ends budget (length out) g.image.head)) s))
 
-  pub paid_loaded : {A : Type 0} {K : Kind A} {image : List ℕ} {st : List ℕ} {r : Judged} {l : List ℕ} {s : State} → Judges K image st r → r ≡ judged.Good j → Lent l budget → q ≡ Paid s → Loaded K image st j l s
+  pub paid_loaded : {A : Type 0} {K : Kind A} {image : List ℕ} {st : List ℕ} {r : Result Judgement Refusal} {l : List ℕ} {s : State} → Judges K image st r → r ≡ Ok j → Lent l budget → q ≡ Ok s → Loaded K image st j l s
   paid_loaded w e n i = let p = charge_went j.size _ c i in record { budget = budget; good = w.good j e; lent = n; enough = p.enough; state-is = p.is }
 
-  pub paid_sum : {s : State} → q ≡ Paid s → s.left + j.size ≡ budget
+  pub paid_sum : {s : State} → q ≡ Ok s → s.left + j.size ≡ budget
   paid_sum i = let p = charge_went j.size _ c i in let k = ap (λ (x : State). x.left) p.is in omega (arith, p.enough)
 
 pub ruleset charging_laws = (image-refused, unpaid-left, unpaid-ends, paid_loaded, paid_sum)
 
 -- ---- of a tree's image, which has no bindings: whatever is in the store
 
-pub tree-refused : {image : List ℕ} {r : Judged} {f : Refusal} (budget : ℕ) (out : List ℕ) → JudgesTree image r → r ≡ judged.Fault f → EndsAs (job_ending evaluating budget (length out) image) out out (ending.Refused f 0)
+pub tree-refused : {image : List ℕ} {r : Result Judgement Refusal} {f : Refusal} (budget : ℕ) (out : List ℕ) → JudgesTree image r → r ≡ Err f → EndsAs (job_ending evaluating budget (length out) image) out out (ending.Refused f 0)
 tree-refused budget out w e = image-refused evaluating [] budget out (w.judges []) e
 
-module _ (j : Judgement) (budget : ℕ) {q : Charged} (c : q ≡ charge_of j.size (begun j budget)) {image : List ℕ} {r : Judged} (w : JudgesTree image r) (e : r ≡ judged.Good j) where
-  pub tree_unpaid_ends : {f : Stop} {x : Ending} (out : List ℕ) → q ≡ Refused f → x ≡ ending.Stopped f.refusal f.rivals (budget - f.left) → EndsAs (job_ending evaluating budget (length out) image) out out x
+module _ (j : Judgement) (budget : ℕ) {q : Result State Stop} (c : q ≡ charge_of j.size (begun j budget)) {image : List ℕ} {r : Result Judgement Refusal} (w : JudgesTree image r) (e : r ≡ Ok j) where
+  pub tree_unpaid_ends : {f : Stop} {x : Ending} (out : List ℕ) → q ≡ Err f → x ≡ ending.Stopped f.refusal f.rivals (budget - f.left) → EndsAs (job_ending evaluating budget (length out) image) out out x
   tree_unpaid_ends out i y = unpaid-ends j budget c evaluating [] (w.judges []) e out i y
 
-  pub tree_paid_loaded : {st l : List ℕ} {s : State} → Lent l budget → q ≡ Paid s → Loaded tree_kind image st j l s
+  pub tree_paid_loaded : {st l : List ℕ} {s : State} → Lent l budget → q ≡ Ok s → Loaded tree_kind image st j l s
   tree_paid_loaded {st} n i = paid_loaded j budget c (w.judges st) e n i
 
 -- a store of one word, 0

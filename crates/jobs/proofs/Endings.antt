@@ -1,4 +1,5 @@
 -- From what the work came to, to how the job ends.
+use Rattle.std.specs.Prelude.{Result, Ok, Err}
 use Prim.Native.Nat.{ℕ, ◌+◌, ◌-◌, ◌≤◌}
 use mathlib.Core.Path.{◌≡◌, sym, ap, ◌∙◌, subst}
 use mathlib.Core.List.{List}
@@ -15,8 +16,6 @@ use Rattle.store.specs.Sizes.{held_size}
 use Rattle.steps.specs.declared.State.{State}
 use Rattle.steps.specs.declared.Stop.{Stop}
 use Rattle.steps.specs.declared.Out.{Out}
-use Rattle.steps.specs.declared.Answer.{Answer}
-use Rattle.steps.specs.declared.Answer.TheVariants.{Done, Refused}
 use Rattle.steps.specs.States.{Held, state_of, paid}
 use Rattle.image.specs.declared.Judgement.{Judgement}
 use Rattle.image.specs.Judging.{Kind, Good}
@@ -26,16 +25,16 @@ use Rattle.finish.specs.Ends.{EndsAs}
 use Rattle.finish.specs.Headings.{head_after}
 use Rattle.finish.specs.Finishing.{Images, image_bytes, Came, Finishes}
 use Rattle.finish.proofs.Ends.{ends-stopped}
-use Rattle.jobs.specs.Working.{Job, writes, job_ending, begun, opening, Loaded, Result, Stopped, CameTo, Worked, FewBindings}
+use Rattle.jobs.specs.Working.{Job, writes, job_ending, begun, opening, Loaded, Ended, Stopped, CameTo, Worked, FewBindings}
 use Rattle.things.specs.Rep.{Rep}
 use Rattle.jobs.proofs.Charging.{loaded_is}
 
-pub few-held : (a : Answer) {o : Out} (st : List ℕ) {st' : List ℕ} → FewBindings a → a ≡ Done o → held_size ≤ length st → length st' ≡ length st → Held st' o.state
+pub few-held : (a : Result Out Stop) {o : Out} (st : List ℕ) {st' : List ℕ} → FewBindings a → a ≡ Ok o → held_size ≤ length st → length st' ≡ length st → Held st' o.state
 few-held a {o} st b e w same =
     let few : o.state.bindings ≤ 512 = subst FewBindings e b in
     record { few = few; wide = omega arith }
 
-module _ {A B : Type 0} {J : Job A B} {thing : B → Tree} {image st : List ℕ} {j : Judgement} {s : State} {st' l : List ℕ} {a : Answer} (v : Worked J thing image st j s st' l a)
+module _ {A B : Type 0} {J : Job A B} {thing : B → Tree} {image st : List ℕ} {j : Judgement} {s : State} {st' l : List ℕ} {a : Result Out Stop} (v : Worked J thing image st j s st' l a)
     {l₀ : List ℕ} (d : Loaded J.kind image st j l₀ s) {budget : ℕ} (u : s.left + j.size ≡ budget) where
   abbrev result : m.Out B
   result = J.work d.good.image.root (state_of s (opening st))
@@ -47,30 +46,30 @@ module _ {A B : Type 0} {J : Job A B} {thing : B → Tree} {image st : List ℕ}
       let same : d.budget ≡ budget = omega (arith, d.enough) in
       loaded_is J image budget room d.good (omega (arith, d.enough)) (d.state-is ∙ ap (λ (b : ℕ). paid j.size (begun j b)) same)
 
-  came : {o : Out} → a ≡ Done o → Result thing s st' l result o
+  came : {o : Out} → a ≡ Ok o → Ended thing s st' l result o
   came e = subst (CameTo thing s st' l result) e (v.means d.good)
 
-  stopped : {f : Stop} → a ≡ Refused f → Stopped s result f
+  stopped : {f : Stop} → a ≡ Err f → Stopped s result f
   stopped e = subst (CameTo thing s st' l result) e (v.means d.good)
 
-  pub refused-left : {f : Stop} → a ≡ Refused f → f.left ≤ budget
+  pub refused-left : {f : Stop} → a ≡ Err f → f.left ≤ budget
   refused-left e = omega (arith, (stopped e).within)
 
-  pub done-left : {o : Out} → a ≡ Done o → o.state.left ≤ budget
+  pub done-left : {o : Out} → a ≡ Ok o → o.state.left ≤ budget
   done-left e = omega (arith, (came e).within)
 
-  pub refused-ends : {f : Stop} {x : Ending} (out : List ℕ) → a ≡ Refused f → x ≡ ending.Stopped f.refusal f.rivals (budget - f.left) → EndsAs (job_ending J budget (length out) image) out out x
+  pub refused-ends : {f : Stop} {x : Ending} (out : List ℕ) → a ≡ Err f → x ≡ ending.Stopped f.refusal f.rivals (budget - f.left) → EndsAs (job_ending J budget (length out) image) out out x
   unfolding worked
   refused-ends {f} {x} out e y =
       subst (λ (z : Ending). EndsAs (job_ending J budget (length out) image) out out z) (sym y)
       (ends-stopped out (is-worked (length out) ∙ ap (λ (o : m.Out B). worked budget o (J.ends budget (length out) d.good.image.head)) (stopped e).is))
 
-module _ {A B : Type 0} {K : Kind A} {work : A → Step B} (I : List Bind → Images B) {thing : B → Tree} {image st : List ℕ} {j : Judgement} {s : State} {st' l : List ℕ} {a : Answer}
-    (v : Worked (record { kind = K; work = work; ends = writes I }) thing image st j s st' l a) {l₀ : List ℕ} (d : Loaded K image st j l₀ s) {budget : ℕ} (u : s.left + j.size ≡ budget) {o : Out} (e : a ≡ Done o) where
+module _ {A B : Type 0} {K : Kind A} {work : A → Step B} (I : List Bind → Images B) {thing : B → Tree} {image st : List ℕ} {j : Judgement} {s : State} {st' l : List ℕ} {a : Result Out Stop}
+    (v : Worked (record { kind = K; work = work; ends = writes I }) thing image st j s st' l a) {l₀ : List ℕ} (d : Loaded K image st j l₀ s) {budget : ℕ} (u : s.left + j.size ≡ budget) {o : Out} (e : a ≡ Ok o) where
   abbrev G : Good K image st j
   G = d.good
 
-  R : Result thing s st' l (work G.image.root (state_of s (opening st))) o
+  R : Ended thing s st' l (work G.image.root (state_of s (opening st))) o
   R = came v d u e
 
   shown : (f : B → Tree) → f ≡ thing → Rep l o.state.top o.at (f R.value)

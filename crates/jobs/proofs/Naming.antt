@@ -5,12 +5,13 @@ use mathlib.Core.List.{List, []}
 use Prim.Native.Nat.{ℕ, zero, suc, ◌+◌, ◌-◌}
 use native.Mathlib.Omega.{arith}
 use lib.Dec.{eqb}
+use Rattle.std.specs.Prelude.{Result, Ok, Err}
 use lib.ListN.{length, drop}
 use Rattle.model.specs.Limits.{most_nesting}
 use Rattle.model.specs.Refusals as m
 use Rattle.model.specs.Refusals.{layout, no_rule}
 use Rattle.model.specs.Scopes.{Scopes}
-use Rattle.model.specs.Objects.{symbol, number, point, prim, rung, Sets, no_sets, Stx, Stxs, atom, list}
+use Rattle.model.specs.Objects.{symbol, number, point, prim, rung, set_at, Sets, Stx, Stxs, atom, list}
 use Rattle.model.specs.Resolving.{Bind}
 use Rattle.model.specs.Competing.{no_rivals}
 use Rattle.model.specs.Reading.{Read, Reader, got, fault, next, num, num_up_to, num_below, Head, symbols, read_sets, read_atom, read_parts, read_content, read_stx}
@@ -19,18 +20,16 @@ use Rattle.refusals.specs.Refusing.{refusal_of}
 use Rattle.refusals.specs.declared.Refusal.{Refusal}
 use Rattle.refusals.specs.declared.Refusal.TheVariants as refusal
 use Rattle.numbers.specs.declared.Cursor.{Cursor}
-use Rattle.numbers.specs.declared.Number.{Number}
-use Rattle.numbers.specs.declared.Number.TheVariants as number
-use Rattle.numbers.specs.declared.Place.{Place}
-use Rattle.numbers.specs.declared.Place.TheVariants as place
-use Rattle.numbers.specs.Answers.{number_at, seen_at}
+use Rattle.numbers.specs.Answers.{read_at, seen}
 use Rattle.numbers.proofs.Tails.{below_tail, up_to_tail}
-use Rattle.numbers.proofs.Answering.{Took, took, refused, number_shape, seen_shape, whole, seen-refused}
+use Rattle.numbers.proofs.Answering.{Took, took, refused, read_shape, whole, seen-refused}
 use Rattle.sets.proofs.Reading.{sets_tail}
+use Rattle.table.specs.declared.Sets as tb
+use Rattle.table.specs.Words.{sets_of}
 use Rattle.head.specs.declared.Counts.{Counts}
 use Rattle.store.specs.Rivalry.{decided}
 use Rattle.finish.specs.Ends.{ending_of}
-use Rattle.jobs.specs.Naming.{found_ending, phased, root_ending, Agree, RootEnds}
+use Rattle.jobs.specs.Naming.{found_ending, root_ending, Agree, RootEnds}
 use Rattle.finish.specs.declared.Ending.{Ending}
 use Rattle.finish.specs.declared.Ending.TheVariants.{Refused}
 
@@ -113,68 +112,68 @@ identifier-root h t v w rest2 c y x rest z p q e =
 
 -- ---- the ways out
 
-module _ (n : Counts) (s : List ℕ) (at ph : ℕ) (bs : List Bind) (u : ℕ) {r : Number} (h : r ≡ number_at (at + length s) (num_up_to layout 5 s)) where
-  pub root-stops : {f : Refusal} → r ≡ number.Fault f → RootEnds n s ph bs u (Refused f 0)
-  root-stops {f} e = record {
+module _ (n : Counts) (s : List ℕ) (at ph : ℕ) (bs : List Bind) (u : ℕ) {r : Result (ℕ × Cursor) Refusal} (h : r ≡ read_at (at + length s) (num_up_to layout 5 s)) where
+  pub root-stops : {o : Result Ending Refusal} {f : Refusal} → r ≡ Err f → o ≡ Err f → RootEnds n s ph bs u o
+  root-stops {f = f} e same = rw same (record {
     means = λ hd ag x rest k.
-        let g : num_up_to layout 5 s ≡ fault (refusal_of f) = refused number_shape (at + length s) (num_up_to layout 5 s) h e in
+        let g : num_up_to layout 5 s ≡ fault (refusal_of f) = refused read_shape (at + length s) (num_up_to layout 5 s) h e in
         let i : read_stx most_nesting hd s ≡ fault (refusal_of f) = stx-step hd s ∙ rw g in
         never (sym i ∙ k);
-  }
+  })
 
-  module _ {t : ℕ} {past : Cursor} (e : r ≡ number.Read t past) where
+  module _ {t : ℕ} {past : Cursor} (e : r ≡ Ok (t, past)) where
     tagged : Took at s (num_up_to layout 5 s) t past.at
-    tagged = took number_shape h e (up_to_tail layout 5 s)
+    tagged = took read_shape h e (up_to_tail layout 5 s)
 
     from-tag : (hd : Head) → read_stx most_nesting hd s ≡ behind-tag hd t (drop (past.at - at) s)
     from-tag hd = stx-step hd s ∙ rw tagged.is
 
-    pub root-other : (t ≡ 0 → ⊥) → RootEnds n s ph bs u (Refused refusal.NoRule u)
+    pub root-other : (t ≡ 0 → ⊥) → RootEnds n s ph bs u (Ok (Refused refusal.NoRule u))
     root-other z = record { means = λ hd ag x rest k. other-root hd ph bs u t (drop (past.at - at) s) x rest z (sym (from-tag hd) ∙ k) }
 
-    module _ (z : t ≡ 0) {v : List ℕ} (i : v ≡ drop (past.at - at) s) {a b c : Scopes} {q : Place}
-        (k : record { value = record { at0 = a; at1 = b; at2 = c }; end = q } ≡ seen_at no_sets (past.at + length v) (read_sets n.scopes v)) where
+    module _ (z : t ≡ 0) {v : List ℕ} (i : v ≡ drop (past.at - at) s) where
       on_tag : (hd : Head) → Agree n hd → read_stx most_nesting hd s ≡ next (read_sets n.scopes v) (λ d w. read_content hd (λ y. read_stx 63 hd y) d t (eqb t 5) w)
       unfolding behind-tag
       on_tag hd ag = from-tag hd ∙ rw (← i, ag.scopes-are)
 
-      pub root_sets_stop : {f : Refusal} → q ≡ place.Fault f → RootEnds n s ph bs u (Refused f 0)
-      root_sets_stop {f} g = record {
-        means = λ hd ag x rest o.
-            let l : read_sets n.scopes v ≡ fault (refusal_of f) = seen-refused no_sets (past.at + length v) (read_sets n.scopes v) k g in
-            let y : read_stx most_nesting hd s ≡ fault (refusal_of f) = on_tag hd ag ∙ rw l in
-            never (sym y ∙ o);
-      }
+      module _ {q : Result (tb.Sets × Cursor) Refusal} (k : seen sets_of q ≡ read_at (past.at + length v) (read_sets n.scopes v)) where
+        pub root_sets_stop : {o : Result Ending Refusal} {f : Refusal} → q ≡ Err f → o ≡ Err f → RootEnds n s ph bs u o
+        root_sets_stop {f = f} g same = rw same (record {
+          means = λ hd ag x rest o.
+              let l : read_sets n.scopes v ≡ fault (refusal_of f) = seen-refused sets_of (past.at + length v) (read_sets n.scopes v) k g in
+              let y : read_stx most_nesting hd s ≡ fault (refusal_of f) = on_tag hd ag ∙ rw l in
+              never (sym y ∙ o);
+        })
 
-      module _ {behind : Cursor} (g : q ≡ place.At behind) {w : List ℕ} (l : w ≡ drop (behind.at - past.at) v) {r2 : Number}
-          (o : r2 ≡ number_at (behind.at + length w) (num_below n.symbols w)) where
-        three : read_sets n.scopes v ≡ got (record { at0 = a; at1 = b; at2 = c }) w
-        three =
-            let T : Took past.at v (read_sets n.scopes v) (record { at0 = a; at1 = b; at2 = c }) behind.at =
-            took (seen_shape no_sets) k (whole no_sets past.at v (read_sets n.scopes v) k g (sets_tail n.scopes v)) (sets_tail n.scopes v) in
-            T.is ∙ ap (got (record { at0 = a; at1 = b; at2 = c })) (sym l)
+        module _ {three : tb.Sets} {behind : Cursor} (g : q ≡ Ok (three, behind)) {w : List ℕ} (l : w ≡ drop (behind.at - past.at) v) {r2 : Result (ℕ × Cursor) Refusal}
+            (o : r2 ≡ read_at (behind.at + length w) (num_below n.symbols w)) where
+          three_are : read_sets n.scopes v ≡ got (sets_of three) w
+          three_are =
+              let T : Took past.at v (read_sets n.scopes v) (sets_of three) behind.at =
+              took read_shape k (whole sets_of past.at v (read_sets n.scopes v) k g (sets_tail n.scopes v)) (sets_tail n.scopes v) in
+              T.is ∙ ap (got (sets_of three)) (sym l)
 
-        pub root_symbol_stop : {f : Refusal} → r2 ≡ number.Fault f → RootEnds n s ph bs u (Refused f 0)
-        unfolding read_content read_atom
-        root_symbol_stop {f} y = record {
-          means = λ hd ag x rest d.
-              let B : num_below n.symbols w ≡ fault (refusal_of f) = refused number_shape (behind.at + length w) (num_below n.symbols w) o y in
-              let E : read_stx most_nesting hd s ≡ fault (refusal_of f) = on_tag hd ag ∙ rw (three, z, ← ag.symbols-are, B) in
-              never (sym E ∙ d);
-        }
+          pub root_symbol_stop : {p : Result Ending Refusal} {f : Refusal} → r2 ≡ Err f → p ≡ Err f → RootEnds n s ph bs u p
+          unfolding read_content read_atom
+          root_symbol_stop {f = f} y same = rw same (record {
+            means = λ hd ag x rest d.
+                let B : num_below n.symbols w ≡ fault (refusal_of f) = refused read_shape (behind.at + length w) (num_below n.symbols w) o y in
+                let E : read_stx most_nesting hd s ≡ fault (refusal_of f) = on_tag hd ag ∙ rw (three_are, z, ← ag.symbols-are, B) in
+                never (sym E ∙ d);
+          })
 
-        pub root_ends : {y : ℕ} {past2 : Cursor} {set : Scopes} {d : Ending} → r2 ≡ number.Read y past2 → set ≡ phased ph a b c
-            → ending_of [] d ≡ found_ending (decided y set bs) u → RootEnds n s ph bs u d
-        unfolding root_ending phased
-        root_ends {y} {past2} {set} {d} p sp ed = record {
-          means = λ hd ag x rest f.
-              let T : Took behind.at w (num_below n.symbols w) y past2.at = took number_shape o p (below_tail n.symbols w) in
-              let A : read_sets hd.scopes v ≡ got (record { at0 = a; at1 = b; at2 = c }) w = rw (← ag.scopes-are) three in
-              let B : num_below (symbols hd) w ≡ got y (drop (past2.at - behind.at) w) = rw (← ag.symbols-are) T.is in
-              let C : behind-tag hd t v ≡ got x rest = rw i (sym (from-tag hd) ∙ f) in
-              let D : x ≡ atom (record { at0 = a; at1 = b; at2 = c }) (symbol y) =
-              identifier-root hd t v w (drop (past2.at - behind.at) w) (record { at0 = a; at1 = b; at2 = c }) y x rest z A B C in
-              ed ∙ ap (λ (m : Scopes). found_ending (decided y m bs) u) sp ∙ sym (ap (λ (X : Stx). root_ending ph X bs u) D);
-        }
+          pub root_ends : {y : ℕ} {past2 : Cursor} {set : Scopes} {d : Ending} → r2 ≡ Ok (y, past2) → set ≡ set_at ph (sets_of three)
+              → ending_of [] d ≡ found_ending (decided y set bs) u → RootEnds n s ph bs u (Ok d)
+          unfolding root_ending
+          root_ends {y} {past2} {set} {d} p sp ed = record {
+            means = λ hd ag x rest f.
+                let T : Took behind.at w (num_below n.symbols w) y past2.at = took read_shape o p (below_tail n.symbols w) in
+                let A : read_sets hd.scopes v ≡ got (sets_of three) w = rw (← ag.scopes-are) three_are in
+                let B : num_below (symbols hd) w ≡ got y (drop (past2.at - behind.at) w) = rw (← ag.symbols-are) T.is in
+                let C : behind-tag hd t v ≡ got x rest = rw i (sym (from-tag hd) ∙ f) in
+                let D : x ≡ atom (sets_of three) (symbol y) =
+                identifier-root hd t v w (drop (past2.at - behind.at) w) (sets_of three) y x rest z A B C in
+                ed ∙ ap (λ (m : Scopes). found_ending (decided y m bs) u) sp ∙ sym (ap (λ (X : Stx). root_ending ph X bs u) D);
+          }
 
 pub ruleset read_laws = (root-stops, root-other, root_sets_stop, root_symbol_stop, root_ends, sets_tail, up_to_tail, below_tail)

@@ -1,5 +1,6 @@
 -- The job resolve, by the tests that the code makes.
-use Prim.Native.Nat.{ℕ, zero, suc, ◌+◌, ◌-◌, ◌*◌, ◌≤◌, ◌<◌}
+use Rattle.std.specs.Prelude.{Result, Ok, Err}
+use Prim.Native.Nat.{ℕ, ◌+◌, ◌-◌, ◌*◌, ◌≤◌, ◌<◌}
 use mathlib.Core.Path.{◌≡◌, refl, sym, ap, ◌∙◌, subst}
 use mathlib.Core.List.{List, []}
 use native.Mathlib.Omega.{arith}
@@ -7,7 +8,6 @@ use lib.ListN.{length, drop, length-drop}
 use borrow.Author.Tests.{le-leb, lt-leb}
 use Rattle.model.specs.Limits.{core_names, last_phase}
 use Rattle.model.specs.Refusals.{no_rule, ambiguous}
-use Rattle.model.specs.Scopes.{Scopes}
 use Rattle.model.specs.Objects.{symbol, number, point, prim, rung, set_at, Stx, atom, list}
 use Rattle.model.specs.Resolving.{Bind}
 use Rattle.model.specs.Competing.{no_rivals}
@@ -23,12 +23,7 @@ use Rattle.store.specs.Sizes.{binding_size, store_size}
 use Rattle.store.specs.declared.rivals.Rivals.{Rivals}
 use Rattle.store.specs.Rivalry.{Decision, means, several, rivals_of, decided, found_of}
 use Rattle.store.proofs.Competing.{step_of, resolve_at-decided}
-use Rattle.store.specs.declared.resolving.Found.{Found}
-use Rattle.store.specs.declared.resolving.Found.TheVariants.{Means, Several}
 use Rattle.steps.specs.declared.State.{State}
-use Rattle.steps.specs.declared.Charged.{Charged}
-use Rattle.steps.specs.declared.Charged.TheVariants as charged
-use Rattle.steps.specs.declared.Charged.TheVariants.{Paid}
 use Rattle.steps.specs.declared.Stop.{Stop}
 use Rattle.steps.specs.States.{Store, state_of, charge_of}
 use Rattle.steps.proofs.Laws.{charge_went}
@@ -40,37 +35,20 @@ use Rattle.finish.specs.declared.Ending.TheVariants.{Refused, Stopped, Named, Wr
 use Rattle.finish.specs.Ends.{ending_of, EndsAs}
 use Rattle.finish.proofs.Ends.{ends-refused}
 use Rattle.image.specs.declared.Judgement.{Judgement}
-use Rattle.image.specs.declared.Judged.{Judged}
-use Rattle.image.specs.declared.Judged.TheVariants as judged
 use Rattle.image.specs.Judging.{Kind, syntax_kind, Good, Judges}
 use Rattle.jobs.specs.Working.{resolving, job_ending, begun, opening}
-use Rattle.jobs.specs.Naming.{found_ending, phased, root_ending, Agree, RootEnds, Resolved}
+use Rattle.jobs.specs.Naming.{found_ending, root_ending, Agree, ended, RootEnds, Resolved}
 use Rattle.jobs.proofs.Charging.{loaded_is, image-refused, unpaid-left, unpaid-ends}
 
 -- ---- the name
 
-pub name-found : {f : Found} {g : Decision} {n : Name} (u : ℕ) → found_of f ≡ g → f ≡ Means n → m.named n.0 u ≡ found_ending g u
+pub name-found : {f : Result Name Rivals} {g : Decision} {n : Name} (u : ℕ) → found_of f ≡ g → f ≡ Ok n → m.named n.0 u ≡ found_ending g u
 name-found u p e = ap (λ (x : Decision). found_ending x u) (sym (ap found_of e) ∙ p)
 
-pub name-several : {f : Found} {g : Decision} {p : Rivals} (u : ℕ) → found_of f ≡ g → f ≡ Several p → found_ending (several (rivals_of p)) u ≡ found_ending g u
+pub name-several : {f : Result Name Rivals} {g : Decision} {p : Rivals} (u : ℕ) → found_of f ≡ g → f ≡ Err p → found_ending (several (rivals_of p)) u ≡ found_ending g u
 name-several u q e = ap (λ (x : Decision). found_ending x u) (sym (ap found_of e) ∙ q)
 
-module _ (a b c : Scopes) where
-  pub phase-first : {ph : ℕ} → ph ≡ 0 → a ≡ phased ph a b c
-  unfolding phased set_at
-  phase-first e = rw e
-
-  pub phase-second : {ph : ℕ} → ph ≡ 1 → b ≡ phased ph a b c
-  unfolding phased set_at
-  phase-second e = rw e
-
-  pub phase-third : (ph : ℕ) → (ph ≡ 0 → ⊥) → (ph ≡ 1 → ⊥) → c ≡ phased ph a b c
-  unfolding phased set_at
-  phase-third zero p q = absurd (p refl)
-  phase-third (suc zero) p q = absurd (q refl)
-  phase-third (suc (suc n)) p q = refl
-
-pub ruleset name_laws = (name-found, name-several, phase-first, phase-second, phase-third)
+pub ruleset name_laws = (name-found, name-several)
 
 -- ---- the root where it lies
 
@@ -97,15 +75,21 @@ module _ {image st : List ℕ} {j : Judgement} (g : Good syntax_kind image st j)
     scopes-are = ap (λ (x : Counts). x.scopes) e ∙ ap (λ (x : Head). x.scopes) g.head-is;
   }
 
-pub root_resolved : (image st : List ℕ) (j : Judgement) (ph : ℕ) {n : Counts} {u : List ℕ} {x : Ending} → n ≡ declares j.front.head → u ≡ drop (j.root - 0) image
-    → RootEnds n u ph (binds_of st j.bindings) j.size x → Resolved image st j ph x
-root_resolved image st j ph e i q = record {
-  means = λ g.
-      let here = i ∙ ap (λ (k : ℕ). drop k image) (let z : j.root - 0 ≡ j.root = omega arith in z) in
-      q.means g.image.head (agree g e) g.image.root [] (rw here g.root-reads);
-}
+module _ (image st : List ℕ) (j : Judgement) (ph : ℕ) {n : Counts} {u : List ℕ} (e : n ≡ declares j.front.head) (i : u ≡ drop (j.root - 0) image) {y : Result Ending Refusal} (q : RootEnds n u ph (binds_of st j.bindings) j.size y) where
+  read_again : Resolved image st j ph (ended y)
+  read_again = record {
+    means = λ g.
+        let here = i ∙ ap (λ (k : ℕ). drop k image) (let z : j.root - 0 ≡ j.root = omega arith in z) in
+        q.means g.image.head (agree g e) g.image.root [] (rw here g.root-reads);
+  }
 
-pub ruleset root_laws = (root-within, root-words, root-scopes, root-held, root-fits, root_resolved)
+  pub root_resolved : {x : Ending} → y ≡ Ok x → Resolved image st j ph x
+  root_resolved k = subst (λ (z : Result Ending Refusal). Resolved image st j ph (ended z)) k read_again
+
+  pub root_refused : {f : Refusal} → y ≡ Err f → Resolved image st j ph (Refused f 0)
+  root_refused k = subst (λ (z : Result Ending Refusal). Resolved image st j ph (ended z)) k read_again
+
+pub ruleset root_laws = (root-within, root-words, root-scopes, root-held, root-fits, root_resolved, root_refused)
 
 -- ---- the work
 
@@ -153,11 +137,11 @@ root-quiet ph (atom c (prim n)) bs u x e = refused-quiet u x e
 root-quiet ph (atom c (rung n)) bs u x e = refused-quiet u x e
 root-quiet ph (list c l) bs u x e = refused-quiet u x e
 
-pub judged-good : {A : Type 0} {K : Kind A} {image st : List ℕ} {y : Judged} {j : Judgement} → Judges K image st y → y ≡ judged.Good j → Good K image st j
+pub judged-good : {A : Type 0} {K : Kind A} {image st : List ℕ} {y : Result Judgement Refusal} {j : Judgement} → Judges K image st y → y ≡ Ok j → Good K image st j
 judged-good {j = j} w e = w.good j e
 
-pub resolved_ends : (j : Judgement) (ph budget : ℕ) {q : Charged} {t : State} {image : List ℕ} (st : List ℕ) {y : Judged} {x : Ending} → q ≡ charge_of j.size (begun j budget) → q ≡ Paid t → Judges syntax_kind image st y
-    → y ≡ judged.Good j → Resolved image st j ph x → EndsAs (job_ending (resolving ph) budget 0 image) [] [] x
+pub resolved_ends : (j : Judgement) (ph budget : ℕ) {q : Result State Stop} {t : State} {image : List ℕ} (st : List ℕ) {y : Result Judgement Refusal} {x : Ending} → q ≡ charge_of j.size (begun j budget) → q ≡ Ok t → Judges syntax_kind image st y
+    → y ≡ Ok j → Resolved image st j ph x → EndsAs (job_ending (resolving ph) budget 0 image) [] [] x
 resolved_ends j ph budget {t = t} {image = image} st {x = x} c i w e v =
     let g = w.good j e in
     let p = charge_went j.size (begun j budget) c i in
@@ -168,11 +152,11 @@ resolved_ends j ph budget {t = t} {image = image} st {x = x} c i w e v =
     ∙ ap (λ (n : ℕ). root_ending ph g.image.root (binds_of st n) j.size) binds in
     subst (λ (z : m.Ending). EndsAs z [] [] x) (sym is) (root-quiet ph g.image.root (binds_of st j.bindings) j.size x (v.means g))
 
-pub fault-ends : (ph budget : ℕ) {image : List ℕ} (st : List ℕ) {y : Judged} {f : Refusal} → Judges syntax_kind image st y → y ≡ judged.Fault f → EndsAs (job_ending (resolving ph) budget 0 image) [] [] (Refused f 0)
+pub fault-ends : (ph budget : ℕ) {image : List ℕ} (st : List ℕ) {y : Result Judgement Refusal} {f : Refusal} → Judges syntax_kind image st y → y ≡ Err f → EndsAs (job_ending (resolving ph) budget 0 image) [] [] (Refused f 0)
 fault-ends ph budget st w e = image-refused (resolving ph) st budget [] w e
 
-pub stopped-ends : (j : Judgement) (ph budget : ℕ) {q : Charged} {image : List ℕ} (st : List ℕ) {y : Judged} {f : Stop} {x : Ending} → q ≡ charge_of j.size (begun j budget) → q ≡ charged.Refused f
-    → Judges syntax_kind image st y → y ≡ judged.Good j → x ≡ Stopped f.refusal f.rivals (budget - f.left) → EndsAs (job_ending (resolving ph) budget 0 image) [] [] x
+pub stopped-ends : (j : Judgement) (ph budget : ℕ) {q : Result State Stop} {image : List ℕ} (st : List ℕ) {y : Result Judgement Refusal} {f : Stop} {x : Ending} → q ≡ charge_of j.size (begun j budget) → q ≡ Err f
+    → Judges syntax_kind image st y → y ≡ Ok j → x ≡ Stopped f.refusal f.rivals (budget - f.left) → EndsAs (job_ending (resolving ph) budget 0 image) [] [] x
 stopped-ends j ph budget st c i w e y = unpaid-ends j budget c (resolving ph) st w e [] i y
 
 pub ruleset resolved_laws = (unpaid-left, judged-good, fault-ends, stopped-ends, resolved_ends)

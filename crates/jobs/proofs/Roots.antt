@@ -1,5 +1,7 @@
 -- The root built in the table, and the work on it.
-use Prim.Native.Nat.{ℕ, ◌+◌, ◌-◌, ◌≤◌}
+use Rattle.steps.specs.declared.Stop.{Stop}
+use Rattle.std.specs.Prelude.{Result, Ok, Err}
+use Prim.Native.Nat.{ℕ, ◌+◌, ◌≤◌}
 use mathlib.Core.Path.{◌≡◌, refl, sym, ap, ◌∙◌, subst}
 use mathlib.Core.List.{List, []}
 use native.Mathlib.Omega.{arith}
@@ -17,10 +19,8 @@ use Rattle.store.specs.Sizes.{held_size}
 use Rattle.store.specs.Words.{binds_of, Carries}
 use Rattle.steps.specs.declared.State.{State}
 use Rattle.steps.specs.declared.Out.{Out}
-use Rattle.steps.specs.declared.Answer.{Answer}
-use Rattle.steps.specs.declared.Answer.TheVariants.{Done, Refused}
 use Rattle.steps.specs.States.{Store, store_of, state_of, raised_to, Room}
-use Rattle.steps.specs.Agreement.{ended, Agrees}
+use Rattle.steps.specs.Agreement.{Agrees}
 use Rattle.steps.proofs.Laws.{room-later, on_done, on_refused}
 use Rattle.table.specs.Sizes.{two_cells}
 use Rattle.things.specs.Rep.{Rep}
@@ -87,9 +87,9 @@ with_good d g = record { budget = d.budget; good = g; lent = d.lent; enough = d.
 
 -- over any result that lies in the table
 module _ {B : Type 0} (thing : B → Tree) (Shows : List ℕ → Out → B → Type 0) (rep : (l : List ℕ) (o : Out) (x : B) → Shows l o x → Rep l o.state.top o.at (thing x)) (work : Step B) (calm : NoRise work) where
-  agreed : {n v top : ℕ} {l l' : List ℕ} (s : State) (b : Store) (st' : List ℕ) (a : Answer) → Room l (raised_to top s) → length l' ≡ length l
-      → Agrees (record { shows = Shows; state = λ o. o.state }) n v l l' (raised_to top s) (store_of st') (work (state_of s b)) (ended a) → CameTo thing s st' l' (work (state_of s b)) a
-  agreed s b st' (Done o) fits same g =
+  agreed : {n v top : ℕ} {l l' : List ℕ} (s : State) (b : Store) (st' : List ℕ) (a : Result Out Stop) → Room l (raised_to top s) → length l' ≡ length l
+      → Agrees (record { shows = Shows; state = λ o. o.state }) n v l l' (raised_to top s) (store_of st') (work (state_of s b)) a → CameTo thing s st' l' (work (state_of s b)) a
+  agreed s b st' (Ok o) fits same g =
       let y = on_done g refl in
       record {
         value = y.value;
@@ -99,7 +99,7 @@ module _ {B : Type 0} (thing : B → Tree) (Shows : List ℕ → Out → B → T
         names-from = names-after work calm y.value _ _ y.is;
         within = omega (arith, y.later.spent);
       }
-  agreed s b st' (Refused f) fits same g = let y = on_refused g refl in record { is = y; within = left_after_refusal work calm _ _ _ y }
+  agreed s b st' (Err f) fits same g = let y = on_refused g refl in record { is = y; within = left_after_refusal work calm _ _ _ y }
 
 -- ---- what is in the store at the start
 
@@ -138,14 +138,14 @@ module _ {image st : List ℕ} {j : Judgement} {l : List ℕ} {s : State} (d : L
             };
           })
 
-      tree-came : {st' l'' : List ℕ} (a : Answer) → Empty st → Evaluates 128 place st st' l' l'' t b.at a → length l'' ≡ length l' → CameTo itself s st' l'' (evaluate 128 nowhere d.good.image.root (state_of s (opening st))) a
+      tree-came : {st' l'' : List ℕ} (a : Result Out Stop) → Empty st → Evaluates 128 place st st' l' l'' t b.at a → length l'' ≡ length l' → CameTo itself s st' l'' (evaluate 128 nowhere d.good.image.root (state_of s (opening st))) a
       tree-came {st'} {l''} a none e more =
           let e' = subst (λ (z : State). Evaluates 128 place st st' l' l'' z b.at a) te e in
           subst (λ (z : m.State). CameTo itself s st' l'' (evaluate 128 nowhere d.good.image.root z) a) (nothing-there s none)
           (agreed itself ShownTree (λ k o x r. r.rep) (evaluate 128 nowhere d.good.image.root) (evaluate_no_rise 128 nowhere d.good.image.root) s (store_of st) st' a tree-room more
           (e'.means d.good.image.root nowhere tree-shown (is-nowhere no_use)))
 
-pub tree-worked : {image st st' : List ℕ} {j : Judgement} {l l' l'' : List ℕ} {s t : State} {b : Built} {place : Place} {a : Answer} → Loaded tree_kind image st j l s → Empty st → place.intro.0 ≡ 0
+pub tree-worked : {image st st' : List ℕ} {j : Judgement} {l l' l'' : List ℕ} {s t : State} {b : Built} {place : Place} {a : Result Out Stop} → Loaded tree_kind image st j l s → Empty st → place.intro.0 ≡ 0
     → Builds (TreeRead j.front.head.scopes) l l' s.top image j.root (j.root + 1) b → length l' ≡ length l → t ≡ raised_to b.top s → Evaluates 128 place st st' l' l'' t b.at a → length l'' ≡ length l'
     → Worked w.evaluating itself image st j s st' l'' a
 tree-worked {a = a} d none no_use v same te e more = record {
@@ -159,9 +159,9 @@ pub ruleset tree_laws = (tree-judged, tree-ready, tree-worked)
 abbrev bare : Around
 bare = record { meanings = core_only; stops = [] }
 
-few_in : {l l' : List ℕ} {s : State} {b : Store} {q : m.Out Stx} (a : Answer) → Agrees objects 1 two_cells l l' s b q (ended a) → FewBindings a
-few_in (Done o) g = (on_done g refl).shown.few
-few_in (Refused f) g = tt
+few_in : {l l' : List ℕ} {s : State} {b : Store} {q : m.Out Stx} (a : Result Out Stop) → Agrees objects 1 two_cells l l' s b q a → FewBindings a
+few_in (Ok o) g = (on_done g refl).shown.few
+few_in (Err f) g = tt
 
 module _ {image st : List ℕ} {j : Judgement} {l : List ℕ} {s : State} (d : Loaded syntax_kind image st j l s) where
   abbrev object : Stx
@@ -204,14 +204,14 @@ module _ {image st : List ℕ} {j : Judgement} {l : List ℕ} {s : State} (d : L
         unfolding carrying
         opened = put_state s put few_so
 
-        parse-came : {l'' : List ℕ} (a : Answer) → Parsed 128 0 st1 l' l'' t b.at a → length l'' ≡ length l' → CameTo itself s st1 l'' (parse 128 0 object (state_of s (opening st))) a
+        parse-came : {l'' : List ℕ} (a : Result Out Stop) → Parsed 128 0 st1 l' l'' t b.at a → length l'' ≡ length l' → CameTo itself s st1 l'' (parse 128 0 object (state_of s (opening st))) a
         parse-came {l''} a e more =
             let e' = subst (λ (z : State). Parsed 128 0 st1 l' l'' z b.at a) te e in
             subst (λ (z : m.State). CameTo itself s st1 l'' (parse 128 0 object z) a) opened
             (agreed itself ShownTree (λ k o x r. r.rep) (parse 128 0 object) (parse_no_rise 128 0 object) s (store_of st1) st1 a object-room more (e'.means object object-shown))
 
-        module _ {ph : ℕ} {st' l'' : List ℕ} (a : Answer) (e : Expanded (record { entries = 128; phase = ph; meanings = 0; stops = 0 }) st1 st' l' l'' t b.at a) where
-          expand_agrees : Agrees objects 1 two_cells l' l'' (raised_to b.top s) (store_of st') (expand 128 (of_root ph) object (state_of s (store_of st1))) (ended a)
+        module _ {ph : ℕ} {st' l'' : List ℕ} (a : Result Out Stop) (e : Expanded (record { entries = 128; phase = ph; meanings = 0; stops = 0 }) st1 st' l' l'' t b.at a) where
+          expand_agrees : Agrees objects 1 two_cells l' l'' (raised_to b.top s) (store_of st') (expand 128 (of_root ph) object (state_of s (store_of st1))) a
           expand_agrees =
               let e' = subst (λ (z : State). Expanded (record { entries = 128; phase = ph; meanings = 0; stops = 0 }) st1 st' l' l'' z b.at a) te e in
               e'.means object bare object-shown (record { meant = is-core; stopped = no-stops })
@@ -226,10 +226,10 @@ module _ {image st : List ℕ} {j : Judgement} {l : List ℕ} {s : State} (d : L
 
 module _ {image st st1 : List ℕ} {j : Judgement} {l l' : List ℕ} {s t : State} {b : Built} (d : Loaded syntax_kind image st j l s) (put : Carries no_scopes no_scopes st st1)
     (v : Builds (ObjectRead j.front.head.scopes) l l' s.top image j.root (j.root + 1) b) (same : length l' ≡ length l) (te : t ≡ raised_to b.top s) where
-  pub parse-worked : {l'' : List ℕ} {a : Answer} → Parsed 128 0 st1 l' l'' t b.at a → length l'' ≡ length l' → Worked w.parsing itself image st j s st1 l'' a
+  pub parse-worked : {l'' : List ℕ} {a : Result Out Stop} → Parsed 128 0 st1 l' l'' t b.at a → length l'' ≡ length l' → Worked w.parsing itself image st j s st1 l'' a
   parse-worked {a = a} e more = record { means = λ g. parse-came (with_good d g) v same te put a e more }
 
-  module _ {ph : ℕ} {st' l'' : List ℕ} {a : Answer} (e : Expanded (record { entries = 128; phase = ph; meanings = 0; stops = 0 }) st1 st' l' l'' t b.at a) where
+  module _ {ph : ℕ} {st' l'' : List ℕ} {a : Result Out Stop} (e : Expanded (record { entries = 128; phase = ph; meanings = 0; stops = 0 }) st1 st' l' l'' t b.at a) where
     pub expand-worked : length l'' ≡ length l' → Worked (w.expanding ph) stx image st j s st' l'' a
     expand-worked more = record { means = λ g. expand-came (with_good d g) v same te put a e more }
 

@@ -1,5 +1,5 @@
 -- A job from its image to its ending: the charge for loading, the work, and how it ends.
-use Rattle.std.specs.Prelude.{ℕ, ◌-◌, ◌≤◌, ◌≡◌, List}
+use Rattle.std.specs.Prelude.{ℕ, ◌-◌, ◌≤◌, ◌≡◌, List, Result, Ok, Err}
 use Rattle.model.specs.Scopes.{no_scopes}
 use Rattle.model.specs.Objects.{Stx}
 use Rattle.model.specs.Trees.{Tree}
@@ -22,8 +22,6 @@ use Rattle.things.specs.Rep.{Rep}
 use Rattle.steps.specs.declared.State.{State}
 use Rattle.steps.specs.declared.Stop.{Stop}
 use Rattle.steps.specs.declared.Out.{Out}
-use Rattle.steps.specs.declared.Answer.{Answer}
-use Rattle.steps.specs.declared.Answer.TheVariants.{Done, Refused}
 use Rattle.steps.specs.States.{most_entries, Store, store_of, state_of, paid, Room}
 use Rattle.image.specs.declared.Judgement.{Judgement}
 use Rattle.image.specs.Judging.{Kind, syntax_kind, tree_kind, Good}
@@ -87,7 +85,7 @@ itself t = t
 
 -- ---- the work, from the state s to what the rules compute, q; l and `store` are table and store afterwards
 
-pub record Result {B : Type 0} (thing : B → Tree) (s : State) (store l : List ℕ) (q : r.Out B) (o : Out) : Type 0 where
+pub record Ended {B : Type 0} (thing : B → Tree) (s : State) (store l : List ℕ) (q : r.Out B) (o : Out) : Type 0 where
   pub value : B
   pub is : q ≡ ok value (state_of o.state (store_of store))
   pub shown : Rep l o.state.top o.at (thing value)
@@ -100,13 +98,13 @@ pub record Stopped {B : Type 0} (s : State) (q : r.Out B) (f : Stop) : Type 0 wh
   pub within : f.left ≤ s.left
 
 -- what an answer says of the work
-abbrev pub CameTo : {B : Type 0} → (B → Tree) → State → List ℕ → List ℕ → r.Out B → Answer → Type 0
-CameTo thing s store l q (Done o) = Result thing s store l q o
-CameTo thing s store l q (Refused f) = Stopped s q f
+abbrev pub CameTo : {B : Type 0} → (B → Tree) → State → List ℕ → List ℕ → r.Out B → Result Out Stop → Type 0
+CameTo thing s store l q (Ok o) = Ended thing s store l q o
+CameTo thing s store l q (Err f) = Stopped s q f
 
-pub record Worked {A B : Type 0} (J : Job A B) (thing : B → Tree) (image store : List ℕ) (j : Judgement) (s : State) (store' l : List ℕ) (r : Answer) : Type 0 where
+pub record Worked {A B : Type 0} (J : Job A B) (thing : B → Tree) (image store : List ℕ) (j : Judgement) (s : State) (store' l : List ℕ) (r : Result Out Stop) : Type 0 where
   pub means : (g : Good J.kind image store j) → CameTo thing s store' l (J.work g.image.root (state_of s (opening store))) r
 
-abbrev pub FewBindings : Answer → Type 0
-FewBindings (Done o) = o.state.bindings ≤ most_bindings
-FewBindings (Refused f) = Unit {0}
+abbrev pub FewBindings : Result Out Stop → Type 0
+FewBindings (Ok o) = o.state.bindings ≤ most_bindings
+FewBindings (Err f) = Unit {0}

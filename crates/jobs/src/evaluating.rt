@@ -8,8 +8,8 @@ ghost use Rattle.jobs.specs.Working.{Loaded, Empty, itself, Worked, evaluating, 
 
 use crate::loading;
 use finish::Ending;
-use image::{Judged, Judgement};
-use steps::{Answer, Charged, State};
+use image::Judgement;
+use steps::{Out, State, Stop};
 
 // The root, charged for, is built in the table and evaluated, in no macro's use: the store stays empty.
 fn evaluate_root(
@@ -18,14 +18,12 @@ fn evaluate_root(
     store: &mut [u64],
     table: &mut [u32],
     s: State,
-) -> Answer
+) -> Result<Out, Stop>
     requires loaded { Loaded tree_kind image.now store.old j table.old s }
     requires empty { Empty store.old }
     ensures { Worked evaluating itself image.now store.old j s store.new table.new result }
 {
-    let f = j.front;
-    let h = f.head;
-    let b = builder::tree(table, s.top, image, j.root, h.scopes);
+    let b = builder::tree(table, s.top, image, j.root, j.front.head.scopes);
     expand::evaluate(
         table,
         store,
@@ -52,11 +50,8 @@ fn evaluate_loaded(
     ensures { EndsAs (job_ending evaluating budget (length out.old) image.now) out.old out.new result }
 {
     match evaluate_root(image, j, store, table, s) {
-        Answer::Refused(f) => loading::stopped(f, budget),
-        Answer::Done(o) => {
-            let front = j.front;
-            finish::finish_tree(out, image, front, table, o, budget)
-        }
+        Ok(o) => finish::finish_tree(out, image, j.front, table, o, budget),
+        Err(f) => loading::stopped(f, budget),
     }
 }
 
@@ -68,10 +63,10 @@ pub fn evaluate_work(out: &mut [u8], image: &[u8], table: &mut [u32], budget: u3
     // No bindings are read or made, and nothing is carried: a word will do.
     let mut store = [0u64; 1];
     match image::judge_tree(image) {
-        Judged::Fault(f) => Ending::Refused(f, 0),
-        Judged::Good(j) => match loading::begin(j, budget) {
-            Charged::Refused(f) => loading::stopped(f, budget),
-            Charged::Paid(s) => evaluate_loaded(out, image, j, &mut store, table, s, budget),
+        Ok(j) => match loading::begin(j, budget) {
+            Ok(s) => evaluate_loaded(out, image, j, &mut store, table, s, budget),
+            Err(f) => loading::stopped(f, budget),
         },
+        Err(f) => Ending::Refused(f, 0),
     }
 }

@@ -11,9 +11,9 @@ ghost use Rattle.jobs.specs.Working.{Loaded, Worked, FewBindings, expanding, job
 use crate::loading;
 use expand::Surroundings;
 use finish::Ending;
-use image::{Judged, Judgement};
+use image::Judgement;
 use refusals::Refusal;
-use steps::{Answer, Charged, State};
+use steps::{Out, State, Stop};
 use store::carried;
 
 // The root, charged for, is built in the table and expanded, with the core meanings, no stops and nothing carried.
@@ -24,16 +24,14 @@ fn expand_root(
     table: &mut [u32],
     s: State,
     phase: u32,
-) -> Answer
+) -> Result<Out, Stop>
     requires loaded { Loaded syntax_kind image.now store.old j table.old s }
     requires wide { held_size ≤ length store.old }
     ensures worked { Worked (expanding phase) stx image.now store.old j s store.new table.new result }
     ensures few_bindings { FewBindings result }
 {
     loading::carry_nothing(store);
-    let f = j.front;
-    let h = f.head;
-    let b = builder::object(table, s.top, image, j.root, h.scopes);
+    let b = builder::object(table, s.top, image, j.root, j.front.head.scopes);
     let at = Surroundings {
         entries: State::MOST_ENTRIES,
         phase,
@@ -60,11 +58,8 @@ fn expand_loaded(
     ensures { EndsAs (job_ending (expanding phase) budget (length out.old) image.now) out.old out.new result }
 {
     match expand_root(image, j, store, table, s, phase) {
-        Answer::Refused(f) => loading::stopped(f, budget),
-        Answer::Done(o) => {
-            let front = j.front;
-            finish::finish_syntax(out, image, front, store, table, o, budget)
-        }
+        Ok(o) => finish::finish_syntax(out, image, j.front, store, table, o, budget),
+        Err(f) => loading::stopped(f, budget),
     }
 }
 
@@ -83,11 +78,11 @@ pub fn expand_image(
     ensures { EndsAs (job_ending (expanding phase) budget (length out.old) image.now) out.old out.new result }
 {
     match image::judge_syntax(image, store) {
-        Judged::Fault(f) => Ending::Refused(f, 0),
-        Judged::Good(j) => match loading::begin(j, budget) {
-            Charged::Refused(f) => loading::stopped(f, budget),
-            Charged::Paid(s) => expand_loaded(out, image, j, store, table, s, phase, budget),
+        Ok(j) => match loading::begin(j, budget) {
+            Ok(s) => expand_loaded(out, image, j, store, table, s, phase, budget),
+            Err(f) => loading::stopped(f, budget),
         },
+        Err(f) => Ending::Refused(f, 0),
     }
 }
 

@@ -10,21 +10,20 @@ ghost use Rattle.jobs.specs.Working.{begun};
 use finish::Ending;
 use image::Judgement;
 use scopes::ScopeSet;
-use steps::{Charged, State, Stop};
+use steps::{State, Stop};
 use store::carried;
 use store::carried::Carried;
 
 // The state in which the work on a judged image begins: its root is charged for.
-pub fn begin(j: Judgement, budget: u32) -> Charged
+pub fn begin(j: Judgement, budget: u32) -> Result<State, Stop>
     ensures { result ≡ charge_of j.size (begun j budget) }
 {
-    let f = j.front;
-    let h = f.head;
+    let head = j.front.head;
     let s = State {
         top: 1,
         left: budget,
-        names: h.names,
-        scopes: h.scopes,
+        names: head.names,
+        scopes: head.scopes,
         bindings: j.bindings,
     };
     s.charge(j.size)
@@ -49,7 +48,5 @@ pub fn stopped(f: Stop, budget: u32) -> Ending
     requires { f.left ≤ budget }
     ensures { result ≡ Stopped f.refusal f.rivals (budget - f.left) }
 {
-    let refusal = f.refusal;
-    let rivals = f.rivals;
-    Ending::Stopped(refusal, rivals, budget - f.left)
+    Ending::Stopped(f.refusal, f.rivals, budget - f.left)
 }

@@ -9,20 +9,24 @@ ghost use Rattle.jobs.specs.Working.{Loaded, itself, Worked, parsing, job_ending
 
 use crate::loading;
 use finish::Ending;
-use image::{Judged, Judgement};
-use steps::{Answer, Charged, State};
+use image::Judgement;
+use steps::{Out, State, Stop};
 use store::carried;
 
 // The root, charged for, is built in the table and parsed. The rules start with nothing carried, so the store does too; parsing does not look.
-fn parse_root(image: &[u8], j: Judgement, store: &mut [u64], table: &mut [u32], s: State) -> Answer
+fn parse_root(
+    image: &[u8],
+    j: Judgement,
+    store: &mut [u64],
+    table: &mut [u32],
+    s: State,
+) -> Result<Out, Stop>
     requires loaded { Loaded syntax_kind image.now store.old j table.old s }
     requires wide { held_size ≤ length store.old }
     ensures { Worked parsing itself image.now store.old j s store.new table.new result }
 {
     loading::carry_nothing(store);
-    let f = j.front;
-    let h = f.head;
-    let b = builder::object(table, s.top, image, j.root, h.scopes);
+    let b = builder::object(table, s.top, image, j.root, j.front.head.scopes);
     parse::parse(table, store, s.raised(b.top), b.at, 0, State::MOST_ENTRIES)
 }
 
@@ -42,11 +46,8 @@ fn parse_loaded(
     ensures { EndsAs (job_ending parsing budget (length out.old) image.now) out.old out.new result }
 {
     match parse_root(image, j, store, table, s) {
-        Answer::Refused(f) => loading::stopped(f, budget),
-        Answer::Done(o) => {
-            let front = j.front;
-            finish::finish_tree(out, image, front, table, o, budget)
-        }
+        Ok(o) => finish::finish_tree(out, image, j.front, table, o, budget),
+        Err(f) => loading::stopped(f, budget),
     }
 }
 
@@ -57,10 +58,10 @@ pub fn parse_work(out: &mut [u8], image: &[u8], table: &mut [u32], budget: u32) 
 {
     let mut store = [0u64; carried::HELD];
     match image::judge_syntax(image, &mut store) {
-        Judged::Fault(f) => Ending::Refused(f, 0),
-        Judged::Good(j) => match loading::begin(j, budget) {
-            Charged::Refused(f) => loading::stopped(f, budget),
-            Charged::Paid(s) => parse_loaded(out, image, j, &mut store, table, s, budget),
+        Ok(j) => match loading::begin(j, budget) {
+            Ok(s) => parse_loaded(out, image, j, &mut store, table, s, budget),
+            Err(f) => loading::stopped(f, budget),
         },
+        Err(f) => Ending::Refused(f, 0),
     }
 }

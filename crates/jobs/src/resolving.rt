@@ -8,19 +8,18 @@ ghost use Rattle.store.specs.Sizes.{binding_size, store_size};
 ghost use Rattle.finish.specs.Ends.{ending_of, EndsAs};
 ghost use Rattle.image.specs.Judging.{syntax_kind, Good};
 ghost use Rattle.jobs.specs.Working.{resolving, job_ending};
-ghost use Rattle.jobs.specs.Naming.{found_ending, phased, RootEnds, Resolved};
+ghost use Rattle.jobs.specs.Naming.{found_ending, RootEnds, Resolved};
 ghost use Rattle.numbers.specs.Limits.{most_image};
 ghost use Rattle.scopes.specs.Sets.{set_scopes};
 
 use crate::loading;
 use finish::Ending;
 use head::Counts;
-use image::{Judged, Judgement};
-use numbers::{Cursor, Number, Place};
+use image::Judgement;
+use numbers::Cursor;
 use refusals::Refusal;
 use scopes::{ScopeSet, Symbol};
-use steps::Charged;
-use store::resolving::{Found, Resolving};
+use store::resolving::Resolving;
 
 // The name of the identifier with symbol x and set s, after so many units.
 fn resolve_name(store: &[u64], count: u32, x: Symbol, s: ScopeSet, units: u32) -> Ending
@@ -28,22 +27,9 @@ fn resolve_name(store: &[u64], count: u32, x: Symbol, s: ScopeSet, units: u32) -
     ensures { ending_of [] result ≡ found_ending (decided x.0 (scopes_of s) (binds_of store.now count)) units }
 {
     match store::resolving::resolve(store, count, x, s) {
-        Found::Means(n) => Ending::Named(n, units),
-        Found::Several(rivals) => Ending::Stopped(Refusal::Ambiguous, rivals, units),
+        Ok(n) => Ending::Named(n, units),
+        Err(rivals) => Ending::Stopped(Refusal::Ambiguous, rivals, units),
     }
-}
-
-// The set of a phase.
-fn at_phase(phase: u32, at0: ScopeSet, at1: ScopeSet, at2: ScopeSet) -> ScopeSet
-    ensures { scopes_of result ≡ phased phase (scopes_of at0) (scopes_of at1) (scopes_of at2) }
-{
-    if phase == 0 {
-        return at0;
-    }
-    if phase == 1 {
-        return at1;
-    }
-    at2
 }
 
 // The root, known to be whole, charged for by so many units: it is read again as far as the identifier that it must be.
@@ -55,33 +41,20 @@ fn resolve_root(
     units: u32,
     store: &[u64],
     count: u32,
-) -> Ending
+) -> Result<Ending, Refusal>
     requires image { (c.at + length s.now ≤ most_image) × (counts.scopes ≤ set_scopes) }
     requires held { count * binding_size ≤ length store.now }
     ensures { RootEnds counts s.now phase (binds_of store.now count) units result }
 {
-    match c.number_up_to(s, Refusal::Layout, 5) {
-        Number::Read(tag, past) => {
-            if tag != 0 {
-                return Ending::Refused(Refusal::NoRule, units);
-            }
-            let rest = c.after(s, past);
-            let three = sets::read_sets(past, rest, counts.scopes);
-            let set = at_phase(phase, three.at0, three.at1, three.at2);
-            let end = three.end;
-            match end {
-                Place::At(behind) => match behind.number_below(
-                    past.after(rest, behind),
-                    counts.symbols,
-                ) {
-                    Number::Read(x, _) => resolve_name(store, count, Symbol(x), set, units),
-                    Number::Fault(f) => Ending::Refused(f, 0),
-                },
-                Place::Fault(f) => Ending::Refused(f, 0),
-            }
-        }
-        Number::Fault(f) => Ending::Refused(f, 0),
+    let (tag, past) = c.number_up_to(s, Refusal::Layout, 5)?;
+    if tag != 0 {
+        return Ok(Ending::Refused(Refusal::NoRule, units));
     }
+    let rest = c.after(s, past);
+    let (three, behind) = sets::read_sets(past, rest, counts.scopes)?;
+    let (x, _) = behind.number_below(past.after(rest, behind), counts.symbols)?;
+    let set = forms::set_at(three, phase);
+    Ok(resolve_name(store, count, Symbol(x), set, units))
 }
 
 // The root of a judged image, charged for.
@@ -90,12 +63,14 @@ fn resolve_loaded(image: &[u8], j: Judgement, store: &[u64], phase: u32) -> Endi
     requires wide { store_size ≤ length store.now }
     ensures { Resolved image.now store.now j phase result }
 {
-    let f = j.front;
-    let h = f.head;
     let start = Cursor { at: 0 };
     let root = Cursor { at: j.root };
     let rest = start.after(image, root);
-    resolve_root(root, rest, h.counts(), phase, j.size, store, j.bindings)
+    let counts = j.front.head.counts();
+    match resolve_root(root, rest, counts, phase, j.size, store, j.bindings) {
+        Ok(ending) => ending,
+        Err(f) => Ending::Refused(f, 0),
+    }
 }
 
 // The image past the test of the phase, with words for its bindings.
@@ -104,11 +79,11 @@ fn resolve_image(image: &[u8], store: &mut [u64], phase: u32, budget: u32) -> En
     ensures { EndsAs (job_ending (resolving phase) budget 0 image.now) [] [] result }
 {
     match image::judge_syntax(image, store) {
-        Judged::Fault(f) => Ending::Refused(f, 0),
-        Judged::Good(j) => match loading::begin(j, budget) {
-            Charged::Refused(f) => loading::stopped(f, budget),
-            Charged::Paid(_) => resolve_loaded(image, j, store, phase),
+        Ok(j) => match loading::begin(j, budget) {
+            Ok(_) => resolve_loaded(image, j, store, phase),
+            Err(f) => loading::stopped(f, budget),
         },
+        Err(f) => Ending::Refused(f, 0),
     }
 }
 

@@ -18,11 +18,11 @@ slice_bounds-evaluate_loaded-end c = search (tree_charging_laws, evaluate-ends, 
 pub evaluate_loaded-requires : goal.evaluate_loaded-requires
 evaluate_loaded-requires c = search (tree_charging_laws, evaluate-ends, rules)
 
-pub returns-in-Fault : goal.returns-in-Fault
-returns-in-Fault c = search (tree_charging_laws, evaluate-ends, rules)
+pub returns-in-Err : goal.returns-in-Err
+returns-in-Err c = search (tree_charging_laws, evaluate-ends, rules)
 
-pub returns-in-Refused : goal.returns-in-Refused
-returns-in-Refused c = search (tree_charging_laws, evaluate-ends, rules)
+pub returns-in-Err-begin : goal.returns-in-Err-begin
+returns-in-Err-begin c = search (tree_charging_laws, evaluate-ends, rules)
 
-pub returns-in-Paid : goal.returns-in-Paid
-returns-in-Paid c = search (tree_charging_laws, evaluate-ends, rules)
+pub returns-in-Ok-begin : goal.returns-in-Ok-begin
+returns-in-Ok-begin c = search (tree_charging_laws, evaluate-ends, rules)

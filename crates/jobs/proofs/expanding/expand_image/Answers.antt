@@ -14,11 +14,11 @@ stopped-requires c = search (charging_laws, rules)
 pub expand_loaded-requires : goal.expand_loaded-requires
 expand_loaded-requires c = search (charging_laws, rules)
 
-pub returns-in-Fault : goal.returns-in-Fault
-returns-in-Fault c = search (charging_laws, rules)
+pub returns-in-Err : goal.returns-in-Err
+returns-in-Err c = search (charging_laws, rules)
 
-pub returns-in-Refused : goal.returns-in-Refused
-returns-in-Refused c = search (charging_laws, rules)
+pub returns-in-Err-begin : goal.returns-in-Err-begin
+returns-in-Err-begin c = search (charging_laws, rules)
 
-pub returns-in-Paid : goal.returns-in-Paid
-returns-in-Paid c = search (charging_laws, rules)
+pub returns-in-Ok-begin : goal.returns-in-Ok-begin
+returns-in-Ok-begin c = search (charging_laws, rules)

@@ -17,8 +17,8 @@ finish_tree-requires-clause-came c = search (ending_laws, rules)
 pub finish_tree-requires-clause-within : goal.finish_tree-requires-clause-within
 finish_tree-requires-clause-within c = search (ending_laws, rules)
 
-pub returns-in-Refused : goal.returns-in-Refused
-returns-in-Refused c = search (ending_laws, rules)
+pub returns-in-Err : goal.returns-in-Err
+returns-in-Err c = search (ending_laws, rules)
 
-pub returns-in-Done : goal.returns-in-Done
-returns-in-Done c = search (ending_laws, rules)
+pub returns-in-Ok : goal.returns-in-Ok
+returns-in-Ok c = search (ending_laws, rules)

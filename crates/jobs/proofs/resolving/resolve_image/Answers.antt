@@ -17,11 +17,11 @@ resolve_loaded-requires-clause-good c = search (resolved_laws, rules)
 pub resolve_loaded-requires-clause-wide : goal.resolve_loaded-requires-clause-wide
 resolve_loaded-requires-clause-wide c = search (resolved_laws, rules)
 
-pub returns-in-Fault : goal.returns-in-Fault
-returns-in-Fault c = search (resolved_laws, rules)
+pub returns-in-Err : goal.returns-in-Err
+returns-in-Err c = search (resolved_laws, rules)
 
-pub returns-in-Refused : goal.returns-in-Refused
-returns-in-Refused c = search (resolved_laws, rules)
+pub returns-in-Err-begin : goal.returns-in-Err-begin
+returns-in-Err-begin c = search (resolved_laws, rules)
 
-pub returns-in-Paid : goal.returns-in-Paid
-returns-in-Paid c = search (resolved_laws, rules)
+pub returns-in-Ok-begin : goal.returns-in-Ok-begin
+returns-in-Ok-begin c = search (resolved_laws, rules)
