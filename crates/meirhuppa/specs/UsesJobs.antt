@@ -1,7 +1,6 @@
 -- What `meirhuppa_summary`, `meirhuppa_uses` and `meirhuppa_replace` promise of their answers, and of summary and output after them: they are the
 -- request's.
 use Rattle.std.specs.Prelude.{◌≡◌, List, ℕ}
-use Rattle.requests.specs.Uses as u
 use Rattle.requests.specs.Uses.{SummaryResult, UsesAnswer, refused_answer}
 use Rattle.requests.specs.Replacing.{ReplaceResult}
 use Rattle.summaries.specs.declared.refusal.UsesRefusal.{UsesRefusal}

@@ -22,20 +22,41 @@ pub struct Answer {
     pub second: u32,
 }
 
+impl Answer {
+    // So many bytes written, after so many units.
+    pub(crate) fn written(length: u32, units: u32) -> Answer
+        ensures { answer_is result ≡ record { code = 0; units = units; name = 0; len = length; first = 0; second = 0 } }
+    {
+        Answer {
+            code: 0,
+            units,
+            name: 0,
+            length,
+            first: 0,
+            second: 0,
+        }
+    }
+
+    // A refusal's number, after so many units.
+    pub(crate) fn refused(code: u32, units: u32) -> Answer
+        ensures { answer_is result ≡ record { code = code; units = units; name = 0; len = 0; first = 0; second = 0 } }
+    {
+        Answer {
+            code,
+            units,
+            name: 0,
+            length: 0,
+            first: 0,
+            second: 0,
+        }
+    }
+}
+
 // Code 5.
 pub fn small_table() -> Answer
     ensures { answer_is result ≡ answer_of (refused small_table no_rivals 0) }
 {
-    let refusal = Refusal::SmallTable;
-    let code = refusal.code();
-    Answer {
-        code,
-        units: 0,
-        name: 0,
-        length: 0,
-        first: 0,
-        second: 0,
-    }
+    Answer::refused(Refusal::SmallTable.code(), 0)
 }
 
 // A refusal with its code and units, and with the bindings that compete where it is 6; a name, or the length of the image that was written.
@@ -44,43 +65,18 @@ pub fn given_back(ending: Ending) -> Answer
     ensures { answer_is result ≡ answer_for ending }
 {
     match ending {
-        Ending::Refused(f, units) => {
-            let code = f.code();
-            Answer {
-                code,
-                units,
-                name: 0,
-                length: 0,
-                first: 0,
-                second: 0,
-            }
-        }
+        Ending::Refused(f, units) => Answer::refused(f.code(), units),
         Ending::Stopped(f, rivals, units) => {
-            let code = f.code();
-            Answer {
-                code,
-                units,
-                name: 0,
-                length: 0,
-                first: rivals.first,
-                second: rivals.second,
-            }
+            let mut a = Answer::refused(f.code(), units);
+            a.first = rivals.first;
+            a.second = rivals.second;
+            a
         }
-        Ending::Named(n, units) => Answer {
-            code: 0,
-            units,
-            name: n.0,
-            length: 0,
-            first: 0,
-            second: 0,
-        },
-        Ending::Written(n, units) => Answer {
-            code: 0,
-            units,
-            name: 0,
-            length: n as u32,
-            first: 0,
-            second: 0,
-        },
+        Ending::Named(n, units) => {
+            let mut a = Answer::written(0, units);
+            a.name = n.0;
+            a
+        }
+        Ending::Written(n, units) => Answer::written(n as u32, units),
     }
 }

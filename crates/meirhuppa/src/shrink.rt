@@ -10,6 +10,5 @@ use shrinker::job;
 pub fn meirhuppa_shrink(image: &[u8], out: &mut [u8]) -> Answer
     ensures { ShrinkAnswered (shrink_job image.now out.old) result out.new }
 {
-    let ending = job::shrink_image(image, out);
-    answers::given_back(ending)
+    answers::given_back(job::shrink_image(image, out))
 }

@@ -12,25 +12,8 @@ fn given_back(w: Written) -> Answer
     ensures { WrittenAnswer w result }
 {
     match w {
-        Written::Made(length) => Answer {
-            code: 0,
-            units: 0,
-            name: 0,
-            length,
-            first: 0,
-            second: 0,
-        },
-        Written::Refused(f) => {
-            let code = f.code();
-            Answer {
-                code,
-                units: 0,
-                name: 0,
-                length: 0,
-                first: 0,
-                second: 0,
-            }
-        }
+        Ok(length) => Answer::written(length, 0),
+        Err(f) => Answer::refused(f.code(), 0),
     }
 }
 

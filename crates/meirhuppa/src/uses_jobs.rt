@@ -5,9 +5,7 @@ ghost use Rattle.requests.specs.Replacing.{replace_job};
 ghost use Rattle.meirhuppa.specs.UsesJobs.{RefusedAnswer, SummaryAnswered, UsesAnswered, ReplaceAnswered};
 
 use crate::answers::Answer;
-use replacing::Replacing;
 use summaries::refusal::UsesRefusal;
-use summaries::{Asking, Making};
 
 // How many variables have a name, and the place of the first; both are 0 with a refusal.
 #[repr(C)]
@@ -21,15 +19,7 @@ pub struct Uses {
 fn refused(f: UsesRefusal) -> Answer
     ensures { RefusedAnswer f result }
 {
-    let code = f.code();
-    Answer {
-        code,
-        units: 0,
-        name: 0,
-        length: 0,
-        first: 0,
-        second: 0,
-    }
+    Answer::refused(f.code(), 0)
 }
 
 // The summary of a tree, into `summary`. The length counts bytes, four for each word.
@@ -37,15 +27,8 @@ pub fn meirhuppa_summary(image: &[u8], summary: &mut [u32]) -> Answer
     ensures { SummaryAnswered (summary_job image.now summary.old) result summary.new }
 {
     match summaries::make(image, summary) {
-        Making::Made(names) => Answer {
-            code: 0,
-            units: 0,
-            name: 0,
-            length: 4 * (2 + 2 * names),
-            first: 0,
-            second: 0,
-        },
-        Making::Refused(f) => refused(f),
+        Ok(names) => Answer::written(4 * (2 + 2 * names), 0),
+        Err(f) => refused(f),
     }
 }
 
@@ -54,19 +37,16 @@ pub fn meirhuppa_uses(image: &[u8], summary: &[u32], name: u32) -> Uses
     ensures { UsesAnswered (uses_job image.now summary.now name) result }
 {
     match summaries::ask(image, summary, name) {
-        Asking::Told(count, first) => Uses {
+        Ok(entry) => Uses {
             code: 0,
-            count,
-            first,
+            count: entry.count,
+            first: entry.first,
         },
-        Asking::Refused(f) => {
-            let code = f.code();
-            Uses {
-                code,
-                count: 0,
-                first: 0,
-            }
-        }
+        Err(f) => Uses {
+            code: f.code(),
+            count: 0,
+            first: 0,
+        },
     }
 }
 
@@ -81,14 +61,7 @@ pub fn meirhuppa_replace(
     ensures { ReplaceAnswered (replace_job image.now place part.now summary.old out.old) result summary.new out.new }
 {
     match replacing::replace(image, place, part, summary, out) {
-        Replacing::Made(length) => Answer {
-            code: 0,
-            units: 0,
-            name: 0,
-            length,
-            first: 0,
-            second: 0,
-        },
-        Replacing::Refused(f) => refused(f),
+        Ok(length) => Answer::written(length, 0),
+        Err(f) => refused(f),
     }
 }

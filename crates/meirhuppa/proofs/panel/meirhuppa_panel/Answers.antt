@@ -1,18 +1,11 @@
-use Rattle.meirhuppa.proofs.PanelAnswers.{panel_laws}
-use Rattle.std.proofs.Common.{rules}
 use Rattle.meirhuppa.proofs.panel.meirhuppa_panel.Goals as goal
+use Rattle.meirhuppa.proofs.PanelAnswers.{panel-listed, panel-refused, panel-short}
 
-pub list_bits-requires : goal.list_bits-requires
-list_bits-requires c = search (panel_laws, rules)
+pub overflow_mul-count : goal.overflow_mul-count
+overflow_mul-count c = record { fits = panel-short _ _ c.list_bits.ensures c.in-Ok.is }
 
-pub overflow_mul-result : goal.overflow_mul-result
-overflow_mul-result c = search (panel_laws, rules)
+pub returns-in-Ok : goal.returns-in-Ok
+returns-in-Ok c = panel-listed _ _ c.list_bits.ensures c.in-Ok.is c.written.ensures
 
-pub code-code-requires : goal.code-code-requires
-code-code-requires c = search (panel_laws, rules)
-
-pub returns-in-Listed : goal.returns-in-Listed
-returns-in-Listed c = search (panel_laws, rules)
-
-pub returns-in-Refused : goal.returns-in-Refused
-returns-in-Refused c = search (panel_laws, rules)
+pub returns-in-Err : goal.returns-in-Err
+returns-in-Err c = panel-refused _ _ c.list_bits.ensures c.in-Err.is c.code.ensures c.refused.ensures

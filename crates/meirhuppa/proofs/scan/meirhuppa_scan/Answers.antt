@@ -1,15 +1,8 @@
-use Rattle.meirhuppa.proofs.ScanAnswers.{scan_laws}
-use Rattle.std.proofs.Common.{rules}
 use Rattle.meirhuppa.proofs.scan.meirhuppa_scan.Goals as goal
+use Rattle.meirhuppa.proofs.ScanAnswers.{scan-printed, scan-refused}
 
-pub run_job-requires : goal.run_job-requires
-run_job-requires c = search (scan_laws, rules)
+pub returns-in-Ok : goal.returns-in-Ok
+returns-in-Ok c = scan-printed _ _ _ c.run_job.ensures c.in-Ok.is c.written.ensures
 
-pub code-code-requires : goal.code-code-requires
-code-code-requires c = search (scan_laws, rules)
-
-pub returns-in-Printed : goal.returns-in-Printed
-returns-in-Printed c = search (scan_laws, rules)
-
-pub returns-in-Refused : goal.returns-in-Refused
-returns-in-Refused c = search (scan_laws, rules)
+pub returns-in-Err : goal.returns-in-Err
+returns-in-Err c = scan-refused _ _ _ c.run_job.ensures c.in-Err.is c.code.ensures c.refused.ensures

@@ -2,9 +2,6 @@ use Rattle.meirhuppa.proofs.ShrinkAnswers.{shrink_laws}
 use Rattle.std.proofs.Common.{rules}
 use Rattle.meirhuppa.proofs.shrink.meirhuppa_shrink.Goals as goal
 
-pub shrink_image-ending-requires : goal.shrink_image-ending-requires
-shrink_image-ending-requires c = search (shrink_laws, rules)
-
 pub given_back-requires : goal.given_back-requires
 given_back-requires c = search (shrink_laws, rules)
 

@@ -1,12 +1,8 @@
-use Rattle.meirhuppa.proofs.TextAnswers.{written_laws}
-use Rattle.std.proofs.Common.{rules}
 use Rattle.meirhuppa.proofs.text_jobs.given_back.Goals as goal
+use Rattle.meirhuppa.proofs.TextAnswers.{made-answer, text_refused_answer}
 
-pub code-code-requires : goal.code-code-requires
-code-code-requires c = search (written_laws, rules)
+pub returns-in-Ok : goal.returns-in-Ok
+returns-in-Ok c = made-answer c.in-Ok.is c.written.ensures
 
-pub returns-in-Made : goal.returns-in-Made
-returns-in-Made c = search (written_laws, rules)
-
-pub returns-in-Refused : goal.returns-in-Refused
-returns-in-Refused c = search (written_laws, rules)
+pub returns-in-Err : goal.returns-in-Err
+returns-in-Err c = text_refused_answer c.in-Err.is c.code.ensures c.refused.ensures

@@ -1,15 +1,8 @@
-use Rattle.meirhuppa.proofs.UsesAnswers.{replace_laws}
-use Rattle.std.proofs.Common.{rules}
 use Rattle.meirhuppa.proofs.uses_jobs.meirhuppa_replace.Goals as goal
+use Rattle.meirhuppa.proofs.UsesAnswers.{replace_made, replace_refused}
 
-pub replace-requires : goal.replace-requires
-replace-requires c = search (replace_laws, rules)
+pub returns-in-Ok : goal.returns-in-Ok
+returns-in-Ok c = replace_made _ _ _ _ _ c.replace.ensures c.in-Ok.is c.written.ensures
 
-pub refused-requires : goal.refused-requires
-refused-requires c = search (replace_laws, rules)
-
-pub returns-in-Made : goal.returns-in-Made
-returns-in-Made c = search (replace_laws, rules)
-
-pub returns-in-Refused : goal.returns-in-Refused
-returns-in-Refused c = search (replace_laws, rules)
+pub returns-in-Err : goal.returns-in-Err
+returns-in-Err c = replace_refused _ _ _ _ _ c.replace.ensures c.in-Err.is c.refused.ensures

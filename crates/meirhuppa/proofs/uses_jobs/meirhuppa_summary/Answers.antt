@@ -1,24 +1,17 @@
-use Rattle.meirhuppa.proofs.UsesAnswers.{summary_laws}
-use Rattle.std.proofs.Common.{rules}
 use Rattle.meirhuppa.proofs.uses_jobs.meirhuppa_summary.Goals as goal
+use Rattle.meirhuppa.proofs.UsesAnswers.{summary-made, summary-refused, summary-short, summary_sum, summary-bytes}
 
-pub make-requires : goal.make-requires
-make-requires c = search (summary_laws, rules)
+pub overflow_mul-names : goal.overflow_mul-names
+overflow_mul-names c = record { fits = summary-short _ _ c.make.ensures c.in-Ok.is }
 
-pub overflow_mul-result : goal.overflow_mul-result
-overflow_mul-result c = search (summary_laws, rules)
+pub overflow_add-names : goal.overflow_add-names
+overflow_add-names c = record { fits = summary_sum _ _ c.make.ensures c.in-Ok.is }
 
-pub overflow_add-result : goal.overflow_add-result
-overflow_add-result c = search (summary_laws, rules)
+pub overflow_mul-names-in-Ok : goal.overflow_mul-names-in-Ok
+overflow_mul-names-in-Ok c = record { fits = summary-bytes _ _ c.make.ensures c.in-Ok.is }
 
-pub overflow_mul-result-in-Made : goal.overflow_mul-result-in-Made
-overflow_mul-result-in-Made c = search (summary_laws, rules)
+pub returns-in-Ok : goal.returns-in-Ok
+returns-in-Ok c = summary-made _ _ c.make.ensures c.in-Ok.is c.written.ensures
 
-pub refused-requires : goal.refused-requires
-refused-requires c = search (summary_laws, rules)
-
-pub returns-in-Made : goal.returns-in-Made
-returns-in-Made c = search (summary_laws, rules)
-
-pub returns-in-Refused : goal.returns-in-Refused
-returns-in-Refused c = search (summary_laws, rules)
+pub returns-in-Err : goal.returns-in-Err
+returns-in-Err c = summary-refused _ _ c.make.ensures c.in-Err.is c.refused.ensures

@@ -1,15 +1,8 @@
-use Rattle.meirhuppa.proofs.UsesAnswers.{uses_laws}
-use Rattle.std.proofs.Common.{rules}
 use Rattle.meirhuppa.proofs.uses_jobs.meirhuppa_uses.Goals as goal
+use Rattle.meirhuppa.proofs.UsesAnswers.{uses-told, uses-refused}
 
-pub ask-requires : goal.ask-requires
-ask-requires c = search (uses_laws, rules)
+pub returns-in-Ok : goal.returns-in-Ok
+returns-in-Ok c = uses-told _ _ _ c.ask.ensures c.in-Ok.is
 
-pub code-code-requires : goal.code-code-requires
-code-code-requires c = search (uses_laws, rules)
-
-pub returns-in-Told : goal.returns-in-Told
-returns-in-Told c = search (uses_laws, rules)
-
-pub returns-in-Refused : goal.returns-in-Refused
-returns-in-Refused c = search (uses_laws, rules)
+pub returns-in-Err : goal.returns-in-Err
+returns-in-Err c = uses-refused _ _ _ c.ask.ensures c.in-Err.is c.code.ensures
