@@ -5,7 +5,7 @@ use mathlib.Core.List.{List, [], ◌∷◌, ◌++◌, append-nil, append_assoc}
 use native.Mathlib.Omega.{arith}
 use native.Mathlib.Numerals.{add-one}
 use native.Mathlib.Nat.{div-add-mod', div-mul-le_self}
-use lib.ListN.{length, take, drop, get_or, set, length-set, replicate, length-replicate, replicate-append-replicate}
+use lib.ListN.{length, take, drop, get_or, replicate, length-replicate, replicate-append-replicate}
 use lib.Seq.{length-take-le, take_all, take-suc, drop_at, sets-eq}
 use Rattle.text.specs.Hexadecimal.{hex_digit, hex_of}
 use Rattle.text.specs.Placing.{Placed}
@@ -30,27 +30,6 @@ bytes-more words i l =
     ap bytes_of_words (take-suc words i 0 l)
     ∙ bytes_append (take i words) (get_or words i 0 ∷ [])
     ∙ ap (λ (r : List ℕ). bytes_of_words (take i words) ++ r) (append-nil (bytes_of (get_or words i 0)))
-
--- ---- one word
-
-pub word-placed : (out : List ℕ) (at w : ℕ)
-    → Placed out at (bytes_of w) (set (set (set (set out at (w % 256)) (at + 1) (w / 256 % 256)) (at + 2) (w / 65536 % 256)) (at + 3) (w / 16777216 % 256)) (at + 4)
-unfolding bytes_of
-word-placed out at w =
-    let two : at + 1 + 1 ≡ at + 2 = omega arith in
-    let three : at + 2 + 1 ≡ at + 3 = omega arith in
-    let four : at + 3 + 1 ≡ at + 4 = omega arith in
-    simp (two, three, four) at (ended (one_more (one_more (one_more (one_more (begun {out = out} {bytes = bytes_of w} {at = at}))))))
-
-module _ (out : List ℕ) (at a : ℕ) (h : at + 4 ≤ length out) where
-  pub second-room : at + 1 < length (set out at a)
-  second-room = simp length-set (omega arith)
-
-  pub third-room : (b : ℕ) → at + 2 < length (set (set out at a) (at + 1) b)
-  third-room b = simp length-set (omega arith)
-
-  pub fourth-room : (b c : ℕ) → at + 3 < length (set (set (set out at a) (at + 1) b) (at + 2) c)
-  fourth-room b c = simp length-set (omega arith)
 
 -- ---- words, of which the first i are placed
 pub record Laying (out₀ : List ℕ) (at : ℕ) (words out : List ℕ) (to i : ℕ) : Type 0 where
@@ -81,15 +60,6 @@ unfolding hex_of
 hex_append [] m = refl
 hex_append (b ∷ l) m = ap (λ (r : List ℕ). hex_digit (b / 16) ∷ hex_digit (b % 16) ∷ r) (hex_append l m)
 
--- a word's bytes, over four others
-pub four_are : (w : ℕ) {four : List ℕ} {past : ℕ} → Placed (0 ∷ 0 ∷ 0 ∷ 0 ∷ []) 0 (bytes_of w) four past → four ≡ bytes_of w
-unfolding bytes_of
-four_are w p = p.is
-
-pub four_spelled : (w : ℕ) {four out out' : List ℕ} {at past p : ℕ} → Placed (0 ∷ 0 ∷ 0 ∷ 0 ∷ []) 0 (bytes_of w) four p → Placed out at (hex_of four) out' past
-    → Placed out at (hex_of (bytes_of w)) out' past
-four_spelled w f q = renamed (ap hex_of (four_are w f)) q
-
 -- words, of which the first i are placed
 pub record Spelling (out₀ : List ℕ) (at : ℕ) (words out : List ℕ) (to i : ℕ) : Type 0 where
   pub within : i ≤ length words
@@ -117,7 +87,7 @@ module _ {out₀ : List ℕ} {at : ℕ} {words out : List ℕ} {to i : ℕ} (w :
   pub spelling-ended : length words ≤ i → Placed out₀ at (hex_of (bytes_of_words words)) out to
   spelling-ended l = rw (take_all i words l) at w.placed
 
-pub ruleset spelling_laws = (four_spelled, spelling-begun, spelling-room, spelling-more, spelling-ended, placed-length)
+pub ruleset spelling_laws = (spelling-begun, spelling-room, spelling-more, spelling-ended, placed-length)
 
 -- ---- over an output that is filled with one value
 
@@ -156,4 +126,4 @@ filled_output n =
     ∙ replicate-append-replicate (n / 4 * 4) (n % 4) byte_fill
     ∙ ap (λ (k : ℕ). replicate k byte_fill) (div-add-mod' n 4)
 
-pub ruleset laying_laws = (word-placed, second-room, third-room, fourth-room, laying_begun, word_room, laying_more, laying_ended, placed-length)
+pub ruleset laying_laws = (laying_begun, word_room, laying_more, laying_ended, placed-length)

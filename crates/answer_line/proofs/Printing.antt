@@ -1,6 +1,6 @@
 -- The columns one behind another, by what the code tests.
-use Prim.Native.Nat.{ℕ, ◌+◌, ◌-◌, ◌*◌, ◌≤◌, ◌<◌}
-use mathlib.Core.Path.{◌≡◌, sym, ap, ◌∙◌, subst}
+use Prim.Native.Nat.{ℕ, ◌+◌, ◌-◌, ◌*◌, ◌≤◌, ◌<◌, min}
+use mathlib.Core.Path.{◌≡◌, sym, ap, ◌∙◌}
 use mathlib.Core.List.{List, [], ◌∷◌, ◌++◌, append-nil}
 use mathlib.Core.Bool.{Bool, true, false}
 use native.Mathlib.Omega.{arith}
@@ -16,6 +16,7 @@ use Rattle.text.proofs.Hexadecimal.{hex_length}
 use Rattle.answer_line.specs.Format.{word_fill, byte_fill, all_are, is_clear, number_column, table_column, written_column, output_column, number_columns, buffer_columns, answer_columns, answer_line, summary_front, summary_column, replace_line}
 use Rattle.answer_line.specs.Words.{bytes_of_words}
 use Rattle.numbers.proofs.Reading.{part-from}
+use Rattle.std.proofs.lemmas.List.{take_min}
 use Rattle.answer_line.proofs.Laying.{bytes-length}
 
 -- ---- numbers
@@ -77,13 +78,9 @@ module _ (count : ℕ) (output : List ℕ) {out o₁ : List ℕ} {at p : ℕ} wh
   unfolding written_column
   written_none e w = renamed (simp (eq-eqb count 0 e)) w
 
-  pub written_all : (count ≡ 0 → ⊥) → length output < count → Placed out at (hex_of output) o₁ p → Placed out at (written_column count output) o₁ p
+  pub written-part : {m : ℕ} → (count ≡ 0 → ⊥) → m ≡ min count (length output) → Placed out at (hex_of (take m output)) o₁ p → Placed out at (written_column count output) o₁ p
   unfolding written_column
-  written_all n h w = renamed (simp (ne_eqb count 0 n, take_all count output (omega arith))) w
-
-  pub written-part : (count ≡ 0 → ⊥) → Placed out at (hex_of (take count output)) o₁ p → Placed out at (written_column count output) o₁ p
-  unfolding written_column
-  written-part n w = renamed (simp (ne_eqb count 0 n)) w
+  written-part n e w = renamed (ap (λ (k : ℕ). hex_of (take k output)) e ∙ ap hex_of (take_min count output) ∙ (let f : hex_of (take count output) ≡ written_column count output = simp (ne_eqb count 0 n) in f)) w
 
   pub part-few : Placed out at (hex_of (take count output)) o₁ p → p ≤ at + length output * 2 + 1
   part-few w = let e = w.ends in let h = hex_length (take count output) in let s = take_short count output in omega arith
@@ -121,13 +118,9 @@ module _ (w : List ℕ) where
   unfolding summary_front
   front-none h = take_all (length w) w (omega arith) ∙ sym (take_all (2 + 2 * get_or w 1 0) w (omega arith))
 
-  pub front-all : {n : ℕ} → n ≡ 2 + 2 * get_or w 1 0 → length w < n → take (length w) w ≡ summary_front w
+  pub front-part : {n m : ℕ} → n ≡ 2 + 2 * get_or w 1 0 → m ≡ min n (length w) → take m w ≡ summary_front w
   unfolding summary_front
-  front-all e h = take_all (length w) w (omega arith) ∙ sym (take_all (2 + 2 * get_or w 1 0) w (omega arith))
-
-  pub front-part : {n : ℕ} → n ≡ 2 + 2 * get_or w 1 0 → take n w ≡ summary_front w
-  unfolding summary_front
-  front-part e = ap (λ (k : ℕ). take k w) e
+  front-part {n} e f = ap (λ (k : ℕ). take k w) f ∙ take_min n w ∙ ap (λ (k : ℕ). take k w) e
 
 module _ (code : ℕ) (w : List ℕ) {out o₁ : List ℕ} {at p : ℕ} where
   pub summary-refused : (code ≡ 0 → ⊥) → Placed out at (45 ∷ []) o₁ p → Placed out at (summary_column code w) o₁ p
@@ -149,6 +142,6 @@ pub replaced-placed : (budget : ℕ) (r : Result) (w : List ℕ) {out o₁ o₂ 
 unfolding replace_line
 replaced-placed budget r w a b c d = placed_then a (placed_then b (placed_then c d))
 
-pub ruleset printing_laws = (number-placed, placed_then, numbers-placed, table_kept, table-clear, table-bad, part_room, written_none, written_all, written-part, all-few, part-few, kept_past, kept-rest, part-long, output-kept, output_lost, buffers_placed, columns_placed, line_placed)
+pub ruleset printing_laws = (number-placed, placed_then, numbers-placed, table_kept, table-clear, table-bad, part_room, written_none, written-part, all-few, part-few, kept_past, kept-rest, part-long, output-kept, output_lost, buffers_placed, columns_placed, line_placed)
 
-pub ruleset summary_laws = (front-none, front-all, front-part, summary-refused, summary-spelled, summary-few, summary-room)
+pub ruleset summary_laws = (front-none, front-part, summary-refused, summary-spelled, summary-few, summary-room)

@@ -1,6 +1,6 @@
 -- Words taken out of bytes, one after another.
 use Prim.Native.Nat.{ℕ, zero, suc, ◌+◌, ◌*◌, ◌/◌, ◌≤◌, ◌<◌}
-use mathlib.Core.Path.{◌≡◌, refl, sym, ap, ◌∙◌}
+use mathlib.Core.Path.{◌≡◌, refl, sym, ◌∙◌}
 use mathlib.Core.List.{List, [], ◌∷◌}
 use native.Mathlib.Omega.{arith}
 use native.Mathlib.Nat.{div-mul-le_self}
@@ -59,7 +59,7 @@ module _ {bytes words₀ words : List ℕ} {i : ℕ} (w : Taking bytes words₀ 
             (get_or-set_same words i v 0 h ∙ e ∙ sym (words-at bytes i (let a = w.all in omega arith)));
       }
 
-  pub taking-ended : length words ≤ i → words ≡ words_of bytes
-  taking-ended h = ext_get_or 0 words (words_of bytes) w.all (λ k l. w.same k (omega arith))
+  pub taking-ended : {n : ℕ} → n ≡ length words₀ → n ≤ i → words ≡ words_of bytes
+  taking-ended e h = ext_get_or 0 words (words_of bytes) w.all (λ k l. w.same k (omega (arith, w.kept)))
 
 pub ruleset taking_laws = (taking-begun, taking-more, taking-ended)

@@ -12,48 +12,26 @@ pub const BYTES: u32 = 0x5a5a5a5a;
 pub fn fill_words(words: &mut [u32], w: u32)
     ensures { words.new ≡ replicate (length words.old) w }
 {
-    let mut i = 0;
-    while i < words.len() {
-        words[i] = w;
-        i += 1;
-    }
+    words.fill(w);
 }
 
 pub fn fill_bytes(bytes: &mut [u8])
     ensures { bytes.new ≡ replicate (length bytes.old) byte_fill }
 {
-    let mut i = 0;
-    while i < bytes.len() {
-        bytes[i] = BYTE;
-        i += 1;
-    }
+    bytes.fill(BYTE);
 }
 
 // Whether every word is w.
 pub fn are_words(words: &[u32], w: u32) -> bool
     ensures { result ≡ all_are w words.now }
 {
-    let mut i = 0;
-    while i < words.len() {
-        if words[i] != w {
-            return false;
-        }
-        i += 1;
-    }
-    true
+    words.iter().all(|word| *word == w)
 }
 
 pub fn are_bytes(bytes: &[u8], b: u8) -> bool
     ensures { result ≡ all_are b bytes.now }
 {
-    let mut i = 0;
-    while i < bytes.len() {
-        if bytes[i] != b {
-            return false;
-        }
-        i += 1;
-    }
-    true
+    bytes.iter().all(|byte| *byte == b)
 }
 
 // Whether the words of a budget are 0 and all others are as they were filled.
@@ -64,8 +42,5 @@ pub fn is_clear(words: &[u32], budget: u32) -> bool
     if words.len() < front {
         return false;
     }
-    if are_words(&words[..front], 0) {
-        return are_words(&words[front..], WORD);
-    }
-    false
+    are_words(&words[..front], 0) && are_words(&words[front..], WORD)
 }

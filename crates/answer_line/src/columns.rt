@@ -57,10 +57,7 @@ fn put_written(out: &mut [u8], at: usize, count: usize, output: &[u8]) -> usize
     if count == 0 {
         return text::put_text(out, at, b"-");
     }
-    if output.len() < count {
-        return text::put_hexadecimal(out, at, output);
-    }
-    text::put_hexadecimal(out, at, &output[..count])
+    text::put_hexadecimal(out, at, &output[..count.min(output.len())])
 }
 
 fn is_kept_after(count: usize, output: &[u8]) -> bool
@@ -116,11 +113,7 @@ fn summary_words(words: &[u32]) -> usize
     if words.len() < 2 {
         return words.len();
     }
-    let count = words_of(words[1]);
-    if words.len() < count {
-        return words.len();
-    }
-    count
+    words_of(words[1]).min(words.len())
 }
 
 pub fn put_summary(out: &mut [u8], at: usize, code: u32, words: &[u32]) -> usize

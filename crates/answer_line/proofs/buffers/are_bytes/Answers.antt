@@ -1,24 +1,10 @@
-use Rattle.answer_line.proofs.Lent.{buffer_laws}
-use Rattle.std.proofs.Common.{rules}
+use Rattle.std.proofs.Common.{rules, ◌≡◌}
+use Rattle.std.proofs.lemmas.Iterator.{cases_from_all, YieldsList-from_slice}
+use borrow.Author.Tests.{tests}
+use Rattle.answer_line.proofs.Lent.{looked_through}
 use Rattle.answer_line.proofs.buffers.are_bytes.Goals as goal
 
-pub loop-i-init : goal.loop-i-init
-loop-i-init c = search (buffer_laws, rules)
-
-pub bounds-bytes-i : goal.bounds-bytes-i
-bounds-bytes-i c = search (buffer_laws, rules)
-
-pub returns-then-bytes-i : goal.returns-then-bytes-i
-returns-then-bytes-i c = search (buffer_laws, rules)
-
-pub overflow_add-i : goal.overflow_add-i
-overflow_add-i c = search (buffer_laws, rules)
-
-pub loop-i-smaller : goal.loop-i-smaller
-loop-i-smaller c = search (buffer_laws, rules)
-
-pub loop-i-preserved : goal.loop-i-preserved
-loop-i-preserved c = search (buffer_laws, rules)
-
 pub returns : goal.returns
-returns c = search (buffer_laws, rules)
+returns c =
+    looked_through _ _ c.all.result
+    (cases_from_all _ _ _ (λ x. x ≡ c.args.b) (λ x. x ≡ c.args.b → ⊥) c.all.ensures.ran (YieldsList-from_slice c.args.bytes.now c.iter.ensures.rest) (λ x q k. search (rules, tests)) (λ x q k. search (rules, tests)))

@@ -14,17 +14,8 @@ returns-then-count-eq0-clause-few c = search (printing_laws, rules)
 pub put_hexadecimal-requires : goal.put_hexadecimal-requires
 put_hexadecimal-requires c = search (printing_laws, rules)
 
-pub returns-then-output-count-clause-bytes : goal.returns-then-output-count-clause-bytes
-returns-then-output-count-clause-bytes c = search (printing_laws, rules)
-
-pub returns-then-output-count-clause-few : goal.returns-then-output-count-clause-few
-returns-then-output-count-clause-few c = search (printing_laws, rules)
-
 pub slice_bounds-put_hexadecimal-end : goal.slice_bounds-put_hexadecimal-end
 slice_bounds-put_hexadecimal-end c = search (printing_laws, rules)
-
-pub put_hexadecimal-requires-2 : goal.put_hexadecimal-requires-2
-put_hexadecimal-requires-2 c = search (printing_laws, rules)
 
 pub returns-clause-bytes : goal.returns-clause-bytes
 returns-clause-bytes c = search (printing_laws, rules)

@@ -11,15 +11,6 @@ returns-then-words-lt2-clause-front c = search (summary_laws, rules)
 pub bounds-words-1 : goal.bounds-words-1
 bounds-words-1 c = search (summary_laws, rules)
 
-pub words_of-count-requires : goal.words_of-count-requires
-words_of-count-requires c = search (summary_laws, rules)
-
-pub returns-then-words-count-clause-few : goal.returns-then-words-count-clause-few
-returns-then-words-count-clause-few c = search (summary_laws, rules)
-
-pub returns-then-words-count-clause-front : goal.returns-then-words-count-clause-front
-returns-then-words-count-clause-front c = search (summary_laws, rules)
-
 pub returns-clause-few : goal.returns-clause-few
 returns-clause-few c = search (summary_laws, rules)
 

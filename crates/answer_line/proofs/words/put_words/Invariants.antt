@@ -1,10 +1,5 @@
 use Rattle.answer_line.proofs.Laying.{Laying}
-use Prim.Native.Nat.{◌-◌}
-use lib.ListN.{length}
 use Rattle.answer_line.proofs.words.put_words.Given as goal
 
-abbrev pub invariant-loop-i : goal.invariant-loop-i
-invariant-loop-i l = Laying l.initial.out l.at l.words l.out l.to l.i
-
-abbrev pub decreases-loop-i : goal.decreases-loop-i
-decreases-loop-i l = length l.words - l.i
+abbrev pub invariant-loop-word : goal.invariant-loop-word
+invariant-loop-word l = Laying l.initial.out l.at l.words l.out l.to l.word-index

@@ -38,12 +38,6 @@ offset_bounds-words-i c = search (taking_laws, rules)
 pub bounds-words-i : goal.bounds-words-i
 bounds-words-i c = search (taking_laws, rules)
 
-pub overflow_add-i : goal.overflow_add-i
-overflow_add-i c = search (taking_laws, rules)
-
-pub loop-i-smaller : goal.loop-i-smaller
-loop-i-smaller c = search (taking_laws, rules)
-
 pub loop-i-preserved : goal.loop-i-preserved
 loop-i-preserved c = search (taking_laws, rules)
 
