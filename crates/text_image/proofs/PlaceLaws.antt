@@ -5,7 +5,7 @@ use mathlib.Core.Bool.{Bool, true, false, not}
 use mathlib.Core.List.{List, ◌∷◌}
 use native.Mathlib.Omega.{arith}
 use native.Mathlib.Numerals.{add-one}
-use lib.ListN.{length, drop, get_or, drop_of_length-le, get_or-eq_default}
+use lib.ListN.{length, drop, get_or, drop_of_length-le}
 use lib.Seq.{drop-cons, get_or-drop}
 use lib.Dec.{eqb}
 use borrow.Author.Tests.{ne_eqb}
@@ -21,9 +21,6 @@ module _ (b next : ℕ) where
   unfolding ends_line
   ends_lf n = rw (ne_eqb b 13 n)
 
-pub past_end : (s : List ℕ) (i : ℕ) → length s ≤ i → 0 ≡ get_or s i 0
-past_end s i h = sym (get_or-eq_default s 0 h)
-
 next-is : (s : List ℕ) (i : ℕ) → get_or (drop (i + 1) s) 0 0 ≡ get_or s (i + 1) 0
 next-is s i = get_or-drop (i + 1) s 0 0 ∙ ap (λ (k : ℕ). get_or s k 0) (omega arith)
 
@@ -37,9 +34,6 @@ pub record Counting (s : List ℕ) (line column i : ℕ) : Type 0 where
   pub lines : line ≤ i + 1
   pub columns : column ≤ i + 1
   pub so_far : place_from line column (drop i s) ≡ place_from 1 1 s
-
-pub counting_start : {s : List ℕ} → Counting s 1 1 0
-counting_start = record { within = omega arith; lines = omega arith; columns = omega arith; so_far = refl }
 
 module _ {s : List ℕ} {line column i : ℕ} (c : Counting s line column i) where
   pub counted : length s ≤ i → record { line = line; column = column } ≡ place_from 1 1 s
@@ -63,5 +57,3 @@ module _ {s : List ℕ} {line column i : ℕ} (c : Counting s line column i) whe
         let l = c.lines in
         let k = c.columns in
         record { within = omega arith; lines = omega arith; columns = omega arith; so_far = sym (step ∙ rw m) ∙ c.so_far }
-
-pub ruleset place_laws = (ends_cr, ends_lf, past_end, counting_start, counted, count_line, count_column)

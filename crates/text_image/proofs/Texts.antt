@@ -5,11 +5,10 @@ use mathlib.Core.List.{List}
 use native.Mathlib.Omega.{arith}
 use lib.ListN.{length, take, replicate, length-append, length-replicate}
 use lib.Seq.{length-take-le}
+use Rattle.std.specs.Prelude.{Result, Err}
 use Rattle.requests.specs.FromText.{made, refused}
 use Rattle.requests.specs.TextJobs.{TextEnding, TextResult, text_answer, output_after_text, text_result, read_ending, read_job}
-use Rattle.text_endings.specs.declared.TextRefusal.{TextRefusal}
-use Rattle.text_reader.specs.declared.judging.Judged.{Judged}
-use Rattle.text_reader.specs.declared.judging.Judged.TheVariants.{Fault}
+use Rattle.text_reader.specs.declared.judging.Fault.{Fault}
 use Rattle.text_reader.specs.Judging.{place_of, Judges}
 use Rattle.tokens.proofs.NextLaws.{from-within}
 
@@ -39,7 +38,7 @@ module _ (text out : List ℕ) {out' : List ℕ} {code units name len first seco
 
 -- ---- the fault
 
-pub fault-within : {text : List ℕ} {r : Judged} → Judges text r → {f : TextRefusal} {at : ℕ} → r ≡ Fault f at → at ≤ length text
-fault-within {text} h e = subst (λ (z : Judged). place_of z ≤ length text) e h.inside
+pub fault-within : {text : List ℕ} {r : Result (Unit {0}) Fault} → Judges text r → {f : Fault} → r ≡ Err f → f.at ≤ length text
+fault-within {text} h e = subst (λ (z : Result (Unit {0}) Fault). place_of z ≤ length text) e h.inside
 
 pub ruleset text_laws = (front_long, image-within, image-long, fault-within, from-within)

@@ -4,7 +4,6 @@ ghost use Rattle.std.specs.Prelude.{◌≤◌, length};
 use crate::positions;
 use std::io;
 use text_reader::judging;
-use text_reader::judging::Judged;
 use tokens::runs;
 
 fn say(error: &impl Print, text: &str) -> io::Result<()> {
@@ -33,9 +32,8 @@ fn say_place(error: &impl Print, text: &[u8], end: usize) -> io::Result<()>
 // Only 26 and 27 have a place: a text with another code is judged to be fine.
 pub fn print(error: &impl Print, text: &[u8], code: u32) -> io::Result<()> {
     say_code(error, code)?;
-    match judging::judge(text) {
-        Judged::Fine => {}
-        Judged::Fault(_, at) => say_place(error, text, at + runs::skip(&text[at..]))?,
+    if let Err(fault) = judging::judge(text) {
+        say_place(error, text, fault.at + runs::skip(&text[fault.at..]))?;
     }
     say(error, "\n")
 }

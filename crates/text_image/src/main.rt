@@ -18,17 +18,15 @@ const INPUT: usize = MOST_TEXT + 1;
 
 fn write_image(rt: HostRuntime, text: &[u8], out: &mut [u8]) -> io::Result<()> {
     let answer = text_jobs::meirhuppa_read(text, out);
-    let length = answer.length as usize;
     if answer.code == 0 {
-        rt.write_all(&out[..length])
+        rt.write_all(&out[..answer.length as usize])
     } else {
         faults::print(&rt.stderr(), text, answer.code)
     }
 }
 
 fn refuse_long(error: &impl Print) -> io::Result<()> {
-    let refusal = Refusal::OverLimit;
-    faults::print_long(error, refusal.code())
+    faults::print_long(error, Refusal::OverLimit.code())
 }
 
 // Zeros for a text; main has to know how many, and nothing else of them.

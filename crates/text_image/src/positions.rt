@@ -16,17 +16,14 @@ const CR: u8 = 13;
 fn ends_line(b: u8, next: u8) -> bool
     ensures { result ≡ ends_line b next }
 {
-    if b == CR {
-        return next != LF;
-    }
-    b == LF
+    if b == CR { next != LF } else { b == LF }
 }
 
 // Byte i, or 0 past the end.
 fn byte_at(s: &[u8], i: usize) -> u8
     ensures { result ≡ get_or s.now i 0 }
 {
-    if i < s.len() { s[i] } else { 0 }
+    s.get(i).copied().unwrap_or(0)
 }
 
 // The place past these bytes, which are the front of a text.
@@ -35,15 +32,12 @@ pub fn past(front: &[u8]) -> Place
 {
     let mut line = 1;
     let mut column = 1;
-    let mut i = 0;
-    while i < front.len() {
-        if ends_line(front[i], byte_at(front, i + 1)) {
+    for (i, &b) in front.iter().enumerate() {
+        if ends_line(b, byte_at(front, i + 1)) {
             line += 1;
             column = 1;
-            i += 1;
         } else {
             column += 1;
-            i += 1;
         }
     }
     Place { line, column }

@@ -23,8 +23,8 @@ slice_bounds-skip-end c = search (text_laws, rules)
 pub skip-requires : goal.skip-requires
 skip-requires c = search (text_laws, rules)
 
-pub overflow_add-at : goal.overflow_add-at
-overflow_add-at c = search (text_laws, rules)
+pub overflow_add-fault : goal.overflow_add-fault
+overflow_add-fault c = search (text_laws, rules)
 
 pub say_place-requires : goal.say_place-requires
 say_place-requires c = search (text_laws, rules)

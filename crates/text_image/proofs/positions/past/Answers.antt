@@ -1,12 +1,14 @@
-use Rattle.std.proofs.Common.{rules}
-use Rattle.text_image.proofs.PlaceLaws.{place_laws}
+use Rattle.text_image.proofs.PlaceLaws.{count_line, count_column, counted}
 use Rattle.text_image.proofs.positions.past.Goals as goal
-
-pub loop-i-preserved-then-ends_line : goal.loop-i-preserved-then-ends_line
-loop-i-preserved-then-ends_line c = search (place_laws, rules)
+use Rattle.text_image.proofs.positions.past.Goals.{then-ends_line, else-ends_line}
 
 pub loop-i-preserved : goal.loop-i-preserved
-loop-i-preserved c = search (place_laws, rules)
+loop-i-preserved c =
+    let so_far = c.loop-i.invariant in
+    elim c.if-ends_line.branch [
+      | then-ends_line w ↦ rw (w.line-is, w.column-is) (count_line so_far c.loop-i-test.true c.byte_at.ensures c.ends_line.ensures w.if-ends_line.true)
+      | else-ends_line w ↦ rw (w.line-is, w.column-is) (count_column so_far c.loop-i-test.true c.byte_at.ensures c.ends_line.ensures w.if-ends_line.false)
+    ]
 
 pub returns : goal.returns
-returns c = search (place_laws, rules)
+returns c = counted c.loop-i.invariant c.loop-i-test.false
