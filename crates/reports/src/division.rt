@@ -51,13 +51,10 @@ impl Reading {
         if b == 0 {
             return Reading::Cut;
         }
-        if left == 0 {
-            if 15 < b {
-                return Reading::Cut;
-            }
-            return Reading::image(sum + b as u32 * weight);
+        if left == 0 && 15 < b {
+            return Reading::Cut;
         }
-        if b < 128 {
+        if left == 0 || b < 128 {
             return Reading::image(sum + b as u32 * weight);
         }
         Reading::Length(left - 1, weight * 128, sum + (b - 128) as u32 * weight)
@@ -84,12 +81,6 @@ impl Reading {
     pub fn between(self) -> bool
         ensures { result ≡ is_between self }
     {
-        match self {
-            Reading::Between => true,
-            Reading::Length(_, _, _) => false,
-            Reading::Image(_, _) => false,
-            Reading::Passing(_) => false,
-            Reading::Cut => false,
-        }
+        matches!(self, Reading::Between)
     }
 }

@@ -54,15 +54,11 @@ fn put_mean(out: &mut [u8], at: usize, sums: Sums) -> usize
     ensures bytes { Placed out.old at (mean_line sums.images sums.units) out.new result }
     ensures few { result ≤ at + longest_line }
 {
-    let units = sums.units;
-    let images = sums.images;
-    if images == 0 {
+    if sums.images == 0 {
         return text::put_text(out, at, b"mean none\n");
     }
-    let quotient = units / images;
-    let remainder = units % images;
-    let second = put_number(out, at, b"mean ", quotient);
-    let end = put_number(out, second, b" ", remainder);
+    let second = put_number(out, at, b"mean ", sums.units / sums.images);
+    let end = put_number(out, second, b" ", sums.units % sums.images);
     text::put_text(out, end, b"\n")
 }
 
@@ -73,10 +69,8 @@ fn put_codes(out: &mut [u8], counts: &[u64]) -> usize
     ensures few { result ≤ codes * longest_line }
 {
     let mut to = 0;
-    let mut i = 0;
-    while i < CODES {
+    for i in 0..CODES {
         to = put_code(out, to, i, counts[i]);
-        i += 1;
     }
     to
 }

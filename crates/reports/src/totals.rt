@@ -14,15 +14,6 @@ pub struct Sums {
     pub images: u64,
 }
 
-fn capped_sum(a: u64, b: u64) -> u64
-    ensures { result ≡ capped (a + b) }
-{
-    if u64::MAX - a < b {
-        return u64::MAX;
-    }
-    a + b
-}
-
 impl Sums {
     // Takes one answer more into the totals.
     pub fn count(self, counts: &mut [u64], code: u32, units: u32) -> Sums
@@ -30,10 +21,10 @@ impl Sums {
         ensures { totals_of result counts.new ≡ counted (record { code = code; units = units }) (totals_of self counts.old) }
     {
         let i = code as usize;
-        counts[i] = capped_sum(counts[i], 1);
+        counts[i] = counts[i].saturating_add(1);
         Sums {
-            units: capped_sum(self.units, units as u64),
-            images: capped_sum(self.images, 1),
+            units: self.units.saturating_add(units as u64),
+            images: self.images.saturating_add(1),
         }
     }
 
@@ -42,8 +33,6 @@ impl Sums {
         requires { codes ≤ length counts.old }
         ensures { totals_of result counts.new ≡ counted too_long_line (totals_of self counts.old) }
     {
-        let refusal = Refusal::OverLimit;
-        let code = refusal.code();
-        self.count(counts, code, 0)
+        self.count(counts, Refusal::OverLimit.code(), 0)
     }
 }

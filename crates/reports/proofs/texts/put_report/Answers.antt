@@ -1,4 +1,4 @@
-use Rattle.std.proofs.Common.{rules, ◌-◌}
+use Rattle.std.proofs.Common.{rules}
 use Rattle.reports.proofs.texts.put_report.Goals as goal
 use Rattle.reports.proofs.Lines.{line_laws}
 

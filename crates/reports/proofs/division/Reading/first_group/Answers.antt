@@ -1,4 +1,4 @@
-use Rattle.std.proofs.Common.{rules, ◌-◌}
+use Rattle.std.proofs.Common.{rules}
 use Rattle.reports.proofs.division.Reading.first_group.Goals as goal
 use Rattle.reports.proofs.Dividing.{dividing_laws}
 
