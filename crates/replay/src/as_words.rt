@@ -12,33 +12,16 @@ use meirhuppa::{panel, uses_jobs};
 // The most words that an output or an input has.
 pub const MOST_WORDS: usize = MOST_BYTES / 4;
 
-fn panel_with(image: &[u8], lent: &mut [u32], output: &mut [u8]) -> Answer
-    requires { length lent.old ≡ length output.old / 4 }
-    ensures { record { answer = answer_is result; output = output.new; table = [] } ≡ panel_bytes image.now (length output.old) }
-{
-    buffers::fill_words(lent, buffers::BYTES);
-    buffers::fill_bytes(output);
-    let a = panel::meirhuppa_panel(image, lent);
-    words::put_words(output, 0, lent);
-    a
-}
-
+// The two differ in the job alone, but it writes into what it is lent: a closure would need both contracts again, and is no plainer.
 pub fn panel(image: &[u8], output: &mut [u8]) -> Answer
     requires { length output.old ≤ 70000 }
     ensures { record { answer = answer_is result; output = output.new; table = [] } ≡ panel_bytes image.now (length output.old) }
 {
-    let mut lent = [0u32; MOST_WORDS];
-    let count = output.len() / 4;
-    panel_with(image, &mut lent[0..count], output)
-}
-
-fn summary_with(image: &[u8], lent: &mut [u32], output: &mut [u8]) -> Answer
-    requires { length lent.old ≡ length output.old / 4 }
-    ensures { record { answer = answer_is result; output = output.new; table = [] } ≡ summary_bytes image.now (length output.old) }
-{
+    let mut room = [0u32; MOST_WORDS];
+    let lent = &mut room[..output.len() / 4];
     buffers::fill_words(lent, buffers::BYTES);
     buffers::fill_bytes(output);
-    let a = uses_jobs::meirhuppa_summary(image, lent);
+    let a = panel::meirhuppa_panel(image, lent);
     words::put_words(output, 0, lent);
     a
 }
@@ -47,7 +30,11 @@ pub fn summary(image: &[u8], output: &mut [u8]) -> Answer
     requires { length output.old ≤ 70000 }
     ensures { record { answer = answer_is result; output = output.new; table = [] } ≡ summary_bytes image.now (length output.old) }
 {
-    let mut lent = [0u32; MOST_WORDS];
-    let count = output.len() / 4;
-    summary_with(image, &mut lent[0..count], output)
+    let mut room = [0u32; MOST_WORDS];
+    let lent = &mut room[..output.len() / 4];
+    buffers::fill_words(lent, buffers::BYTES);
+    buffers::fill_bytes(output);
+    let a = uses_jobs::meirhuppa_summary(image, lent);
+    words::put_words(output, 0, lent);
+    a
 }

@@ -15,9 +15,9 @@ ghost use Rattle.text.specs.Placing.{Placed};
 ghost use Rattle.replay.specs.Page.{last_start};
 
 use crate::answer::Call;
-use crate::inputs::{BEHIND, Inputs};
+use crate::inputs::BEHIND;
 use crate::page::{MOST_BYTES, PAGE};
-use crate::stream::{Input, Number, Place};
+use crate::stream::{Cut, Input};
 use std::io;
 use std::io::Stdin;
 
@@ -82,27 +82,17 @@ fn exact(
 ) -> Run
     requires { (run.count ≤ last_start) × (length output.old ≤ 70000) × (length behind.old ≡ 140000) }
 {
-    let input = run.input;
-    let count = run.count;
-    match inputs::read_inputs(call.job, input, stdin, room, image, behind) {
-        Inputs::Read(split, length, past) => {
-            let asked = Call {
-                job: call.job,
-                phase: call.phase,
-                budget: call.budget,
-                words: call.words,
-                output: call.output,
-                image: call.image,
-                split,
-            };
-            let end = put_call(asked, length, image, behind, table, output, page, count);
+    match inputs::read_inputs(call.job, run.input, stdin, room, image, behind) {
+        Ok((split, length, past)) => {
+            let asked = Call { split, ..call };
+            let end = put_call(asked, length, image, behind, table, output, page, run.count);
             Run {
                 input: past,
                 count: end,
                 ongoing: true,
             }
         }
-        Inputs::Cut => cut(input, count, page),
+        Err(Cut) => cut(run.input, run.count, page),
     }
 }
 
@@ -128,20 +118,42 @@ fn sized(
         || output.len() < bytes
         || image.len() < length
     {
-        let input = run.input;
-        return cut(input, run.count, page);
+        return cut(run.input, run.count, page);
     }
     exact(
         call,
         run,
         stdin,
         room,
-        &mut image[0..length],
+        &mut image[..length],
         behind,
-        &mut table[0..words],
-        &mut output[0..bytes],
+        &mut table[..words],
+        &mut output[..bytes],
         page,
     )
+}
+
+// The head of the next call, with the input behind it, or none where the stream ends.
+fn head(
+    input: Input,
+    stdin: Stdin,
+    room: &mut [u8; Input::ROOM],
+) -> Result<Option<(Call, Input)>, Cut> {
+    let Some((job, past)) = input.number(stdin, room)? else {
+        return Ok(None);
+    };
+    let (rest, start) = past.numbers(stdin, room)?;
+    let [phase, budget, words, output, image] = rest;
+    let call = Call {
+        job,
+        phase,
+        budget,
+        words,
+        output,
+        image,
+        split: 0,
+    };
+    Ok(Some((call, start)))
 }
 
 // The next call, or the end.
@@ -157,39 +169,24 @@ fn next(
 ) -> io::Result<Run>
     requires { length behind.old ≡ 140000 }
 {
-    let input = run.input;
     page::write_full(&rt, page, run.count)?;
     let count = page::next_start(run.count);
     let stdin = rt.stdin();
-    let mut head = [0u32; 5];
-    let there = match input.number(stdin, room) {
-        Number::Read(job, past) => match past.numbers(stdin, room, &mut head) {
-            Place::At(start) => {
-                let call = Call {
-                    job,
-                    phase: head[0],
-                    budget: head[1],
-                    words: head[2],
-                    output: head[3],
-                    image: head[4],
-                    split: 0,
-                };
-                let here = Run {
-                    input: start,
-                    count,
-                    ongoing: true,
-                };
-                sized(call, here, stdin, room, image, behind, table, output, page)
-            }
-            Place::Cut => cut(input, count, page),
-        },
-        Number::End => ended(input, count),
-        Number::Cut => cut(input, count, page),
-    };
-    Ok(there)
+    Ok(match head(run.input, stdin, room) {
+        Ok(Some((call, start))) => {
+            let here = Run {
+                input: start,
+                count,
+                ongoing: true,
+            };
+            sized(call, here, stdin, room, image, behind, table, output, page)
+        }
+        Ok(None) => ended(run.input, count),
+        Err(Cut) => cut(run.input, count, page),
+    })
 }
 
-// A proved loop has to end, and nothing says that the input does: the calls are counted down from a number that no run uses up.
+// A proved loop has to end, and nothing says that the input does: the calls are counted to a number that no run comes to.
 fn answer_all(
     rt: HostRuntime,
     room: &mut [u8; Input::ROOM],
@@ -206,10 +203,11 @@ fn answer_all(
         count: 0,
         ongoing: true,
     };
-    let mut turns = u64::MAX;
-    while turns > 0 && run.ongoing {
+    for _ in 0..u64::MAX {
         run = next(rt, run, room, image, behind, table, output, page)?;
-        turns -= 1;
+        if !run.ongoing {
+            break;
+        }
     }
     page::write_front(&rt, page, run.count)
 }

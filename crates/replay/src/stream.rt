@@ -11,54 +11,28 @@ pub struct Input {
     pub end: usize,
 }
 
+// The stream breaks the format.
 #[derive(Clone, Copy)]
-pub enum Byte {
-    Read(u8, Input),
-    End,
-}
+pub struct Cut;
 
-// A number of the stream. `End` is for an input that ends before its first byte, `Cut` for one that breaks the format.
-#[derive(Clone, Copy)]
-pub enum Number {
-    Read(u32, Input),
-    End,
-    Cut,
-}
-
-#[derive(Clone, Copy)]
-pub enum Place {
-    At(Input),
-    Cut,
-}
-
-// The length of an input whose bytes are read too.
-#[derive(Clone, Copy)]
-pub enum Length {
-    Read(usize, Input),
-    Cut,
-}
-
-fn wide(b: u8) -> u64
-    ensures { result ≡ b }
-{
-    b as u64
-}
+// What was read, with the input past it.
+pub type Taken<T> = Result<(T, Input), Cut>;
 
 // What a number's groups come to.
-fn whole(value: u64, past: Input) -> Number
+fn whole(value: u64, past: Input) -> Taken<u32>
     ensures { result ≡ whole_of value past }
 {
     if 4294967295 < value {
-        return Number::Cut;
+        return Err(Cut);
     }
-    Number::Read(value as u32, past)
+    Ok((value as u32, past))
 }
 
 impl Input {
     pub const ROOM: usize = 65536;
 
     // A number has at most five groups of seven bits.
-    const BITS: u32 = 35;
+    const GROUPS: u32 = 5;
 
     pub fn start() -> Input
         ensures { (result.at ≡ 0) × (result.end ≡ 0) }
@@ -66,97 +40,81 @@ impl Input {
         Input { at: 0, end: 0 }
     }
 
-    pub fn byte(self, mut stdin: Stdin, room: &mut [u8; Input::ROOM]) -> Byte {
-        let at = self.at;
-        let end = self.end;
+    pub fn byte(self, mut stdin: Stdin, room: &mut [u8; Input::ROOM]) -> Option<(u8, Input)> {
+        let Input { at, end } = self;
         if at < end && at < Input::ROOM {
-            return Byte::Read(room[at], Input { at: at + 1, end });
+            return Some((room[at], Input { at: at + 1, end }));
         }
         let read = stdin.read(room).unwrap_or(0);
         if read == 0 {
-            return Byte::End;
+            return None;
         }
-        Byte::Read(room[0], Input { at: 1, end: read })
+        Some((room[0], Input { at: 1, end: read }))
     }
 
-    pub fn number(self, stdin: Stdin, room: &mut [u8; Input::ROOM]) -> Number {
+    // The next number, or none where the input ends before its first byte.
+    pub fn number(
+        self,
+        stdin: Stdin,
+        room: &mut [u8; Input::ROOM],
+    ) -> Result<Option<(u32, Input)>, Cut> {
         let mut here = self;
         let mut value: u64 = 0;
-        let mut shift: u32 = 0;
-        while shift < Input::BITS {
-            match here.byte(stdin, room) {
-                Byte::Read(b, past) => {
-                    value = value | wide(b & 127) << shift;
-                    if b < 128 {
-                        return whole(value, past);
-                    }
-                    here = past;
-                }
-                Byte::End => {
-                    if shift == 0 {
-                        return Number::End;
-                    }
-                    return Number::Cut;
-                }
+        for group in 0..Input::GROUPS {
+            let Some((b, past)) = here.byte(stdin, room) else {
+                return if group == 0 { Ok(None) } else { Err(Cut) };
+            };
+            value |= ((b & 127) as u64) << (7 * group);
+            if b < 128 {
+                return Ok(Some(whole(value, past)?));
             }
-            shift += 7;
+            here = past;
         }
-        Number::Cut
+        Err(Cut)
     }
 
-    pub fn numbers(self, stdin: Stdin, room: &mut [u8; Input::ROOM], into: &mut [u32; 5]) -> Place {
+    // A number where the stream may not end.
+    fn due(self, stdin: Stdin, room: &mut [u8; Input::ROOM]) -> Taken<u32> {
+        self.number(stdin, room)?.ok_or(Cut)
+    }
+
+    pub fn numbers(self, stdin: Stdin, room: &mut [u8; Input::ROOM]) -> Taken<[u32; 5]> {
         let mut here = self;
-        let mut i = 0;
-        while i < 5 {
-            match here.number(stdin, room) {
-                Number::Read(n, past) => {
-                    into[i] = n;
-                    here = past;
-                }
-                Number::End | Number::Cut => {
-                    return Place::Cut;
-                }
-            }
-            i += 1;
+        let mut into = [0u32; 5];
+        for i in 0..5 {
+            let (n, past) = here.due(stdin, room)?;
+            into[i] = n;
+            here = past;
         }
-        Place::At(here)
+        Ok((into, here))
     }
 
     // The next bytes, as many as `into` has.
-    pub fn fill(self, stdin: Stdin, room: &mut [u8; Input::ROOM], into: &mut [u8]) -> Place {
+    pub fn fill(
+        self,
+        stdin: Stdin,
+        room: &mut [u8; Input::ROOM],
+        into: &mut [u8],
+    ) -> Result<Input, Cut> {
         let mut here = self;
-        let mut i = 0;
-        while i < into.len() {
-            match here.byte(stdin, room) {
-                Byte::Read(b, past) => {
-                    into[i] = b;
-                    here = past;
-                }
-                Byte::End => {
-                    return Place::Cut;
-                }
-            }
-            i += 1;
+        for i in 0..into.len() {
+            let (b, past) = here.byte(stdin, room).ok_or(Cut)?;
+            into[i] = b;
+            here = past;
         }
-        Place::At(here)
+        Ok(here)
     }
 
     // A length and so many bytes, into the front of `into`.
-    pub fn bytes(self, stdin: Stdin, room: &mut [u8; Input::ROOM], into: &mut [u8]) -> Length
+    pub fn bytes(self, stdin: Stdin, room: &mut [u8; Input::ROOM], into: &mut [u8]) -> Taken<usize>
         ensures { Within (length into.old) result }
     {
-        match self.number(stdin, room) {
-            Number::Read(number, past) => {
-                let length = number as usize;
-                if into.len() < length {
-                    return Length::Cut;
-                }
-                match past.fill(stdin, room, &mut into[0..length]) {
-                    Place::At(behind) => Length::Read(length, behind),
-                    Place::Cut => Length::Cut,
-                }
-            }
-            Number::End | Number::Cut => Length::Cut,
+        let (number, past) = self.due(stdin, room)?;
+        let length = number as usize;
+        if into.len() < length {
+            return Err(Cut);
         }
+        let behind = past.fill(stdin, room, &mut into[..length])?;
+        Ok((length, behind))
     }
 }

@@ -13,23 +13,6 @@ use answer_line::{buffers, words};
 use meirhuppa::answers::Answer;
 use meirhuppa::uses_jobs;
 
-fn ask_with(
-    call: Call,
-    image: &[u8],
-    summary: &[u8],
-    lent: &mut [u32],
-    table: &[u32],
-    page: &mut [u8],
-    at: usize,
-) -> usize
-    requires { (length lent.old ≡ length summary.now / 4) × (at + 91 ≤ length page.old) }
-    ensures { Placed page.old at (uses_line image.now summary.now call.phase call.budget table.now) page.new result }
-{
-    words::take_words(summary, lent);
-    let a = uses_jobs::meirhuppa_uses(image, lent, call.phase);
-    answer_line::put_told(page, at, a.code, a.count, a.first, call.budget, table)
-}
-
 // Puts the line of a question on the page, and gives the place past it.
 pub fn ask(
     call: Call,
@@ -42,9 +25,11 @@ pub fn ask(
     requires { (length summary.now ≤ 70000) × (at + 91 ≤ length page.old) }
     ensures { Placed page.old at (uses_line image.now summary.now call.phase call.budget table.now) page.new result }
 {
-    let mut lent = [0u32; MOST_WORDS];
-    let count = summary.len() / 4;
-    ask_with(call, image, summary, &mut lent[0..count], table, page, at)
+    let mut room = [0u32; MOST_WORDS];
+    let lent = &mut room[..summary.len() / 4];
+    words::take_words(summary, lent);
+    let a = uses_jobs::meirhuppa_uses(image, lent, call.phase);
+    answer_line::put_told(page, at, a.code, a.count, a.first, call.budget, table)
 }
 
 // The replacement with buffers that are filled first: the summary's words from its bytes, the output with one value.
@@ -64,32 +49,6 @@ fn replaced(
     uses_jobs::meirhuppa_replace(image, place, part, lent, output)
 }
 
-fn replace_with(
-    call: Call,
-    image: &[u8],
-    behind: &[u8],
-    lent: &mut [u32],
-    table: &[u32],
-    output: &mut [u8],
-    page: &mut [u8],
-    at: usize,
-) -> usize
-    requires lent { (call.split ≤ length behind.now) × (length lent.old ≡ call.split / 4) }
-    requires room { at + length output.old * 2 + call.split * 2 + 91 ≤ length page.old }
-    ensures { Placed page.old at (replace_call image.now (take call.split behind.now) (drop call.split behind.now) call.phase call.budget table.now (length output.old)) page.new result }
-{
-    let split = call.split;
-    let a = replaced(
-        call.phase,
-        image,
-        &behind[..split],
-        &behind[split..],
-        lent,
-        output,
-    );
-    answer_line::put_replaced(page, at, numbers(a), call.budget, table, output, lent)
-}
-
 // Puts the line of a replacement on the page, and gives the place past it. `behind` has the summary and the part.
 pub fn replace(
     call: Call,
@@ -104,16 +63,16 @@ pub fn replace(
     requires room { at + length output.old * 2 + call.split * 2 + 91 ≤ length page.old }
     ensures { Placed page.old at (replace_call image.now (take call.split behind.now) (drop call.split behind.now) call.phase call.budget table.now (length output.old)) page.new result }
 {
-    let mut lent = [0u32; MOST_WORDS];
-    let count = call.split / 4;
-    replace_with(
-        call,
+    let mut room = [0u32; MOST_WORDS];
+    let lent = &mut room[..call.split / 4];
+    let split = call.split;
+    let a = replaced(
+        call.phase,
         image,
-        behind,
-        &mut lent[0..count],
-        table,
+        &behind[..split],
+        &behind[split..],
+        lent,
         output,
-        page,
-        at,
-    )
+    );
+    answer_line::put_replaced(page, at, numbers(a), call.budget, table, output, lent)
 }

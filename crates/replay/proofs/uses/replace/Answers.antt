@@ -2,7 +2,7 @@ use Rattle.replay.proofs.Parts.{front_long, front-words}
 use Rattle.answer_line.proofs.Calls.{replace_placed}
 use Rattle.numbers.proofs.Reading.{part-from}
 use Rattle.std.proofs.Common.{rules}
-use Rattle.replay.proofs.uses.replace_with.Goals as goal
+use Rattle.replay.proofs.uses.replace.Goals as goal
 
 pub slice_bounds-replaced-end : goal.slice_bounds-replaced-end
 slice_bounds-replaced-end c = search (front_long, rules)
