@@ -47,9 +47,8 @@ fn expanded(image: &[u8], table: &mut [u32], out: &mut [u8], tree: &mut [u8]) ->
     ensures { line_is result ≡ program image.now }
 {
     let e = expansion::meirhuppa_expand(image, 0, BUDGET, table, out);
-    let length = e.length as usize;
     if e.code == 0 {
-        parsed(&out[..length], e.units, table, tree)
+        parsed(&out[..e.length as usize], e.units, table, tree)
     } else {
         Line {
             code: e.code,

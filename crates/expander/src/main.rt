@@ -16,10 +16,8 @@ const INPUT: usize = meirhuppa::limits::MOST_IMAGE + 1;
 fn print(rt: HostRuntime, image: &[u8]) -> io::Result<()> {
     let mut text = [0u8; line::MOST_BYTES];
     let shown = line::print(image, &mut text);
-    let n = shown.length;
-    rt.write_all(&text[0..n])?;
-    let ambiguous = Refusal::Ambiguous;
-    if shown.code == ambiguous.code() {
+    rt.write_all(&text[..shown.length])?;
+    if shown.code == Refusal::Ambiguous.code() {
         return competing::print(&rt.stderr(), image);
     }
     Ok(())
@@ -28,5 +26,5 @@ fn print(rt: HostRuntime, image: &[u8]) -> io::Result<()> {
 fn main(rt: HostRuntime) -> io::Result<()> {
     let mut image = [0u8; INPUT];
     let n = input::read_full(&mut rt.stdin(), &mut image);
-    print(rt, &image[0..n])
+    print(rt, &image[..n])
 }

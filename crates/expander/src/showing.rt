@@ -20,37 +20,27 @@ fn say_number(error: &impl Print, n: u32) -> io::Result<()> {
 
 // Where the first word has its length: behind the kind and the count of words, which takes two groups from 128 on.
 fn first_word(image: &[u8]) -> usize {
-    if image.len() < 2 {
-        return 0;
+    match image.get(1) {
+        None => 0,
+        Some(&count) => if count < 128 { 2 } else { 3 },
     }
-    if image[1] < 128 { 2 } else { 3 }
-}
-
-fn wide(b: u8) -> usize {
-    b as usize
 }
 
 // The place past the word that has its length at `at`; the image's end where no whole word is there.
 fn past_word(image: &[u8], at: usize) -> usize
     ensures { result ≤ length image.now }
 {
-    if image.len() <= at {
-        return image.len();
+    match image.get(at) {
+        None => image.len(),
+        Some(&length) => image.len().min(at + 1 + usize::from(length)),
     }
-    let length = wide(image[at]);
-    if image.len() - at <= length {
-        return image.len();
-    }
-    at + 1 + length
 }
 
 // Where word i, counted from 0, has its length.
 fn word_place(image: &[u8], i: u32) -> usize {
     let mut at = first_word(image);
-    let mut left = i;
-    while 0 < left {
+    for _ in 0..i {
         at = past_word(image, at);
-        left -= 1;
     }
     at
 }
@@ -59,21 +49,20 @@ fn print_own_word(error: &impl Print, image: &[u8], i: u32) -> io::Result<()> {
     let at = word_place(image, i);
     let end = past_word(image, at);
     if at < end {
-        let from = at + 1;
-        return say(error, &image[from..end]);
+        say(error, &image[at + 1..end])
+    } else {
+        Ok(())
     }
-    Ok(())
 }
 
 // Symbols are numbered as the core names and the image's words.
 fn print_word(error: &impl Print, image: &[u8], symbol: Symbol) -> io::Result<()> {
-    let n = symbol.0;
-    match n {
+    match symbol.0 {
         0 => say(error, b"lambda"),
         1 => say(error, b"let-syntax"),
         2 => say(error, b"quote"),
         3 => say(error, b"syntax"),
-        _ => print_own_word(error, image, n - Name::CORE),
+        n => print_own_word(error, image, n - Name::CORE),
     }
 }
 
@@ -89,13 +78,11 @@ fn print_scope(error: &impl Print, k: u32, behind: bool) -> io::Result<()> {
 // The members, ascending, with commas between.
 fn print_scopes(error: &impl Print, set: ScopeSet) -> io::Result<()> {
     let mut behind = false;
-    let mut k: u32 = 1;
-    while k <= Scope::MOST {
+    for k in 1..=Scope::MOST {
         if set.has(Scope(k)) {
             print_scope(error, k, behind)?;
             behind = true;
         }
-        k += 1;
     }
     Ok(())
 }
@@ -107,17 +94,13 @@ pub fn print_binding(error: &impl Print, image: &[u8], store: &[u64], place: u32
     requires { store_size ≤ length store.now }
 {
     let i = place as usize;
-    if i == 0 {
-        return Ok(());
-    }
-    if Resolving::MOST < i {
+    if i == 0 || Resolving::MOST < i {
         return Ok(());
     }
     let b = bindings::get(store, i - 1);
-    let set = b.set;
     print_word(error, image, b.symbol)?;
     say(error, b"{")?;
-    print_scopes(error, set)?;
+    print_scopes(error, b.set)?;
     say(error, b"} (binding ")?;
     say_number(error, place)?;
     say(error, b")")
