@@ -8,7 +8,7 @@ ghost use Rattle.scan.specs.Printing.{most_line, Printable};
 use bits::Gathered;
 use numbers::Cursor;
 use scan_lines::listing;
-use scan_runner::preparation::{Preparation, Prepared};
+use scan_runner::preparation::Prepared;
 use scan_runner::{preparation, step};
 use std::io;
 
@@ -30,13 +30,11 @@ fn print_scans(
 {
     let front = Cursor { at: 0 };
     let mut here = first;
-    let mut done = 0;
-    while done < scans {
+    for done in 0..scans {
         let s = front.after(recording, here);
         here = step::scan_once(here, s, code, points, bits);
         let end = scan_lines::put_line(line, 0, done + 1, places, points);
         out.write_all(&line[..end])?;
-        done += 1;
     }
     Ok(())
 }
@@ -54,8 +52,6 @@ fn print_prepared(
     requires stands { Standing recording.now marks.now code.now points.old bits.old p }
     requires room { most_line ≤ length line.old }
 {
-    let words = p.words as usize;
-    let n = p.bits as usize;
     let mut places = [0u16; Gathered::POINTS];
     let driven = listing::list_points(marks, &mut places);
     print_scans(
@@ -63,10 +59,10 @@ fn print_prepared(
         recording,
         p.first,
         p.scans,
-        &code[..words],
+        &code[..p.words as usize],
         &places[..driven],
         points,
-        &mut bits[..n],
+        &mut bits[..p.bits as usize],
         line,
     )
 }
@@ -94,9 +90,7 @@ pub fn print(
     requires room { (most_words ≤ length code.old) × (room ≤ length bits.old) × (values.old ≡ replicate points 0) × (most_line ≤ length line.old) }
 {
     match preparation::prepare(image, recording, marks, names, code, bits) {
-        Preparation::Ready(p) => {
-            print_prepared(&rt, recording, marks, code, values, bits, line, p)
-        }
-        Preparation::Refused(f) => refuse(&rt.stderr(), f.code(), line),
+        Ok(p) => print_prepared(&rt, recording, marks, code, values, bits, line, p),
+        Err(f) => refuse(&rt.stderr(), f.code(), line),
     }
 }
