@@ -11,7 +11,6 @@ use Rattle.model.specs.Jobs.{Line}
 use Rattle.requests.specs.Report.{cut_off, answers_in}
 use Rattle.requests.proofs.Report.{one_answer_at_a_time}
 use Rattle.text.specs.Placing.{Placed}
-use Rattle.reports.specs.declared.division.Reading.{Reading}
 use Rattle.reports.specs.declared.division.Reading.TheVariants.{Between}
 use Rattle.reports.specs.declared.totals.Sums.{Sums}
 use Rattle.reports.specs.Dividing.{Waits, answers_from}

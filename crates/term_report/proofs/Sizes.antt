@@ -14,7 +14,6 @@ use Rattle.numbers.proofs.Tails.{Shrinks, shrinks_got, shrinks_fault, num_shrink
 use Rattle.requests.specs.Report.{cut_off, and_then, first_of, images_of, answers_to, answers_in, units_of, report}
 use Rattle.requests.proofs.Division.{one_image_at_a_time}
 use Rattle.text.specs.Placing.{Placed}
-use Rattle.reports.specs.Totals.{reported}
 use Rattle.reports.proofs.Exact.{Held, report-exact}
 use Rattle.term_report.specs.Taking.{Reports}
 use Rattle.term_report.proofs.Singles.{single-units}

@@ -1,77 +1,41 @@
 -- Bytes of the file taken one after another.
 use mathlib.Core.Path.{◌≡◌, refl, sym, ap, ◌∙◌}
-use Prim.Native.Nat.{ℕ, ◌+◌, ◌-◌, ◌≤◌, ◌<◌}
+use Prim.Native.Nat.{ℕ, ◌+◌, ◌≤◌, ◌<◌}
 use native.Mathlib.Omega.{arith}
 use native.Mathlib.Numerals.{add-one}
 use mathlib.Core.List.{List, [], ◌∷◌, ◌++◌, append_assoc}
 use lib.ListN.{length, get_or, take}
-use lib.Seq.{take-suc, take_all, length-take-le}
-use Rattle.model.specs.Jobs.{Line}
-use Rattle.numbers.specs.Limits.{most_image}
+use lib.Seq.{take-suc, take_all}
 use Rattle.requests.specs.Report.{single}
 use Rattle.reports.specs.declared.division.Reading.{Reading}
-use Rattle.reports.specs.declared.division.Reading.TheVariants.{Between, Length, Image, Passing, Cut}
+use Rattle.reports.specs.declared.division.Reading.TheVariants.{Between, Image, Passing}
 use Rattle.reports.specs.declared.totals.Sums.{Sums}
-use Rattle.reports.specs.Dividing.{too_long_line, Reached, Waits, Divides}
+use Rattle.reports.specs.Dividing.{too_long_line, Waits, Divides}
 use Rattle.reports.specs.Totals.{Totals, totals_of, counted, totals_from}
 use Rattle.reports.proofs.Settling.{image-counted, passed_counted, byte-taken}
 use Rattle.term_report.specs.declared.taking.Taken.{Taken}
 use Rattle.term_report.specs.Taking.{between_with, Room, Settles, Takes}
 
--- ---- one answer counted
-
-pub answer-counted : (t : Totals) {code units : ℕ} {u : Totals} {a : Line} → record { code = code; units = units } ≡ a → u ≡ counted (record { code = code; units = units }) t → u ≡ counted a t
-answer-counted t e h = h ∙ ap (λ (l : Line). counted l t) e
-
 -- ---- an image that is whole
 
 module _ {here : Reading} {room counts counts' : List ℕ} {s s' : Sums} where
-  pub image_settled : {have left : ℕ} {r : Taken} → here ≡ Image have left → left ≡ 0 → totals_of s' counts' ≡ counted (single (take have room)) (totals_of s counts)
-      → r ≡ between_with s' → Settles here room (totals_of s counts) r counts'
-  image_settled {have} {left} e z c q =
-      rw q (record {
+  pub image_settled : {have left : ℕ} → here ≡ Image have left → left ≡ 0 → totals_of s' counts' ≡ counted (single (take have room)) (totals_of s counts)
+      → Settles here room (totals_of s counts) (between_with s') counts'
+  image_settled {have} {left} e z c =
+      record {
         waits = tt;
         is = λ rest. ap (λ (h : Reading). totals_from h room (totals_of s counts) rest) (e ∙ ap (Image have) z) ∙ image-counted have room room (totals_of s counts) rest
             ∙ ap (λ (t : Totals). totals_from Between room t rest) (sym c);
-      })
+      }
 
-  pub passed_settled : {left : ℕ} {r : Taken} → here ≡ Passing left → left ≡ 0 → totals_of s' counts' ≡ counted too_long_line (totals_of s counts)
-      → r ≡ between_with s' → Settles here room (totals_of s counts) r counts'
-  passed_settled {left} e z c q =
-      rw q (record {
+  pub passed_settled : {left : ℕ} → here ≡ Passing left → left ≡ 0 → totals_of s' counts' ≡ counted too_long_line (totals_of s counts)
+      → Settles here room (totals_of s counts) (between_with s') counts'
+  passed_settled {left} e z c =
+      record {
         waits = tt;
         is = λ rest. ap (λ (h : Reading). totals_from h room (totals_of s counts) rest) (e ∙ ap Passing z) ∙ passed_counted room room (totals_of s counts) rest
             ∙ ap (λ (t : Totals). totals_from Between room t rest) (sym c);
-      })
-
--- ---- one that is not
-
-settled_same : {here there : Reading} {room counts : List ℕ} {s : Sums} → here ≡ there → Waits there
-    → Settles here room (totals_of s counts) (record { reading = there; sums = s }) counts
-settled_same {room = room} {counts} {s} e w = record { waits = w; is = λ rest. ap (λ (h : Reading). totals_from h room (totals_of s counts) rest) e }
-
-module _ {here : Reading} (w : Reached here) {room counts : List ℕ} {s : Sums} where
-  pub image-waits : {have left : ℕ} → here ≡ Image have left → (left ≡ 0 → ⊥) → Settles here room (totals_of s counts) (record { reading = Image have left; sums = s }) counts
-  image-waits {have} {left} e h = let k : have + left ≤ most_image = rw e at w in settled_same e (omega arith, k)
-
-  pub passing-waits : {left : ℕ} → here ≡ Passing left → (left ≡ 0 → ⊥) → Settles here room (totals_of s counts) (record { reading = Passing left; sums = s }) counts
-  passing-waits e h = settled_same e (omega arith)
-
-  pub length-waits : {left weight sum : ℕ} → here ≡ Length left weight sum → Settles here room (totals_of s counts) (record { reading = Length left weight sum; sums = s }) counts
-  length-waits e = settled_same e (rw e at w)
-
-pub between_waits : {here : Reading} {room counts : List ℕ} {s : Sums} {r : Taken} → here ≡ Between → r ≡ between_with s → Settles here room (totals_of s counts) r counts
-between_waits e q = rw q (settled_same e tt)
-
-pub cut-waits : {here : Reading} {room counts : List ℕ} {s : Sums} → here ≡ Cut → Settles here room (totals_of s counts) (record { reading = Cut; sums = s }) counts
-cut-waits e = settled_same e tt
-
--- the bytes of a whole image are in the room
-pub image-there : {here : Reading} (room : List ℕ) {have left : ℕ} → Reached here → here ≡ Image have left → most_image ≤ length room → have ≤ length room
-image-there room w e h = let k = rw e at w in omega arith
-
-pub image-long : {here : Reading} (room : List ℕ) {have left : ℕ} → Reached here → here ≡ Image have left → most_image ≤ length room → have ≡ length (take have room)
-image-long room {have} w e h = sym (length-take-le have room (image-there room w e h))
+      }
 
 -- ---- a byte
 
@@ -139,7 +103,5 @@ module _ {bytes room₀ counts₀ table₀ out₀ : List ℕ} {here there : Take
 
   pub midway_ended : length bytes ≤ i → Takes bytes here room₀ counts₀ there room counts
   midway_ended h = rw take_all at w.takes
-
-pub ruleset settle_laws = (answer-counted, image_settled, passed_settled, image-waits, passing-waits, length-waits, between_waits, cut-waits, image-there, image-long)
 
 pub ruleset taking_laws = (byte_settled, midway_begun, midway_waits, midway_lent, midway_more, midway_ended)

@@ -11,13 +11,6 @@ use reports::texts;
 use reports::totals::Sums;
 use std::io::{Read, Stdin};
 
-// Where the program stands, and whether more of the file may come.
-#[derive(Clone, Copy)]
-struct Run {
-    taken: Taken,
-    ongoing: bool,
-}
-
 fn start() -> Taken
     ensures { result ≡ at_start }
 {
@@ -40,34 +33,9 @@ fn cut(sums: Sums) -> Taken
     }
 }
 
-// Reads once, and takes the bytes that came.
-fn read_some(
-    here: Taken,
-    mut stdin: Stdin,
-    chunk: &mut [u8],
-    room: &mut [u8],
-    counts: &mut [u64],
-    table: &mut [u32],
-    out: &mut [u8],
-) -> Run
-    requires { Stands here room.old counts.old × Room room.old counts.old table.old out.old }
-    ensures { Stands result.taken room.new counts.new }
-{
-    match stdin.read(chunk) {
-        Ok(n) => Run {
-            taken: taking::take_bytes(here, &chunk[..n], room, counts, table, out),
-            ongoing: 0 < n,
-        },
-        Err(_) => Run {
-            taken: cut(here.sums),
-            ongoing: false,
-        },
-    }
-}
-
-// A proved loop has to end, and nothing says that the input does: the reads are counted down from a number that no run uses up.
+// A proved loop has to end, and nothing says that the input does: the reads are counted up to a number that no run reaches.
 fn take_file(
-    stdin: Stdin,
+    mut stdin: Stdin,
     chunk: &mut [u8],
     room: &mut [u8],
     counts: &mut [u64],
@@ -77,22 +45,15 @@ fn take_file(
     requires { (counts.old ≡ replicate codes 0) × Room room.old counts.old table.old out.old }
     ensures { Stands result room.new counts.new }
 {
-    let mut run = Run {
-        taken: start(),
-        ongoing: true,
-    };
-    let mut turns = u64::MAX;
-    while turns > 0 && run.ongoing {
-        let taken = run.taken;
-        run = read_some(taken, stdin, chunk, room, counts, table, out);
-        turns -= 1;
+    let mut here = start();
+    for _ in 0..u64::MAX {
+        match stdin.read(chunk) {
+            Ok(0) => return here,
+            Ok(n) => here = taking::take_bytes(here, &chunk[..n], room, counts, table, out),
+            Err(_) => return cut(here.sums),
+        }
     }
-    let taken = run.taken;
-    if run.ongoing {
-        let sums = taken.sums;
-        return cut(sums);
-    }
-    taken
+    cut(here.sums)
 }
 
 // Puts all that is printed of the file on the page, and gives its length.
@@ -111,7 +72,5 @@ pub fn put_report(
     ensures within { result ≤ length page.new }
 {
     let here = take_file(stdin, chunk, room, counts, table, out);
-    let reading = here.reading;
-    let sums = here.sums;
-    texts::put_report(page, reading, sums, counts)
+    texts::put_report(page, here.reading, here.sums, counts)
 }

@@ -4,7 +4,7 @@ ghost use Rattle.requests.specs.Report.{single};
 ghost use Rattle.reports.specs.Dividing.{Reached, Waits};
 ghost use Rattle.reports.specs.Totals.{codes, totals_of, counted};
 ghost use Rattle.term_report.specs.Singles.{Lent};
-ghost use Rattle.term_report.specs.Taking.{between_with, Room, Settles, Takes};
+ghost use Rattle.term_report.specs.Taking.{Room, Settles, Takes};
 
 use crate::single;
 use reports::division::Reading;
@@ -32,15 +32,6 @@ fn count_image(
     sums.count(counts, a.code, a.units)
 }
 
-fn between(sums: Sums) -> Taken
-    ensures { result ≡ between_with sums }
-{
-    Taken {
-        reading: Reading::Between,
-        sums,
-    }
-}
-
 // Counts an image that has become whole.
 fn settle(
     here: Reading,
@@ -54,31 +45,16 @@ fn settle(
     ensures { Settles here room.now (totals_of sums counts.old) result counts.new }
 {
     match here {
-        Reading::Image(have, left) => {
-            if left == 0 {
-                return between(count_image(sums, &room[..have], counts, table, out));
-            }
-            Taken {
-                reading: Reading::Image(have, left),
-                sums,
-            }
-        }
-        Reading::Passing(left) => {
-            if left == 0 {
-                return between(sums.count_too_long(counts));
-            }
-            Taken {
-                reading: Reading::Passing(left),
-                sums,
-            }
-        }
-        Reading::Between => between(sums),
-        Reading::Length(left, weight, sum) => Taken {
-            reading: Reading::Length(left, weight, sum),
-            sums,
+        Reading::Image(have, 0) => Taken {
+            reading: Reading::Between,
+            sums: count_image(sums, &room[..have], counts, table, out),
         },
-        Reading::Cut => Taken {
-            reading: Reading::Cut,
+        Reading::Passing(0) => Taken {
+            reading: Reading::Between,
+            sums: sums.count_too_long(counts),
+        },
+        _ => Taken {
+            reading: here,
             sums,
         },
     }
@@ -95,10 +71,8 @@ fn take_byte(
     requires { Waits here.reading × Room room.old counts.old table.old out.old }
     ensures { Takes (b ∷ []) here room.old counts.old result room.new counts.new }
 {
-    let reading = here.reading;
-    let sums = here.sums;
-    let there = reading.take(b, room);
-    settle(there, sums, room, counts, table, out)
+    let there = here.reading.take(b, room);
+    settle(there, here.sums, room, counts, table, out)
 }
 
 // Takes the bytes that come next.
@@ -114,10 +88,8 @@ pub fn take_bytes(
     ensures { Takes bytes.now here room.old counts.old result room.new counts.new }
 {
     let mut there = here;
-    let mut i = 0;
-    while i < bytes.len() {
-        there = take_byte(there, bytes[i], room, counts, table, out);
-        i += 1;
+    for &b in bytes {
+        there = take_byte(there, b, room, counts, table, out);
     }
     there
 }
