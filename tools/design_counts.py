@@ -56,11 +56,11 @@ def two_ways():
 
 
 def beside_end():
-    """Structs with a value beside an answer of two ways, or beside a flag."""
+    """Structs with a value beside an answer of two ways, in the old form or the library's, or beside a flag."""
     return [
         (path, number, name)
         for path, number, name, body in blocks("struct")
-        if len(body) > 1 and any(re.match(r"\s+(pub )?\w+: (Place|bool),", line) for line in body)
+        if len(body) > 1 and any(re.match(r"\s+(pub )?\w+: (Place|bool|Result<.*>|Option<.*>),", line) for line in body)
     ]
 
 
@@ -147,7 +147,7 @@ COUNTS = [
     ("1 enums of two variants, one of which holds something", two_ways),
     ("1 structs with a value beside an answer or a flag", beside_end),
     ("1 fields and parameters tag, kind or code that are numbers", lambda: matching(r"\b(tag|kind|code): u(8|16|32|64)\b")),
-    ("1 matches that hand a refusal on as it is", lambda: matching(r"(Fault|Refused)\((\w+)\) => (return )?\w*(::)?\w*(::)?(Fault|Refused|fault|refused)\(\2\)")),
+    ("1 matches that hand a refusal on as it is", lambda: matching(r"(Fault|Refused|Err)\((\w+)\) => (return )?(\w+::)*(Fault|Refused|Err|fault|refused)\(\2\)")),
     ("2 functions whose body is another's but for names", twins),
     ("3 while loops", lambda: matching(r"^\s*while ")),
     ("3 while loops whose counter is stepped by hand", stepped),
