@@ -1,50 +1,43 @@
 -- How a set lies in a store: its words, one after another.
-use mathlib.Core.Path.{◌≡◌, sym, ap, ◌∙◌}
-use mathlib.Core.List.{List, ◌++◌}
-use Prim.Native.Nat.{ℕ, ◌+◌, ◌-◌, ◌≤◌, ◌<◌}
+use mathlib.Core.Path.{◌≡◌, refl, sym, ap, ◌∙◌, subst}
+use mathlib.Core.List.{List, [], ◌∷◌}
+use Prim.Native.Nat.{ℕ, zero, suc, ◌+◌, ◌≤◌, ◌<◌}
 use native.Mathlib.Omega.{arith}
-use lib.ListN.{length, get_or, take, drop}
-use borrow.Rule.Slice.PartMut.{put_mid, post_of}
-use Rattle.std.proofs.lemmas.List.{length-take-le, length-drop, get_or_append_left, get_or-append-add, get_or-take, get_or-drop}
+use lib.ListN.{length, get_or}
+use lib.Seq.{sets}
 use Rattle.scopes.specs.Sets.{scopes_of, words_from, set_words}
 use Rattle.scopes.specs.declared.ScopeSet.{ScopeSet}
+use Rattle.scopes.proofs.Stores.{stores_before, stores_after, stores_at}
 use Rattle.scopes.proofs.Words.{words_same}
 use Rattle.store.specs.Words.{SetPut}
 
-pub set_got : (l ws : List ℕ) (a m : ℕ) → ws ≡ take m (drop a l) → m ≡ set_words → words_from 64 set_words ws 0 ≡ words_from 64 set_words l a
-set_got l ws a m e h =
-    ap (λ (x : List ℕ). words_from 64 set_words x 0) e
-    ∙ words_same 64 set_words (take m (drop a l)) l 0 a (λ k g. let z : 0 + k ≡ k = omega arith in rw z (get_or-take m (drop a l) k 0 (omega arith) ∙ get_or-drop a l k 0))
+-- the words of a set, stored one by one
+abbrev pub set_list : ScopeSet → List ℕ
+set_list s = get_or s.words 0 0 ∷ get_or s.words 1 0 ∷ get_or s.words 2 0 ∷ get_or s.words 3 0 ∷ []
 
--- the m words from a on are written
-module _ (l ws : List ℕ) (a m : ℕ) (fits : a + m ≤ length l) (many : length ws ≡ m) where
-  front : length (take a l) ≡ a
-  front = length-take-le a l (omega arith)
+pub listed : (s : ScopeSet) (k : ℕ) → k < set_words → get_or (set_list s) k 0 ≡ get_or s.words (0 + k) 0
+listed s zero g = refl
+listed s (suc zero) g = refl
+listed s (suc (suc zero)) g = refl
+listed s (suc (suc (suc zero))) g = refl
+listed s (suc (suc (suc (suc k)))) g = absurd (omega arith)
 
-  written-before : (k : ℕ) → k < a → get_or (put_mid a m l ws) k 0 ≡ get_or l k 0
-  written-before k h = get_or_append_left (take a l) (ws ++ post_of a m l) 0 k (omega (arith, front)) ∙ get_or-take a l k 0 h
+-- a set whose words are those of the store, from place a on
+pub set_there : (l : List ℕ) (a b c d : ℕ) → b ≡ a + 1 → c ≡ a + 2 → d ≡ a + 3
+    → words_from 64 set_words (get_or l a 0 ∷ get_or l b 0 ∷ get_or l c 0 ∷ get_or l d 0 ∷ []) 0 ≡ words_from 64 set_words l a
+set_there l a b c d p q r = words_same 64 set_words _ l 0 a go
+  where
+    go : (k : ℕ) → k < set_words → get_or (get_or l a 0 ∷ get_or l b 0 ∷ get_or l c 0 ∷ get_or l d 0 ∷ []) (0 + k) 0 ≡ get_or l (a + k) 0
+    go zero g = ap (λ (n : ℕ). get_or l n 0) (let e : a ≡ a + 0 = omega arith in e)
+    go (suc zero) g = ap (λ (n : ℕ). get_or l n 0) p
+    go (suc (suc zero)) g = ap (λ (n : ℕ). get_or l n 0) q
+    go (suc (suc (suc zero))) g = ap (λ (n : ℕ). get_or l n 0) r
+    go (suc (suc (suc (suc k)))) g = absurd (omega arith)
 
-  behind : (k : ℕ) → get_or (put_mid a m l ws) (a + k) 0 ≡ get_or (ws ++ post_of a m l) k 0
-  behind k = ap (λ (n : ℕ). get_or (put_mid a m l ws) (n + k) 0) (sym front) ∙ get_or-append-add (take a l) (ws ++ post_of a m l) k 0
-
-  written-there : (k : ℕ) → k < m → get_or (put_mid a m l ws) (a + k) 0 ≡ get_or ws k 0
-  written-there k h = behind k ∙ get_or_append_left ws (post_of a m l) 0 k (omega arith)
-
-  written-after : (k : ℕ) → a + m ≤ k → get_or (put_mid a m l ws) k 0 ≡ get_or l k 0
-  written-after k h =
-      let j = k - (a + m) in
-      let whole : k ≡ a + (length ws + j) = omega arith in
-      let back : a + (m + j) ≡ k = omega arith in
-      ap (λ (n : ℕ). get_or (put_mid a m l ws) n 0) whole ∙ behind (length ws + j) ∙ get_or-append-add ws (post_of a m l) j 0
-      ∙ get_or-drop m (drop a l) j 0 ∙ get_or-drop a l (m + j) 0 ∙ ap (λ (n : ℕ). get_or l n 0) back
-
-pub set_put : (l : List ℕ) (a m : ℕ) (s : ScopeSet) (ws : List ℕ) → a + set_words ≤ length l → m ≡ set_words → length ws ≡ length (take m (drop a l)) → ws ≡ s.words
-    → SetPut (scopes_of s) l (put_mid a m l ws) a
-set_put l a m s ws fits four long e =
-    let many : length ws ≡ m = omega (arith, length-take-le m (drop a l), length-drop a l) in
-    let room : a + m ≤ length l = omega arith in
-    record {
-      before = written-before l ws a m room many;
-      after = λ k h. written-after l ws a m room many k (omega arith);
-      there = words_same 64 set_words (put_mid a m l ws) s.words a 0 (λ k g. let z : 0 + k ≡ k = omega arith in rw z (written-there l ws a m room many k (omega arith) ∙ ap (λ (x : List ℕ). get_or x k 0) e));
-    }
+pub set_put : (l : List ℕ) (a : ℕ) (s : ScopeSet) {l' : List ℕ} → a + set_words ≤ length l → l' ≡ sets l a (set_list s) → SetPut (scopes_of s) l l' a
+set_put l a s h e =
+    subst (λ (z : List ℕ). SetPut (scopes_of s) l z a) (sym e) (record {
+      before = λ k g. stores_before (set_list s) l a k g;
+      after = λ k g. stores_after (set_list s) l a k g;
+      there = words_same 64 set_words (sets l a (set_list s)) s.words a 0 (λ k g. stores_at (set_list s) l a k h g ∙ listed s k g);
+    })

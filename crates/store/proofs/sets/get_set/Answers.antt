@@ -1,6 +1,6 @@
 use Rattle.store.proofs.sets.get_set.Goals as goal
-use Rattle.store.proofs.Lying.{set_got}
 use native.Mathlib.Omega.{arith}
+use Rattle.store.proofs.Lying.{set_there}
 
 pub returns : goal.returns
-returns c = set_got c.args.store.now _ c.args.at _ c.copy_from_slice.ensures.after (omega arith)
+returns c = set_there _ _ _ _ _ (omega arith) (omega arith) (omega arith)
