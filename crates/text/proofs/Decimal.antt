@@ -99,3 +99,15 @@ pub decimal_room : (room at n : ℕ) → at + 10 ≤ room → at + length (digit
 decimal_room room at n h = let f = few-digits 10 n in omega arith
 
 pub ruleset digit_laws = (no-digits, last-digit, one-room, one-fits, fewer_room, decimal_room, digit_room, digit-fits, next-digit, placed-few, placed_then, placed-length)
+
+-- ---- a number of one digit, which needs no further call
+
+ten : ◌≡◌ {A = ℕ} 10 0 → ⊥
+ten e = omega arith
+
+module _ (out : List ℕ) (at n : ℕ) where
+  pub short-placed : n < 10 → Placed out at (digits 10 n []) (set out at (48 + n)) (at + 1)
+  short-placed = last-digit out at 10 n ten
+
+  pub short-room : n < 10 → at + length (digits 10 n []) ≤ length out → at < length out
+  short-room = one-room out at 10 n ten

@@ -1,13 +1,11 @@
 -- Bytes placed one after another.
-use Prim.Native.Nat.{ℕ, ◌+◌, ◌≤◌}
-use mathlib.Core.Path.{◌≡◌, refl, sym, ap, ◌∙◌, subst}
-use mathlib.Core.List.{List, [], ◌∷◌, ◌++◌, append_assoc}
+use Prim.Native.Nat.{ℕ, suc, ◌+◌, ◌≤◌, ◌<◌}
+use mathlib.Core.Path.{◌≡◌, refl, ap, ◌∙◌, subst}
+use mathlib.Core.List.{List, [], ◌∷◌, ◌++◌}
 use native.Mathlib.Omega.{arith}
 use native.Mathlib.Numerals.{add-one}
-use borrow.Rule.Slice.PartMut.{put_mid}
-use lib.ListN.{length, take, drop, set, length-set, length-append}
-use lib.Seq.{sets, sets-eq, length-sets}
-use Rattle.std.proofs.lemmas.List.{drop-drop}
+use lib.ListN.{length, drop, get_or, set, length-set, length-append, length-drop, drop_of_length-le}
+use lib.Seq.{sets, length-sets, drop-cons}
 use Rattle.numbers.proofs.Writing.{sets_append}
 use Rattle.text.specs.Placing.{Placed}
 
@@ -56,13 +54,28 @@ module _ {out₀ : List ℕ} {at : ℕ} {bytes out : List ℕ} {to : ℕ} where
 
 -- ---- text
 
-pub copied : (out text ys : List ℕ) (at k : ℕ) → at + length text ≤ length out → k ≡ length text → ys ≡ text → Placed out at text (put_mid at k out ys) (at + length text)
-copied out text ys at k h e f =
-    record {
-      ends = refl;
-      is =
-          ap (λ (l : List ℕ). put_mid at k out l) f
-          ∙ ap (λ (r : List ℕ). take at out ++ (text ++ r)) (drop-drop k at out ∙ ap (λ (n : ℕ). drop (at + n) out) e)
-          ∙ sym (append_assoc (take at out) text (drop (at + length text) out))
-          ∙ sym (sets-eq text out at h);
-    }
+-- where the first i of the text's bytes are placed
+pub record Texting (out₀ : List ℕ) (at : ℕ) (text out : List ℕ) (to i : ℕ) : Type 0 where
+  pub within : i ≤ length text
+  pub placing : Placing out₀ at text out to (drop i text)
+
+pub text-begun : {out text : List ℕ} {at : ℕ} → Texting out at text out at 0
+text-begun = record { within = omega arith; placing = begun }
+
+module _ {out₀ : List ℕ} {at : ℕ} {text out : List ℕ} {to i : ℕ} (w : Texting out₀ at text out to i) where
+  pub text-room : at + length text ≤ length out₀ → i < length text → to < length out
+  text-room h l =
+      let s = w.placing.same in let e = simp length-drop at w.placing.ends in
+      omega arith
+
+  pub text-more : i < length text → Texting out₀ at text (set out to (get_or text i 0)) (to + 1) (i + 1)
+  text-more l =
+      record {
+        within = omega arith;
+        placing = rw (add-one i) (one_more (rw (drop-cons text i 0 l) at w.placing));
+      }
+
+  pub text-ended : length text ≤ i → Placed out₀ at text out to
+  text-ended l = ended (rw (drop_of_length-le text l) at w.placing)
+
+pub ruleset text_laws = (text-begun, text-room, text-more, text-ended, placed-length)

@@ -9,14 +9,18 @@ ghost use Rattle.text.specs.Hexadecimal.{hex_digit, hex_of};
 // A number of 32 bits has at most so many digits.
 const MOST_DIGITS: usize = 10;
 
-// Writes a text at a place, and gives the place past it.
+// Writes a text at a place, and gives the place past it. Byte by byte: `copy_from_slice` would ask whoever links the library for `memmove`.
+#[tactic(auto, using(crate::proofs::Placing::text_laws))]
 pub fn put_text(out: &mut [u8], at: usize, text: &[u8]) -> usize
     requires { at + length text.now ≤ length out.old }
     ensures { Placed out.old at text.now out.new result }
 {
-    let past = at + text.len();
-    out[at..past].copy_from_slice(text);
-    past
+    let mut to = at;
+    for byte in text {
+        out[to] = *byte;
+        to += 1;
+    }
+    to
 }
 
 // The digits of a number, `left` at most, where there is room for just these.
@@ -36,11 +40,15 @@ pub fn put_wide(out: &mut [u8], at: usize, left: usize, n: u64) -> usize
     last + 1
 }
 
-// All digits of a number of 32 bits.
+// All digits of a number of 32 bits. Most have one, and those need no further call.
 pub fn put_number(out: &mut [u8], at: usize, n: u32) -> usize
     requires { at + length (digits 10 n []) ≤ length out.old }
     ensures { Placed out.old at (digits 10 n []) out.new result }
 {
+    if n < 10 {
+        out[at] = b'0' + n as u8;
+        return at + 1;
+    }
     put_wide(out, at, MOST_DIGITS, u64::from(n))
 }
 
