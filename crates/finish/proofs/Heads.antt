@@ -1,14 +1,13 @@
 -- Laws of the written head.
-use Prim.Native.Nat.{ℕ, ◌+◌, ◌-◌, ◌≤◌, ◌<◌}
-use mathlib.Core.Path.{◌≡◌, sym, ap, ◌∙◌, subst}
-use mathlib.Core.List.{List, ◌++◌, append_assoc}
+use Prim.Native.Nat.{ℕ, suc, ◌+◌, ◌-◌, ◌≤◌, ◌<◌}
+use mathlib.Core.Path.{◌≡◌, refl, sym, ap, ◌∙◌, subst}
+use mathlib.Core.List.{List, ◌∷◌, ◌++◌, append_assoc}
 use native.Mathlib.Omega.{arith}
+use native.Mathlib.Numerals.{add-one}
 use mir.Syntax.{w64}
 use mir.Val.{Fits}
-use lib.ListN.{length, take, drop, length-append, length-drop}
-use Rattle.std.proofs.lemmas.List.{length-take, drop-drop}
-use borrow.Rule.Slice.PartMut.{put_mid}
-use lib.Seq.{sets, sets-eq, length-sets, take_at, drop_at}
+use lib.ListN.{length, take, drop, get_or, set, length-append, length-set}
+use lib.Seq.{sets, length-sets, drop-cons, take_at, drop_at}
 use Rattle.model.specs.Limits.{core_names}
 use Rattle.model.specs.Writing.{num_bytes, words_bytes, head_bytes}
 use Rattle.codec_laws.proofs.Lengths.{num-one}
@@ -21,17 +20,38 @@ use Rattle.writer.specs.Putting.{Wrote}
 use Rattle.writer.proofs.Putting.{run}
 use Rattle.finish.specs.Headings.{head_after, section, WordsEnd, Longer, HeadLength, Fitting, PutsHead}
 
--- ---- copying
+-- ---- copying: what is still to be copied makes of the output what is to be made of it
 
-pub copied : (image out : List ℕ) {ys : List ℕ} (from to : ℕ) → from ≤ to → to ≤ length image → to ≤ length out → ys ≡ take (to - from) (drop from image)
-    → put_mid from (to - from) out ys ≡ sets out from (take (to - from) (drop from image))
-copied image out from to h i j f =
-    let part : List ℕ = take (to - from) (drop from image) in
-    let long : to - from ≡ length part = omega (arith, length-take (to - from) (drop from image), length-drop from image) in
-    ap (λ (l : List ℕ). put_mid from (to - from) out l) f
-    ∙ ap (λ (r : List ℕ). take from out ++ (part ++ r)) (drop-drop (to - from) from out ∙ ap (λ (n : ℕ). drop (from + n) out) long)
-    ∙ sym (append_assoc (take from out) part (drop (from + length part) out))
-    ∙ sym (sets-eq part out from (omega arith))
+pub record Copied (image out₀ : List ℕ) (from to : ℕ) (out : List ℕ) (i : ℕ) : Type 0 where
+  pub before : i ≤ to
+  pub same : length out ≡ length out₀
+  pub bytes : sets out i (take (to - i) (drop i image)) ≡ sets out₀ from (take (to - from) (drop from image))
+
+pub copy_start : {image out : List ℕ} {from to : ℕ} → from ≤ to → Copied image out from to out from
+copy_start h = record { before = h; same = refl; bytes = refl }
+
+take_next : (image : List ℕ) (i to : ℕ) → i < to → to ≤ length image → take (to - i) (drop i image) ≡ get_or image i 0 ∷ take (to - (i + 1)) (drop (i + 1) image)
+take_next image i to h k =
+    let l : i < length image = omega arith in
+    let d : to - i ≡ suc (to - (i + 1)) = omega arith in
+    rw (d, drop-cons image i 0 l, add-one) refl
+
+module _ {image out₀ : List ℕ} {from to : ℕ} {out : List ℕ} {i : ℕ} (c : Copied image out₀ from to out i) where
+  pub copy_room : i < to → to ≤ length out₀ → i < length out
+  copy_room h k = omega (arith, c.same)
+
+  pub copy_more : i < to → to ≤ length image → Copied image out₀ from to (set out i (get_or image i 0)) (i + 1)
+  copy_more h k =
+      let b : sets (set out i (get_or image i 0)) (suc i) (take (to - (i + 1)) (drop (i + 1) image)) ≡ sets out₀ from (take (to - from) (drop from image)) =
+      subst (λ (l : List ℕ). sets out i l ≡ sets out₀ from (take (to - from) (drop from image))) (take_next image i to h k) c.bytes in
+      record { before = omega arith; same = length-set out i (get_or image i 0) ∙ c.same; bytes = subst (λ (k : ℕ). sets (set out i (get_or image i 0)) k (take (to - (i + 1)) (drop (i + 1) image)) ≡ sets out₀ from (take (to - from) (drop from image))) (sym (add-one i)) b }
+
+  pub copy_done : to ≤ i → out ≡ sets out₀ from (take (to - from) (drop from image))
+  copy_done h =
+      let d : to - i ≡ 0 = omega arith in
+      subst (λ (n : ℕ). sets out i (take n (drop i image)) ≡ sets out₀ from (take (to - from) (drop from image))) d c.bytes
+
+pub ruleset copy_laws = (copy_start, copy_room, copy_more, copy_done)
 
 -- ---- the parts of a head
 

@@ -7,12 +7,15 @@ ghost use Rattle.finish.specs.Headings.{WordsEnd, Longer, HeadLength, Fitting, P
 use head::{Front, Head};
 use steps::State;
 
-// Writes over a part of the output the same part of the image.
+// Writes over a part of the output the same part of the image. Byte by byte: `copy_from_slice` would ask whoever links the library for
+// `memmove`.
 fn copy(out: &mut [u8], image: &[u8], from: usize, to: usize)
     requires { (from ≤ to) × (to ≤ length image.now) × (to ≤ length out.old) }
     ensures { out.new ≡ sets out.old from (take (to - from) (drop from image.now)) }
 {
-    out[from..to].copy_from_slice(&image[from..to]);
+    for i in from..to {
+        out[i] = image[i];
+    }
 }
 
 // Where the word section ends, of an image with the front f: the two counts behind it have a known length.
