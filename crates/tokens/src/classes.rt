@@ -7,7 +7,7 @@ ghost use Rattle.text_laws.specs.Passes.{ending};
 pub fn space(b: u8) -> bool
     ensures { result ≡ space b }
 {
-    matches!(b, b'\t' | b'\n' | b'\r' | b' ')
+    b == b'\t' || b == b'\n' || b == b'\r' || b == b' '
 }
 
 #[tactic(auto, unfolding(requests::specs::Tokens::line_end))]
@@ -22,7 +22,7 @@ pub fn line_end(b: u8) -> bool
 pub fn ending(b: u8) -> bool
     ensures { result ≡ ending b }
 {
-    space(b) || matches!(b, b'(' | b')' | b';')
+    space(b) || b == b'(' || b == b')' || b == b';'
 }
 
 #[tactic(auto, unfolding(requests::specs::Tokens::digit))]
