@@ -15,7 +15,7 @@ pub enum Join {
 
 // What a word is: contacts of points by their join from 0 on, of bits by their join from BIT on. These stay numbers: code is lent as 16 bits
 // a word, of which they are the upper part.
-const BIT: u16 = 3;
+pub const BIT: u16 = 3;
 
 const JOIN: u16 = 5;
 
