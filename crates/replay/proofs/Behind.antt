@@ -7,7 +7,7 @@ use native.Mathlib.Omega.{arith}
 use lib.ListN.{length, take, drop, length-drop, length-append}
 use lib.Seq.{length-take-le}
 use Rattle.std.specs.Prelude.{Result, Ok}
-use Rattle.replay.specs.Stream.{has_more, Behind}
+use Rattle.replay.specs.Stream.{has_more, Both, Behind}
 use Rattle.replay.specs.declared.stream.Input.{Input}
 use Rattle.replay.specs.declared.stream.Cut.{Cut}
 
@@ -35,7 +35,17 @@ behind-one {k = k} h more =
       none = λ less j n q e. more_or_less more less;
     }
 
--- ---- the first input is in the front half of the buffer, and the second has room behind it
+-- ---- two inputs behind the image
+
+pub behind-both : {job k : ℕ} {r : Result (ℕ × ℕ × Input) Cut} → k ≤ 70000 → has_more job ≡ true → job ≡ 10 → Both k r → Behind job r
+behind-both {k = k} l more h b =
+    record {
+      within = λ j n q e. (let y = b.first j n q e in let z = b.within j n q e in (omega arith, omega arith, omega arith));
+      one = λ other j n q e. absurd (other h);
+      none = λ less j n q e. more_or_less more less;
+    }
+
+-- ---- the first input is in the front half of the buffer, which stays as long as it is
 
 pub first_few : {n : ℕ} (l : List ℕ) → length l ≡ 140000 → n ≤ length (take 70000 l) → n ≤ 70000
 first_few l h i = let e = length-take-le 70000 l (omega (arith, h)) in omega arith
@@ -43,8 +53,8 @@ first_few l h i = let e = length-take-le 70000 l (omega (arith, h)) in omega ari
 pub front_half : (l : List ℕ) → length l ≡ 140000 → 70000 ≡ length (take 70000 l)
 front_half l h = sym (length-take-le 70000 l (omega (arith, h)))
 
-pub second_room : {n : ℕ} (l into : List ℕ) → length l ≡ 140000 → length into ≡ length (take 70000 l) → n ≤ length (take 70000 l) → n + 70000 ≤ length (into ++ drop 70000 l)
-second_room l into h i j =
+pub same_room : (l into : List ℕ) → length l ≡ 140000 → length into ≡ length (take 70000 l) → length (into ++ drop 70000 l) ≡ 140000
+same_room l into h i =
     let e = length-take-le 70000 l (omega (arith, h)) in
     let d = length-drop 70000 l in
     rw length-append (omega arith)

@@ -1,5 +1,5 @@
 -- Numbers of the stream, and inputs.
-use Rattle.std.specs.Prelude.{ℕ, ◌≤◌, ◌≡◌, Bool, false, ◌||◌, eqb, ltb, Result, Ok, Err}
+use Rattle.std.specs.Prelude.{ℕ, ◌+◌, ◌≤◌, ◌≡◌, Bool, false, ◌||◌, eqb, ltb, Result, Ok, Err}
 use Rattle.model.specs.Choice.{when◌then◌else◌}
 use Rattle.replay.specs.declared.stream.Input.{Input}
 use Rattle.replay.specs.declared.stream.Cut.{Cut}
@@ -15,6 +15,11 @@ Within most r = (n : ℕ) (past : Input) → r ≡ Ok (n, past) → n ≤ most
 -- what a job has behind the image: jobs 5 and 9 one input, job 10 two, the others none
 abbrev pub has_more : ℕ → Bool
 has_more job = eqb job 5 || eqb job 9 || eqb job 10
+
+-- two inputs, of which the first has k bytes
+pub record Both (k : ℕ) (r : Result (ℕ × ℕ × Input) Cut) : Type 0 where
+  pub first : (j n : ℕ) (past : Input) → r ≡ Ok (j, n, past) → j ≡ k
+  pub within : (j n : ℕ) (past : Input) → r ≡ Ok (j, n, past) → (k ≤ n) × (n ≤ k + 70000)
 
 -- the first input has k bytes, and all have n
 pub record Behind (job : ℕ) (r : Result (ℕ × ℕ × Input) Cut) : Type 0 where

@@ -1,6 +1,6 @@
 // The inputs of a call: the image, and what some jobs have behind it.
-ghost use Rattle.std.specs.Prelude.{◌≡◌, length};
-ghost use Rattle.replay.specs.Stream.{has_more, Behind};
+ghost use Rattle.std.specs.Prelude.{◌≡◌, ◌≤◌, length};
+ghost use Rattle.replay.specs.Stream.{has_more, Both, Behind};
 
 use crate::answer::Call;
 use crate::page::MOST_BYTES;
@@ -18,6 +18,21 @@ fn has_more(job: u32) -> bool
     ensures { result ≡ has_more job }
 {
     job == Call::SCAN || job == Call::USES || job == Call::REPLACE
+}
+
+// The second input, behind so many bytes of the first.
+fn read_both(
+    first: usize,
+    input: Input,
+    stdin: Stdin,
+    room: &mut [u8; Input::ROOM],
+    behind: &mut [u8],
+) -> Inputs
+    requires { (first ≤ 70000) × (length behind.old ≡ 140000) }
+    ensures { Both first result }
+{
+    let (second, past) = input.bytes(stdin, room, &mut behind[first..first + MOST_BYTES])?;
+    Ok((first, first + second, past))
 }
 
 pub fn read_inputs(
@@ -39,6 +54,5 @@ pub fn read_inputs(
     if job != Call::REPLACE {
         return Ok((first, first, next));
     }
-    let (second, past) = next.bytes(stdin, room, &mut behind[first..first + MOST_BYTES])?;
-    Ok((first, first + second, past))
+    read_both(first, next, stdin, room, behind)
 }
