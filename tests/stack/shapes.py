@@ -13,6 +13,9 @@ from texts import ENDLESS, PARTS, large_text
 
 BUDGET = 4096
 NESTING = 64
+# A macro's use in as many functions and lists as make it dear.
+DEEP_USE = ("((lambda x (lambda x (lambda x (((lambda x (lambda x (lambda x (1 ((lambda x ((1 (lambda x ((lambda x (lambda x (lambda x (lambda x (m)"
+            "))))))))))))))))))))")
 WIDE = 4095
 HALF = 2047
 JUDGED = 13000
@@ -44,6 +47,11 @@ def giving(*parts):
 def asking(code):
     """A macro m with this code, used: expanding and evaluating take turns in each other."""
     return syntax(f"(let-syntax m (lambda z {code}) (m))", words=("m", "z", "x"))
+
+
+def functions(count):
+    """Code for the form of a macro's use in so many functions."""
+    return around_form("(syntax lambda)", "(syntax x)", functions(count - 1)) if count else "z"
 
 
 def around_form(*parts):
@@ -88,6 +96,7 @@ def syntax_images():
     yield "a macro that gives itself back in a function", giving("(syntax lambda)", "(syntax x)", "z")
     yield "a macro that gives itself back in a let-syntax", giving("(syntax let-syntax)", "(syntax x)", "(syntax 1)", "z")
     yield "a macro that gives itself back as a right-hand side", giving("(syntax let-syntax)", "(syntax x)", "z", "(syntax 1)")
+    yield "a macro that gives itself back in five functions, in functions and lists", syntax(f"(let-syntax m (lambda z {functions(5)}) {DEEP_USE})", words=("m", "z", "x"))
     yield "a macro whose work never ends", syntax("(let-syntax m (lambda z ((lambda y (y y)) (lambda y (y y)))) (m))", words=("m", "z", "y"))
     yield "a wide macro that gives itself back", syntax(f"(let-syntax m (lambda z z) (m {'1 ' * 20}))", words=("m", "z"))
 
