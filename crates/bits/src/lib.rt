@@ -47,7 +47,10 @@ impl Token {
     fn is_out(self) -> bool
         ensures { result ≡ is_out self }
     {
-        self.tag == Token::ATOM && self.kind == Token::RUNG && self.content == Token::OUT
+        if self.tag != Token::ATOM {
+            return false;
+        }
+        self.kind == Token::RUNG && self.content == Token::OUT
     }
 }
 
@@ -133,7 +136,7 @@ fn note(marks: &mut [u8], names: &mut [u32], g: Gathered, t: Token) -> Gathered
     let again = drive(marks, g.driving, t.content);
     Gathered {
         bits: count(names, g.bits, t),
-        twice: g.twice || again,
+        twice: g.twice | again,
         driving: t.is_out(),
     }
 }
