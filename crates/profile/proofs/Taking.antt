@@ -19,13 +19,13 @@ use Rattle.refusals.proofs.Cases.{case_back}
 use Rattle.numbers.specs.declared.Cursor.{Cursor}
 use Rattle.numbers.specs.Answers.{read_at, beside, placed}
 use Rattle.numbers.proofs.Tails.{num_tail, up_to_tail, below_tail}
-use Rattle.numbers.proofs.Answering.{Took, took, refused, read_shape, place_shape, goes, gives, refuses, stops, moved_on, kept-within, fits_after}
+use Rattle.numbers.proofs.Answering.{Took, took, refused, err_same, ok_same, ok-err, read_shape, place_shape, goes, gives, refuses, stops, moved_on, kept-within, fits_after}
 use Rattle.profile.specs.declared.rules.Wanted.{Wanted}
 use Rattle.profile.specs.declared.rules.Wanted.TheVariants.{Program}
 use Rattle.profile.specs.declared.rules.Rule.{Rule}
 use Rattle.profile.specs.Rules.{rule_of, bit_rule, takes_count, takes_variable, takes_atom}
 use Rattle.roots.proofs.Trees.{name-inside, around_back, around-long, still_inside, names-inside}
-use Rattle.profile.specs.Taking.{taken_at, take_variable, take_atom, take_word, take_all, take_arguments, bit_with, take_bit, head_by, take_head, take_application, take_body, take_tree}
+use Rattle.profile.specs.Taking.{taken_at, rule_at, take_variable, take_atom, take_word, take_all, take_arguments, bit_with, take_bit, head_by, take_head, take_application, take_body, take_tree}
 use Rattle.profile.proofs.Tails.{head_tail, tree_tail}
 
 -- ---- what has no parts
@@ -89,6 +89,34 @@ module _ (at : ℕ) (w : Wanted) (s : List ℕ) {r : Result (ℕ × Cursor) Refu
           rw a (goes read_shape beside at (num s) _ h e (num_tail s) i
           (rw (eq-eqb k 4 t) (gives read_shape beside past.at (num_up_to over_limit 15 u) _ g d (up_to_tail over_limit 15 u) (λ v. refl))))
 
+-- ---- what is read of a head, with the rule that is to follow or none
+
+pub head_refused : (end : ℕ) (g : m.Read (Option Rule)) {f : Refusal} → Err f ≡ read_at end g → Err f ≡ rule_at end g
+head_refused end (m.got o rest) e = absurd (ok-err (sym e))
+head_refused end (m.fault r) e = ap (λ (x : Refusal). Err x) (err_same e)
+
+pub head_no_rule : (end : ℕ) (g : m.Read (Option Rule)) {o : Option Rule} {p : Cursor} → Ok (o, p) ≡ read_at end g → o ≡ None → Err Layout ≡ rule_at end g
+head_no_rule end (m.got o' rest) e n =
+    let z : o' ≡ None = sym (ap (λ (t : Option Rule × Cursor). t.0) (ok_same e)) ∙ n in
+    rw z
+head_no_rule end (m.fault r) e n = absurd (ok-err e)
+
+pub head_with_rule : (end : ℕ) (g : m.Read (Option Rule)) {o : Option Rule} {y : Rule} {p : Cursor} → Ok (o, p) ≡ read_at end g → o ≡ Some y → Ok (y, p) ≡ rule_at end g
+head_with_rule end (m.got o' rest) {y = y} e n =
+    let z : o' ≡ Some y = sym (ap (λ (t : Option Rule × Cursor). t.0) (ok_same e)) ∙ n in
+    rw z (ap (λ (t : Option Rule × Cursor). Ok (y, t.1)) (ok_same e))
+head_with_rule end (m.fault r) e n = absurd (ok-err e)
+
+rule_read : (end : ℕ) (g : m.Read (Option Rule)) {y : Rule} {p : Cursor} → Ok (y, p) ≡ rule_at end g → Ok (Some y, p) ≡ read_at end g
+rule_read end (m.got None rest) e = absurd (ok-err e)
+rule_read end (m.got (Some x) rest) e = ap (λ (t : Rule × Cursor). Ok (Some t.0, t.1)) (ok_same e)
+rule_read end (m.fault r) e = absurd (ok-err e)
+
+rule_stops : (end : ℕ) (g : m.Read (Option Rule)) (j : Option Rule → Reader (Unit {0})) {f : Refusal} → ((u : List ℕ) → j None u ≡ m.fault layout) → Err f ≡ rule_at end g → Err f ≡ taken_at end (next g j)
+rule_stops end (m.got None rest) j n e = rw (n rest) (ap (λ (x : Refusal). Err x) (err_same e))
+rule_stops end (m.got (Some y) rest) j n e = absurd (ok-err (sym e))
+rule_stops end (m.fault r) j n e = ap (λ (x : Refusal). Err x) (err_same e)
+
 -- ---- a tree
 
 pub tree_deep : (end names l : ℕ) (around : List ℕ) (w : Wanted) (s : List ℕ) → l ≡ 0 → Err Layout ≡ taken_at end (take_tree names l around w s)
@@ -145,34 +173,25 @@ module _ (at names l : ℕ) (around : List ℕ) (w : Wanted) (s : List ℕ) {r :
     unfolding take_application
     application_empty z = refuses read_shape placed at (num s) _ h e (num_tail s) (λ u. rw (eq-eqb n 0 z))
 
-    module _ (some : n ≡ 0 → ⊥) {u : List ℕ} {q : Result (Option Rule × Cursor) Refusal} (i : u ≡ drop (past.at - at) s) (g : q ≡ read_at (past.at + length u) (take_head names l around w u)) where
+    module _ (some : n ≡ 0 → ⊥) {u : List ℕ} {q : Result (Rule × Cursor) Refusal} (i : u ≡ drop (past.at - at) s) (g : q ≡ rule_at (past.at + length u) (take_head names l around w u)) where
       pub head-stops : {f : Refusal} → q ≡ Err f → Err f ≡ taken_at (at + length s) (take_application (take_tree names l around) (take_head names l around) w s)
-      unfolding take_application
+      unfolding take_application take_arguments
       head-stops d =
           goes read_shape placed at (num s) _ h e (num_tail s) i
-          (rw (ne_eqb n 0 some) (stops read_shape placed (past.at + length u) (take_head names l around w u) _ g d))
+          (rw (ne_eqb n 0 some) (rule_stops (past.at + length u) (take_head names l around w u) _ (λ v. refl) (sym d ∙ g)))
 
-      pub application_none : {behind : Cursor} → q ≡ Ok (None, behind) → Err Layout ≡ taken_at (at + length s) (take_application (take_tree names l around) (take_head names l around) w s)
-      unfolding take_application take_arguments
-      application_none d =
-          goes read_shape placed at (num s) _ h e (num_tail s) i
-          (rw (ne_eqb n 0 some) (refuses read_shape placed past.at (take_head names l around w u) _ g d (head_tail names l around w u) (λ v. refl)))
-
-      pub application_goes : {y : Rule} {behind : Cursor} {v around' : List ℕ} {x : Result Cursor Refusal} → q ≡ Ok (Some y, behind) → v ≡ drop (behind.at - past.at) u → around' ≡ around
+      pub application_goes : {y : Rule} {behind : Cursor} {v around' : List ℕ} {x : Result Cursor Refusal} → q ≡ Ok (y, behind) → v ≡ drop (behind.at - past.at) u → around' ≡ around
           → x ≡ taken_at (behind.at + length v) (take_arguments (take_tree names l around') (Some y) (n - 1) v) → x ≡ taken_at (at + length s) (take_application (take_tree names l around) (take_head names l around) w s)
       unfolding take_application
       application_goes {y} {behind} {v} {around'} {x} d j b a =
           let a' : x ≡ taken_at (behind.at + length v) (take_arguments (take_tree names l around) (Some y) (n - 1) v) =
           a ∙ ap (λ (z : List ℕ). taken_at (behind.at + length v) (take_arguments (take_tree names l z) (Some y) (n - 1) v)) b in
           goes read_shape placed at (num s) _ h e (num_tail s) i
-          (rw (ne_eqb n 0 some) (goes read_shape placed past.at (take_head names l around w u) _ g d (head_tail names l around w u) j a'))
-
-pub head_rule : {q : Result (Option Rule × Cursor) Refusal} {p : Option Rule × Cursor} {o : Option Rule} → q ≡ Ok p → p.0 ≡ o → q ≡ Ok (o, p.1)
-head_rule {p = p} e f = e ∙ ap (λ (x : Option Rule). Ok (x, p.1)) f
+          (rw (ne_eqb n 0 some) (goes read_shape placed past.at (take_head names l around w u) _ (rule_read _ _ (sym d ∙ g)) refl (head_tail names l around w u) j a'))
 
 -- ---- its head
 
-pub head_deep : (end names l : ℕ) (around : List ℕ) (w : Wanted) (s : List ℕ) → l ≡ 0 → Err Layout ≡ read_at end (take_head names l around w s)
+pub head_deep : (end names l : ℕ) (around : List ℕ) (w : Wanted) (s : List ℕ) → l ≡ 0 → Err Layout ≡ rule_at end (take_head names l around w s)
 unfolding take_head
 head_deep end names l around w s e = rw e
 
@@ -193,22 +212,25 @@ none-by names inside w (suc (suc (suc zero))) u a b = absurd (b refl)
 none-by names inside w (suc (suc (suc (suc n)))) u a b = refl
 
 module _ (at names l : ℕ) (around : List ℕ) (w : Wanted) (s : List ℕ) (some : l ≡ 0 → ⊥) {r : Result (ℕ × Cursor) Refusal} (h : r ≡ read_at (at + length s) (num s)) where
-  pub head_number_stops : {f : Refusal} → r ≡ Err f → Err f ≡ read_at (at + length s) (take_head names l around w s)
-  head_number_stops e = rw (head-is names l around w s some) (stops read_shape beside (at + length s) (num s) _ h e)
+  pub head_number_stops : {f : Refusal} → r ≡ Err f → Err f ≡ rule_at (at + length s) (take_head names l around w s)
+  head_number_stops e = rw (head-is names l around w s some) (head_refused _ _ (stops read_shape beside (at + length s) (num s) _ h e))
 
   module _ {t : ℕ} {past : Cursor} (e : r ≡ Ok (t, past)) where
-    pub head-bit : {u : List ℕ} {x : Result (Option Rule × Cursor) Refusal} → t ≡ 2 → u ≡ drop (past.at - at) s → x ≡ read_at (past.at + length u) (take_bit names (l - 1) around w u) → x ≡ read_at (at + length s) (take_head names l around w s)
+    head-goes : {u : List ℕ} {x : Result (Rule × Cursor) Refusal} (j : ℕ → Reader (Option Rule)) → u ≡ drop (past.at - at) s → x ≡ rule_at (past.at + length u) (j t u) → x ≡ rule_at (at + length s) (next (num s) j)
+    head-goes j i a = let T : Took at s (num s) t past.at = took read_shape h e (num_tail s) in rw (T.is, ← T.ends, ← i) a
+
+    pub head-bit : {u : List ℕ} {x : Result (Rule × Cursor) Refusal} → t ≡ 2 → u ≡ drop (past.at - at) s → x ≡ rule_at (past.at + length u) (take_bit names (l - 1) around w u) → x ≡ rule_at (at + length s) (take_head names l around w s)
     unfolding head_by take_bit
-    head-bit z i a = rw (head-is names l around w s some) (goes read_shape beside at (num s) _ h e (num_tail s) i (rw z a))
+    head-bit z i a = rw (head-is names l around w s some) (head-goes _ i (rw z a))
 
-    pub head-word : {u : List ℕ} {x : Result (Option Rule × Cursor) Refusal} → t ≡ 3 → u ≡ drop (past.at - at) s → x ≡ read_at (past.at + length u) (take_word w u) → x ≡ read_at (at + length s) (take_head names l around w s)
+    pub head-word : {u : List ℕ} {x : Result (Rule × Cursor) Refusal} → t ≡ 3 → u ≡ drop (past.at - at) s → x ≡ rule_at (past.at + length u) (take_word w u) → x ≡ rule_at (at + length s) (take_head names l around w s)
     unfolding head_by
-    head-word z i a = rw (head-is names l around w s some) (goes read_shape beside at (num s) _ h e (num_tail s) i (rw z a))
+    head-word z i a = rw (head-is names l around w s some) (head-goes _ i (rw z a))
 
-    pub head-none : (t ≡ 2 → ⊥) → (t ≡ 3 → ⊥) → Err Layout ≡ read_at (at + length s) (take_head names l around w s)
+    pub head-none : (t ≡ 2 → ⊥) → (t ≡ 3 → ⊥) → Err Layout ≡ rule_at (at + length s) (take_head names l around w s)
     head-none a b =
         rw (head-is names l around w s some)
-        (refuses read_shape beside at (num s) _ h e (num_tail s) (λ u. none-by names (λ n. take_tree names (l - 1) (set around n 1) Program) w t u a b))
+        (head_refused _ _ (refuses read_shape beside at (num s) _ h e (num_tail s) (λ u. none-by names (λ n. take_tree names (l - 1) (set around n 1) Program) w t u a b)))
 
 module _ (at names l : ℕ) (around : List ℕ) (w : Wanted) (s : List ℕ) {r : Result (ℕ × Cursor) Refusal} (h : r ≡ read_at (at + length s) (num_below names s)) where
   pub bit-stops : {f : Refusal} → r ≡ Err f → Err f ≡ read_at (at + length s) (take_bit names l around w s)
@@ -232,15 +254,18 @@ module _ (at names l : ℕ) (around : List ℕ) (w : Wanted) (s : List ℕ) {r :
         rw a (goes read_shape beside at (num_below names s) _ h e (below_tail names s) i
         (gives place_shape beside past.at (take_tree names l (set around n 1) Program u) {k = tt} _ body_at d (tree_tail names l (set around n 1) Program u) (λ v. refl)))
 
-module _ (at names l : ℕ) (around s : List ℕ) (w : Wanted) {r : Result (Option Rule × Cursor) Refusal} {y : Option Rule} {past : Cursor} (h : r ≡ read_at (at + length s) (take_head names l around w s)) (e : r ≡ Ok (y, past)) where
+module _ (at names l : ℕ) (around s : List ℕ) (w : Wanted) {r : Result (Rule × Cursor) Refusal} {y : Rule} {past : Cursor} (h : r ≡ rule_at (at + length s) (take_head names l around w s)) (e : r ≡ Ok (y, past)) where
+  head-read : Ok (Some y, past) ≡ read_at (at + length s) (take_head names l around w s)
+  head-read = rule_read _ _ (sym e ∙ h)
+
   pub head-moved : at ≤ past.at
-  head-moved = moved_on read_shape at s (take_head names l around w s) h e (head_tail names l around w s)
+  head-moved = moved_on read_shape at s (take_head names l around w s) head-read refl (head_tail names l around w s)
 
   pub head-within : past.at ≤ at + length s
-  head-within = kept-within read_shape at s (take_head names l around w s) h e (head_tail names l around w s)
+  head-within = kept-within read_shape at s (take_head names l around w s) head-read refl (head_tail names l around w s)
 
   pub head-fits : {u : List ℕ} {m : ℕ} → u ≡ drop (past.at - at) s → at + length s ≤ m → past.at + length u ≤ m
-  head-fits i k = fits_after read_shape at s (take_head names l around w s) h e (head_tail names l around w s) i k
+  head-fits i k = fits_after read_shape at s (take_head names l around w s) head-read refl (head_tail names l around w s) i k
 
 -- ---- its arguments
 
@@ -330,4 +355,4 @@ module _ {at names l : ℕ} {w : Wanted} {s around₀ : List ℕ} {count : ℕ} 
         ap (drop (past.at - here)) i ∙ drop-drop (past.at - here) (here - at) s ∙ ap (λ (j : ℕ). drop j s) q in
         record { same = f ∙ c.same; moved = omega arith; within = omega arith; is = step ∙ rw (T.is, rest, k) }
 
-pub ruleset tree_laws = (tree_deep, tree-stops, tree-goes, body_variable, body_application, body_atom, body_none, application_stops, application_empty, head-stops, application_none, application_goes, head_deep, head_number_stops, head-bit, head-word, head-none, bit-stops, bit_body_stops, bit-taken, head-moved, head-within, head-fits, tree-moved, tree-within, tree-fits, count-refused, count-some, first_stops, arguments_go, all_start, all-taken, part-stops, part-more, name-inside, around_back, still_inside)
+pub ruleset tree_laws = (tree_deep, tree-stops, tree-goes, body_variable, body_application, body_atom, body_none, application_stops, application_empty, head-stops, application_goes, head_deep, head_number_stops, head-bit, head-word, head-none, bit-stops, bit_body_stops, bit-taken, head-moved, head-within, head-fits, tree-moved, tree-within, tree-fits, count-refused, count-some, first_stops, arguments_go, all_start, all-taken, part-stops, part-more, name-inside, around_back, still_inside)

@@ -6,12 +6,12 @@ use Rattle.model.specs.Limits.{most_nesting, last_rung_word}
 use Rattle.model.specs.Refusals.{layout, over_limit}
 use Rattle.model.specs.Trees.{Tree}
 use Rattle.model.specs.Reading as m
-use Rattle.model.specs.Reading.{Reader, ◌>>=◌, ◌>>◌, give, fail, need, num, num_up_to, num_below, got, read_tree}
+use Rattle.model.specs.Reading.{Reader, ◌>>=◌, ◌>>◌, give, fail, need, num, num_up_to, num_below, got, fault, read_tree}
 use Rattle.model.specs.Jobs.{closed}
 use Rattle.requests.specs.Panel.{word_numbered, is_program}
 use Rattle.refusals.specs.declared.Refusal.{Refusal}
 use Rattle.numbers.specs.declared.Cursor.{Cursor}
-use Rattle.numbers.specs.Answers.{answer_at, placed}
+use Rattle.numbers.specs.Answers.{answer_at, read_at, placed}
 use Rattle.profile.specs.declared.rules.Wanted.{Wanted}
 use Rattle.profile.specs.declared.rules.Wanted.TheVariants.{Program}
 use Rattle.profile.specs.declared.rules.Rule.{Rule}
@@ -19,6 +19,15 @@ use Rattle.profile.specs.Rules.{rule_of, bit_rule, takes_count, takes_variable, 
 
 abbrev pub taken_at : ℕ → m.Read (Unit {0}) → Result Cursor Refusal
 taken_at end g = answer_at placed end g
+
+-- a head that no rule follows is refused
+abbrev pub followed : m.Read (Option Rule) → m.Read Rule
+followed (got (Some r) rest) = got r rest
+followed (got None rest) = fault layout
+followed (fault r) = fault r
+
+abbrev pub rule_at : ℕ → m.Read (Option Rule) → Result (Rule × Cursor) Refusal
+rule_at end g = read_at end (followed g)
 
 unfoldable pub take_variable : ℕ → List ℕ → Wanted → Reader (Unit {0})
 unfolding num_below

@@ -6,9 +6,8 @@ pub mod rules;
 
 ghost use Rattle.std.specs.Prelude.{◌≡◌, ◌+◌, ◌-◌, ◌≤◌, length, Some};
 ghost use Rattle.numbers.specs.Limits.{most_image};
-ghost use Rattle.numbers.specs.Answers.{read_at};
 ghost use Rattle.head.specs.Fronts.{most_names};
-ghost use Rattle.profile.specs.Taking.{taken_at, take_variable, take_atom, take_word, take_all, take_arguments, take_bit, take_head, take_application, take_body, take_tree, Tells};
+ghost use Rattle.profile.specs.Taking.{taken_at, rule_at, take_variable, take_atom, take_word, take_all, take_arguments, take_bit, take_head, take_application, take_body, take_tree, Tells};
 
 use crate::rules::{Rule, Wanted};
 use numbers::{Cursor, Read};
@@ -49,9 +48,9 @@ fn take_atom(c: Cursor, s: &[u8], wanted: Wanted) -> Result<Cursor, Refusal>
 }
 
 // A rung word at the head of an application, where `wanted` is what the application is to be.
-fn take_word(c: Cursor, s: &[u8], wanted: Wanted) -> Read<Option<Rule>>
+fn take_word(c: Cursor, s: &[u8], wanted: Wanted) -> Read<Rule>
     requires { c.at + length s.now ≤ most_image }
-    ensures { result ≡ read_at (c.at + length s.now) (take_word wanted s.now) }
+    ensures { result ≡ rule_at (c.at + length s.now) (take_word wanted s.now) }
 {
     let (kind, past) = c.number(s)?;
     if kind != rules::RUNG {
@@ -62,7 +61,10 @@ fn take_word(c: Cursor, s: &[u8], wanted: Wanted) -> Read<Option<Rule>>
         Refusal::OverLimit,
         roots::objects::LAST_RUNG_WORD,
     )?;
-    Ok((Rule::of_word(wanted, word), end))
+    let Some(rule) = Rule::of_word(wanted, word) else {
+        return Err(Refusal::Layout);
+    };
+    Ok((rule, end))
 }
 
 // The tree at a cursor is what is wanted there, where `s` is the image from there on and `levels` levels are left.
@@ -135,9 +137,7 @@ fn take_application(
         return Err(Refusal::Layout);
     }
     let rest = c.after(s, past);
-    let (Some(rule), behind) = take_head(past, rest, around, names, levels, wanted)? else {
-        return Err(Refusal::Layout);
-    };
+    let (rule, behind) = take_head(past, rest, around, names, levels, wanted)?;
     take_arguments(
         behind,
         past.after(rest, behind),
@@ -158,9 +158,9 @@ fn take_head(
     names: u32,
     levels: u32,
     wanted: Wanted,
-) -> Read<Option<Rule>>
+) -> Read<Rule>
     requires { (c.at + length s.now ≤ most_image) × (names ≤ length around.old) }
-    ensures value { result ≡ read_at (c.at + length s.now) (take_head names levels around.old wanted s.now) }
+    ensures value { result ≡ rule_at (c.at + length s.now) (take_head names levels around.old wanted s.now) }
     ensures around_unchanged { around.new ≡ around.old }
 {
     if levels == 0 {
@@ -184,9 +184,9 @@ fn take_bit(
     names: u32,
     levels: u32,
     wanted: Wanted,
-) -> Read<Option<Rule>>
+) -> Read<Rule>
     requires { (c.at + length s.now ≤ most_image) × (names ≤ length around.old) }
-    ensures value { result ≡ read_at (c.at + length s.now) (take_bit names levels around.old wanted s.now) }
+    ensures value { result ≡ rule_at (c.at + length s.now) (take_bit names levels around.old wanted s.now) }
     ensures around_unchanged { around.new ≡ around.old }
 {
     let (n, past) = c.number_below(s, names)?;
@@ -201,7 +201,11 @@ fn take_bit(
         Wanted::Program,
     );
     around[i] = before;
-    Ok((Rule::of_bit(wanted), body?))
+    let end = body?;
+    let Some(rule) = Rule::of_bit(wanted) else {
+        return Err(Refusal::Layout);
+    };
+    Ok((rule, end))
 }
 
 // So many arguments, as the rule asks for them.
